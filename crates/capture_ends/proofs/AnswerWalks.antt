@@ -43,7 +43,7 @@ module _ (w : Configuration) (q : ReqSetup) (older : List (List ℕ)) (rows : Li
   walk_behind next replies = (kept_is_restored w q (packet ∷ older) next (kept_behind next replies)).0
 
   -- Where it does not go on from what is kept, no walk goes on with it.
-  none_on : ((next : Dialogue) → RepliesBy w (restored k) (Whole route answer) next → ⊥) → NoneGoesOn w q older packet
+  pub none_on : ((next : Dialogue) → RepliesBy w (restored k) (Whole route answer) next → ⊥) → NoneGoesOn w q older packet
   none_on never d over =
       let it = came w q older packet at.fields at.parses d over in
       let replies : RepliesBy w it.0 (Whole route answer) d = subst (λ (g : Gathered). RepliesBy w it.0 g d) at.whole (replied w q older packet at.fields at.parses at.other at.goes it.0 d it.2) in
@@ -88,4 +88,5 @@ module _ (w : Configuration) (q : ReqSetup) (older : List (List ℕ)) (rows : Li
   pub told_on : (told : Result Onward declared.Why) (party : Party) (table : List Seen) → IsReplied w q older rows k route answer told party table → IsJudgedAnswer w q older rows packet route answer told party None table
   told_on (Ok onward.Kept) party table c = kept_on party table c
   told_on (Ok onward.Large) party table c = (k, keeps, c)
+  told_on (Ok (onward.Asked why)) party table c = ((k, keeps, c.0), answered_reason (why_of why) c.1)
   told_on (Err why) party table c = (none_on c.0, answered_reason (why_of why) c.1)

@@ -32,6 +32,7 @@ pub mod PartyAsked
 pub mod PlainlyAsked
 pub mod PartyReplied
 pub mod KeysOpen
+pub mod KeysComing
 pub mod AskedIds
 pub mod SealedRead
 pub mod SealedSent

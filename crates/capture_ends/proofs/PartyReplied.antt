@@ -1,6 +1,8 @@
 -- What is kept of a requester and the responder behind an answer, or why it is refused.
-use Rattle.std.proofs.Common.{◌≡◌, ◌+◌, ◌==◌, ◌||◌, ◌-◌, ◌^◌, ◌<◌, ◌⊎◌, ◌∙◌, ℕ, List, [], refl, sym, ap, subst, Bool, true, false, Option, Some, cond, drop, length, arith, inl, inr, Ok, Err}
+use Rattle.std.proofs.Common.{◌≡◌, ◌+◌, ◌==◌, ◌||◌, ◌&&◌, ◌-◌, ◌^◌, ◌<◌, ◌⊎◌, ◌∙◌, ℕ, List, [], refl, sym, ap, subst, Bool, true, false, Option, Some, cond, drop, length, arith, inl, inr, Ok, Err}
+use Rattle.std.proofs.lemmas.Bool.{false≢true}
 use Rattle.std.proofs.lemmas.Option.{none-some, same_Some}
+use Rattle.std.specs.Prelude.{bytes_eq, not, take}
 use Rattle.mctp_framing.specs.Cutting.{RouteFields}
 use Rattle.mctp_framing.specs.Gathering.Gathered.{Whole}
 use Rattle.requester_machine.specs.May.{IsSetUp}
@@ -14,10 +16,12 @@ use Rattle.responder_machine.specs.Responder.Outcome.{Same}
 use Rattle.responder_machine.specs.Setup.{RspSetup}
 use Rattle.script_text.specs.declared.why.Why as declared_why
 use Rattle.script_text.specs.declared.why.Why.TheVariants as declared
+use Rattle.spdm_basis.proofs.Bools.{and_first, and_second}
 use Rattle.spdm_machine.specs.Packets.{body_type}
 use Rattle.capture_laws.proofs.ApartShown.{apart_is_shown}
 use Rattle.capture_ends.proofs.FewMessages.{kept_messages}
 use Rattle.capture_ends.proofs.InTurn.{AnswersInTurn}
+use Rattle.capture_ends.proofs.KeysKept.{same_bytes}
 use Rattle.capture_laws.proofs.LargeShown.{large_is_shown}
 use Rattle.capture_laws.proofs.PlainShown.{plain_is_shown}
 use Rattle.capture_laws.proofs.RepliesTold.{replies_are_told}
@@ -46,12 +50,16 @@ use Rattle.capture_ends.specs.declared.onward.Onward.TheVariants as onward
 use Rattle.capture_ends.specs.declared.party.Party.{Party}
 use Rattle.world_machine.specs.Capture.{RepliesBy}
 use Rattle.world_machine.specs.CapturedAnswers.{Answers, AnswersAgain, AnswersPlainly}
-use Rattle.world_machine.specs.Difference.{AreRepliesApart, GoesApart, Why, goes_why, reply_why}
+use Rattle.world_machine.specs.Difference.{AreRepliesApart, GoesApart, Why, goes_why, is_apart, reply_why, verify_size}
 use Rattle.world_machine.specs.Difference.Why.{BadPacket, UnknownEnd, WrongTurn, BadRequest, BadReply, BadVerify, BadRecord}
 use Rattle.world_machine.specs.Opening.{opens_answering}
 use Rattle.world_machine.specs.Rounds.{Dialogue, Round, no_draw}
 use Rattle.world_machine.specs.SessionTable.{Row, number_from, rows_between}
 use Rattle.world_machine.specs.Setup.{Configuration}
+
+-- Nothing is apart from itself.
+never_apart : (size : ℕ) (l : List ℕ) → is_apart size l l ≡ true → ⊥
+never_apart size l apart = false≢true (sym (ap not (same_bytes l)) ∙ and_second (length l == length l) (not (bytes_eq l l)) (and_first (length l == length l && not (bytes_eq l l)) (bytes_eq (take (length l - size) l) (take (length l - size) l)) apart))
 
 module _ (w : Configuration) (q : ReqSetup) (older : List (List ℕ)) (k : Kept) (route : RouteFields) (answer : List ℕ) (byte : w.responder.beat < 256) (limits : IsSetUp k.setup) (keeps : Keeps w q older k) (turn : AnswersInTurn k route answer) (rows : List Row) where
   abbrev r : RspSetup
@@ -98,7 +106,7 @@ module _ (w : Configuration) (q : ReqSetup) (older : List (List ℕ)) (k : Kept)
   )
 
   -- A part of a large answer.
-  pub is_part : (new : Party) (table : List Seen) → IsShownLarge r h round.tag round.body answer ⊎ (EndsLarge r h round.tag round.body answer ⊎ (IsShownAnswer r h round.tag round.body answer × (asks_upon k route.tag answer ≡ true)))
+  pub is_part : (new : Party) (table : List Seen) → IsShownLarge r h round.tag round.body answer ⊎ EndsLarge r h round.tag round.body answer
       → IsReplied w q older rows k route answer (Ok onward.Large) new table
   is_part new table part = (round, turn.answers, part)
 
@@ -149,8 +157,8 @@ module _ (w : Configuration) (q : ReqSetup) (older : List (List ℕ)) (k : Kept)
   two_reasons true is = absurd (cc)
   two_reasons false is = absurd (cc)
 
-  pub refused_for : (why : declared_why.Why) → IsGivenNever r (restored k) round answer → (IsApartShown r (restored k) round answer → ⊥) → why_of why ≡ reply_why r (restored k) answer (Some round) → (new : Party) (table : List Seen) → IsReplied w q older rows k route answer (Err why) new table
-  refused_for why never apart is new table = (goes_nowhere never, by_why (why_of why) is)
+  reason_for : (why : declared_why.Why) → (IsApartShown r (restored k) round answer → ⊥) → why_of why ≡ reply_why r (restored k) answer (Some round) → IsGoingWhy r k (Whole route answer) (why_of why)
+  reason_for why apart is = by_why (why_of why) is
     where
       none : AreRepliesApart r (restored k) (Some round) answer → ⊥
       none c = apart ((apart_is_shown r (restored k) round answer byte refl).0 c)
@@ -163,6 +171,19 @@ module _ (w : Configuration) (q : ReqSetup) (older : List (List ℕ)) (k : Kept)
       by_why BadRequest same = other_reason BadRequest (none, sym same)
       by_why BadReply same = other_reason BadReply (none, sym same)
       by_why BadRecord same = other_reason BadRecord (none, sym same)
+
+  pub refused_for : (why : declared_why.Why) → IsGivenNever r (restored k) round answer → (IsApartShown r (restored k) round answer → ⊥) → why_of why ≡ reply_why r (restored k) answer (Some round) → (new : Party) (table : List Seen) → IsReplied w q older rows k route answer (Err why) new table
+  refused_for why never apart is new table = (goes_nowhere never, reason_for why apart is)
+
+  -- ---- The requester asks for a chunk upon it.
+
+  -- An answer that goes whole is the one that it shows, so it is not apart from that.
+  whole_alone : IsShownAnswer r h round.tag round.body answer → IsApartShown r (restored k) round answer → ⊥
+  whole_alone shown apart = never_apart (verify_size (restored k)) answer (ap (λ (l : List ℕ). is_apart (verify_size (restored k)) l answer) (sym shown.2) ∙ apart.3)
+
+  pub asked_upon : (why : declared_why.Why) → IsShownAnswer r h round.tag round.body answer → asks_upon k route.tag answer ≡ true → why_of why ≡ reply_why r (restored k) answer (Some round) → (new : Party) (table : List Seen)
+      → IsReplied w q older rows k route answer (Ok (onward.Asked why)) new table
+  asked_upon why shown asks is new table = ((round, turn.answers, shown, asks), reason_for why (whole_alone shown) is)
 
   -- ---- What is asked of the calls.
 

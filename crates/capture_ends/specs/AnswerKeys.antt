@@ -1,10 +1,11 @@
 -- Under which keys an answer may open that is refused: those of the answers to the last record of each session and to the
 -- last END_SESSION, which the program keeps. This project's own.
-use Rattle.std.specs.Prelude.{◌≡◌, ◌==◌, ◌&&◌, ◌||◌, ◌-◌, not, nat_lt, if◌then◌else◌, ℕ, List, [], ◌∷◌, Bool, true, false, Option, Some, None, MatchBool, slice_index, slice_index_or, drop}
+use Rattle.std.specs.Prelude.{◌≡◌, ◌==◌, ◌&&◌, ◌||◌, ◌-◌, not, nat_lt, if◌then◌else◌, ℕ, List, [], ◌∷◌, Bool, true, false, Option, Some, None, IfSome, MatchBool, slice_index, slice_index_or, drop}
 use Rattle.connection.specs.OwnAnswers.{opens_in}
 use Rattle.responder_machine.specs.Answer.{Free}
 use Rattle.responder_machine.specs.History.{History, ended_of}
 use Rattle.responder_machine.specs.History.Entry.{Sealed}
+use Rattle.responder_machine.specs.Records.{opened}
 use Rattle.responder_machine.specs.Responder.{repeats}
 use Rattle.responder_machine.specs.Session.{Events, id_in_record, last_of, session_of}
 use Rattle.responder_machine.specs.Session.Event.{Heard}
@@ -15,6 +16,7 @@ use Rattle.responder_session.specs.Took.{turn_in}
 use Rattle.responder_session.specs.declared.answer_key.AnswerKey.{AnswerKey}
 use Rattle.spdm_grammar.specs.declared.names.request_code.TheConstants.{END_SESSION}
 use Rattle.capture_ends.specs.declared.answer_keys.AnswerKeys.{AnswerKeys}
+use Rattle.capture_ends.specs.declared.coming.Coming.{Coming}
 
 -- ---- What is kept.
 
@@ -64,3 +66,8 @@ abbrev pub IsComingKey : RspSetup → History → (body : List ℕ) → Option A
 IsComingKey r h body None = will_take r h body ≡ false
 IsComingKey r h body (Some key) =
     (will_take r h body ≡ true) × ((f : Free) → IsKeyOfReply key r.psk (session_named h body) (turn_in r (session_named h body) f (drop 1 body)))
+
+-- This is had of it: that key, and the inner message of a record that is taken.
+pub record IsComing (seen : Coming) (r : RspSetup) (h : History) (body : List ℕ) : Type 0 where
+  pub key : IsComingKey r h body seen.key
+  pub inner : IfSome seen.key (λ own. seen.inner ≡ opened r.psk (session_named h body) (drop 1 body))

@@ -8,7 +8,7 @@ use Rattle.mctp_framing.specs.Packet.{PacketFields, parsed}
 use Rattle.requester_machine.specs.Setup.{ReqSetup}
 use Rattle.script_text.specs.declared.why.Why as declared
 use Rattle.capture_ends.specs.Party.{IsParty}
-use Rattle.capture_ends.specs.PartyReplies.{IsPartOfLarge}
+use Rattle.capture_ends.specs.PartyReplies.{IsAskedUpon, IsPartOfLarge}
 use Rattle.capture_laws.specs.Judged.{AreApart, why_of}
 use Rattle.capture_laws.specs.Keeping.{Keeps, Kept}
 use Rattle.capture_laws.specs.KeptRows.{Show}
@@ -134,11 +134,17 @@ IsAskedOf w q older rows packet g (Err why) new table = NoneGoesOn w q older pac
 abbrev pub IsPart : Configuration → ReqSetup → List (List ℕ) → ℕ → (answer : List ℕ) → Type 0
 IsPart w q older tag answer = (k : Kept) × Keeps w q older k × IsPartOfLarge w k tag answer
 
--- Of an answer: it goes on, or it is a part of a large one, of which nothing more is said; or no walk goes on with it, and
--- then why.
+-- The requester asks for a chunk upon an answer that goes whole, by what is kept of the packets.
+abbrev pub IsAsked : Configuration → ReqSetup → List (List ℕ) → ℕ → (answer : List ℕ) → Type 0
+IsAsked w q older tag answer = (k : Kept) × Keeps w q older k × IsAskedUpon w k tag answer
+
+-- Of an answer: it goes on, or it is a part of a large one, of which nothing more is said; or the requester asks for a chunk
+-- upon it, and why it is refused where no walk goes on with it; or no walk does, and then why.
 abbrev pub IsJudgedAnswer : Configuration → ReqSetup → List (List ℕ) → List Row → (packet : List ℕ) → RouteFields → (answer : List ℕ)
     → Result Onward declared.Why → (party : Party) → (large : Option LargeRequest) → (table : List Seen) → Type 0
 IsJudgedAnswer w q older rows packet route answer (Ok onward.Kept) party large table = StandsBehind party large table w q older rows packet
 IsJudgedAnswer w q older rows packet route answer (Ok onward.Large) party large table = IsPart w q older route.tag answer
+IsJudgedAnswer w q older rows packet route answer (Ok (onward.Asked why)) party large table =
+    IsAsked w q older route.tag answer × IsAnsweredReason w q older (Whole route answer) (why_of why)
 IsJudgedAnswer w q older rows packet route answer (Err why) party large table =
     NoneGoesOn w q older packet × IsAnsweredReason w q older (Whole route answer) (why_of why)

@@ -67,13 +67,14 @@ IsComingWhy k g why = (ComesApart (restored k) g → ⊥) × (comes_why (restore
 -- ---- What is told.
 
 -- Of a request that goes on: what is kept is that behind it, and so is the table. Nothing is said of what is kept where
--- it may begin a large one: it is a first chunk.
+-- it may begin a large one: it is a first chunk. None goes on as answers do upon which a chunk is asked for.
 abbrev pub AsksOnward : Configuration → ReqSetup → List (List ℕ) → List Row → Kept → RouteFields → (body : List ℕ) → Onward
     → (new : Party) → (table : List Seen) → Type 0
 AsksOnward w q older rows k route body onward.Kept new table =
     (next : Kept) × AsksKept k (Whole route body) next × StandBehind new table w q older rows k next
 AsksOnward w q older rows k route body onward.Large new table =
     (is_first_chunk body ≡ true) × ((next : Kept) → AsksKept k (Whole route body) next → ⊥)
+AsksOnward w q older rows k route body (onward.Asked why) new table = ⊥
 
 -- Of a request that goes whole: it goes on, or it is refused, and then why.
 abbrev pub IsAskedWhole : Configuration → ReqSetup → List (List ℕ) → List Row → Kept → RouteFields → (body : List ℕ)

@@ -65,21 +65,30 @@ abbrev pub IsGoingWhy : RspSetup → Kept → Gathered → Why → Type 0
 IsGoingWhy r k g BadVerify = GoesApart r (restored k) g
 IsGoingWhy r k g why = (GoesApart r (restored k) g → ⊥) × (goes_why r (restored k) g ≡ Some why)
 
--- It begins a large answer, or ends one; or it is LargeResponse again, by which a fetch begins: a repeat upon which the
--- requester asks for a chunk.
+-- It begins a large answer, or ends one.
 abbrev pub IsPartOfLarge : Configuration → Kept → ℕ → (answer : List ℕ) → Type 0
 IsPartOfLarge w k tag answer =
     (round : Round) × AnswersRound k tag round
     × (IsShownLarge (responder_for w k) k.responder round.tag round.body answer
-    ⊎ (EndsLarge (responder_for w k) k.responder round.tag round.body answer
-    ⊎ (IsShownAnswer (responder_for w k) k.responder round.tag round.body answer × (asks_upon k tag answer ≡ true))))
+    ⊎ EndsLarge (responder_for w k) k.responder round.tag round.body answer)
 
--- Of an answer that goes on, likewise.
+-- It goes whole by what it shows, and the requester asks for a chunk upon it. So it is LargeResponse again, by which a fetch
+-- begins, or it does not go on.
+abbrev pub IsAskedUpon : Configuration → Kept → ℕ → (answer : List ℕ) → Type 0
+IsAskedUpon w k tag answer =
+    (round : Round) × AnswersRound k tag round
+    × IsShownAnswer (responder_for w k) k.responder round.tag round.body answer
+    × (asks_upon k tag answer ≡ true)
+
+-- Of an answer that goes on, likewise. Where the requester asks for a chunk upon it, the reason is that for which it is
+-- refused where it does not go on.
 abbrev pub RepliesOnward : Configuration → ReqSetup → List (List ℕ) → List Row → Kept → RouteFields → (answer : List ℕ) → Onward
     → (new : Party) → (table : List Seen) → Type 0
 RepliesOnward w q older rows k route answer onward.Kept new table =
     (next : Kept) × RepliesKept w k (Whole route answer) next × StandBehind new table w q older rows k next
 RepliesOnward w q older rows k route answer onward.Large new table = IsPartOfLarge w k route.tag answer
+RepliesOnward w q older rows k route answer (onward.Asked why) new table =
+    IsAskedUpon w k route.tag answer × IsGoingWhy (responder_for w k) k (Whole route answer) (why_of why)
 
 -- Of an answer: it goes on, or it is refused, and then why: it begins no fetch either.
 abbrev pub IsReplied : Configuration → ReqSetup → List (List ℕ) → List Row → Kept → RouteFields → (answer : List ℕ)

@@ -1,16 +1,20 @@
-ghost use Rattle.std.specs.Prelude.{◌≡◌, ◌<◌, ◌-◌, ◌^◌, ℕ, List, is_none, take};
+ghost use Rattle.std.specs.Prelude.{◌≡◌, ◌<◌, ◌-◌, ◌^◌, ℕ, List, IfSome, is_none, take};
 ghost use Rattle.connection.specs.Connected as connected;
 ghost use Rattle.key_schedule.specs.Purpose.{Purpose};
 ghost use Rattle.responder_machine.specs.BoundLaws.{messages_of};
 ghost use Rattle.responder_machine.specs.History.{History};
+ghost use Rattle.responder_machine.specs.Records.{opened};
 ghost use Rattle.responder_machine.specs.Session.{id_in_record, session_of};
 ghost use Rattle.responder_machine.specs.Setup.{RspSetup};
 ghost use Rattle.responder_session.specs.OwnAnswers.{IsAnswerKey};
 ghost use Rattle.spdm_grammar.specs.declared.choice.Choice.{Choice};
+ghost use Rattle.spdm_machine.specs.Bodies.{record_body};
 ghost use Rattle.spdm_machine.specs.Keys.{record_fault};
-ghost use Rattle.capture_ends.specs.AnswerKeys.{IsComingKey};
+ghost use Rattle.capture_ends.specs.AnswerKeys.{IsComing, IsComingKey};
 ghost use Rattle.world_machine.specs.Opening.{opens_next};
 
+use crate::bodies::is_clear;
+use crate::coming::Coming;
 use connection::{Connection, record_id};
 use responder_session::AnswerKey;
 use session_keys::{behind_type, byte_at, same_bytes};
@@ -69,6 +73,25 @@ fn opens_next(connection: &Connection, named: &[u8], sealed: &[u8], room: &mut R
     }
 }
 
+// The key of the answer to a record that comes next, had before that is handed in; its inner message is
+// written in place of what `inner` holds. None where the record is not taken. Fewer than 2^64 - 1 messages
+// came.
+fn taken_key(connection: &Connection, request: &[u8], inner: &mut RecordFrame) -> Option<AnswerKey>
+    ensures key { (r : RspSetup) (h : History) → connected.StandsFor connection.now r h
+        → messages_of h < 2 ^ 64 - 1 → IsComingKey r h (record_body request.now) result }
+    ensures inner { (r : RspSetup) (h : History) → connected.StandsFor connection.now r h
+        → messages_of h < 2 ^ 64 - 1 → IfSome result (λ own. inner.new
+        ≡ opened r.psk (session_of (id_in_record request.now) h) request.now) }
+{
+    if connection.repeats_ended(request) {
+        return None;
+    }
+    if connection.repeats_last(request) {
+        return None;
+    }
+    connection.answer_key(request, inner)
+}
+
 /// The key of the answer to a body that comes next, had before that is handed in: none where it is no
 /// record that is taken. Fewer than 2^64 - 1 messages came.
 pub(crate) fn coming_key(
@@ -82,18 +105,31 @@ pub(crate) fn coming_key(
     if byte_at(body, 0) == CLEAR {
         return None;
     }
-    let request = behind_type(body);
-    if connection.repeats_ended(request) {
-        return None;
+    taken_key(connection, behind_type(body), room)
+}
+
+/// What is had of a record that comes next, before that is handed in. Fewer than 2^64 - 1 messages came.
+pub(crate) fn prepare_record(connection: &Connection, request: &[u8], coming: &mut Coming)
+    ensures { (r : RspSetup) (h : History) → connected.StandsFor connection.now r h
+        → messages_of h < 2 ^ 64 - 1 → IsComing coming.new r h (record_body request.now) }
+{
+    coming.key = taken_key(connection, request, &mut coming.inner);
+}
+
+/// The same of a body.
+pub(crate) fn prepare(connection: &Connection, body: &[u8], coming: &mut Coming)
+    ensures { (r : RspSetup) (h : History) → connected.StandsFor connection.now r h
+        → messages_of h < 2 ^ 64 - 1 → IsComing coming.new r h body.now }
+{
+    if byte_at(body, 0) == CLEAR {
+        coming.key = None;
+        return;
     }
-    if connection.repeats_last(request) {
-        return None;
-    }
-    connection.answer_key(request, room)
+    prepare_record(connection, behind_type(body), coming);
 }
 
 impl AnswerKeys {
-    ghost use Rattle.std.specs.Prelude.{◌≡◌, ◌≢◌, ◌≤◌, ◌<◌, ◌-◌, ◌^◌, ℕ, List, [], None, Some, true, is_some, MatchOption};
+    ghost use Rattle.std.specs.Prelude.{◌≡◌, ◌≢◌, ◌≤◌, ◌<◌, ◌-◌, ◌^◌, ◌==◌, ℕ, List, [], None, Some, true, is_some, drop, slice_index, MatchOption};
     ghost use Rattle.connection.specs.Connected as connected;
     ghost use Rattle.responder_machine.specs.Answer.{Free};
     ghost use Rattle.responder_machine.specs.BoundLaws.{messages_of};
@@ -102,8 +138,9 @@ impl AnswerKeys {
     ghost use Rattle.responder_machine.specs.Responder.{after};
     ghost use Rattle.responder_machine.specs.Session.{Events, id_in_record, last_of, session_of};
     ghost use Rattle.responder_machine.specs.Setup.{RspSetup};
+    ghost use Rattle.spdm_machine.specs.Bodies.{record_body};
     ghost use Rattle.spdm_machine.specs.Keys.{Draw};
-    ghost use Rattle.capture_ends.specs.AnswerKeys.{IsComingKey, IsEndedKey, IsLastKey, StandFor, last_key};
+    ghost use Rattle.capture_ends.specs.AnswerKeys.{IsComing, IsComingKey, IsEndedKey, IsLastKey, StandFor, last_key};
     ghost use Rattle.world_machine.specs.Opening.{opens_again, opens_answering, opens_ended, opens_in_session};
 
     /// Where no answer was given yet.
@@ -150,16 +187,18 @@ impl AnswerKeys {
         }
     }
 
-    // Whether a record opens as an answer to another one with its session id.
+    // Whether a record opens as an answer to another one with its session id, of which this is had.
     fn opens_in_session(
         &self,
         connection: &Connection,
         request: &[u8],
+        coming: &Coming,
         sealed: &[u8],
         room: &mut RecordFrame,
     ) -> bool
         ensures { (r : RspSetup) (h : History) → connected.StandsFor connection.now r h
             → messages_of h < 2 ^ 64 - 1 → StandFor self.now r h
+            → IsComing coming.now r h (record_body request.now)
             → result ≡ opens_in_session r h (session_of (id_in_record request.now) h) request.now
             sealed.now }
     {
@@ -170,33 +209,36 @@ impl AnswerKeys {
             return self.opens_again(record_id(request).rsp, sealed, room)
                 || opens_next(connection, request, sealed, room);
         }
-        match connection.answer_key(request, room) {
-            Some(key) => opens_by(&key, sealed, room),
+        match &coming.key {
+            Some(key) => opens_by(key, sealed, room),
             None => opens_next(connection, request, sealed, room),
         }
     }
 
-    /// Whether a record that is no right answer to a request, a clear one or another record, opens at
-    /// least. What `room` holds before and after does not matter. Fewer than 2^64 - 1 messages came.
-    pub fn opens(
+    /// Whether a record that is no right answer to a body, a clear one or another record, opens at least;
+    /// this is had of the body. What `room` holds before and after does not matter. Fewer than 2^64 - 1
+    /// messages came.
+    pub(crate) fn opens(
         &self,
         connection: &Connection,
-        is_clear: bool,
-        request: &[u8],
+        body: &[u8],
+        coming: &Coming,
         sealed: &[u8],
         room: &mut RecordFrame,
     ) -> bool
         ensures { (r : RspSetup) (h : History) → connected.StandsFor connection.now r h
-            → messages_of h < 2 ^ 64 - 1 → StandFor self.now r h
-            → result ≡ opens_answering r h is_clear request.now sealed.now }
+            → messages_of h < 2 ^ 64 - 1 → StandFor self.now r h → IsComing coming.now r h body.now
+            → result ≡ opens_answering r h (slice_index body.now 0 == 5) (drop 1 body.now)
+            sealed.now }
     {
-        if is_clear {
+        if is_clear(body) {
             return opens_next(connection, sealed, sealed, room);
         }
+        let request = behind_type(body);
         if !same_bytes(first_bytes(request), first_bytes(sealed)) {
             return opens_next(connection, sealed, sealed, room);
         }
-        self.opens_in_session(connection, request, sealed, room)
+        self.opens_in_session(connection, request, coming, sealed, room)
     }
 
     // Keeps a key for a RspSessionID from 1 to 4.

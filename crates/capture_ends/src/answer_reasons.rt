@@ -2,52 +2,46 @@ ghost use Rattle.std.specs.Prelude.{◌≡◌, ◌<◌, ◌-◌, ◌^◌, Some};
 ghost use Rattle.connection.specs.Connected as connected;
 ghost use Rattle.responder_machine.specs.BoundLaws.{messages_of};
 ghost use Rattle.responder_machine.specs.Setup.{RspSetup};
-ghost use Rattle.capture_ends.specs.AnswerKeys.{StandFor};
+ghost use Rattle.capture_ends.specs.AnswerKeys.{IsComing, StandFor};
 ghost use Rattle.capture_laws.specs.Judged.{why_of};
 ghost use Rattle.world_machine.specs.Difference.{reply_why};
 ghost use Rattle.world_machine.specs.Rounds.{Dialogue, Round};
 
-use crate::answer_keys::coming_key;
+use crate::answer_keys::{coming_key, prepare};
+use crate::bodies::is_clear;
+use crate::coming::Coming;
 use crate::{AnswerKeys, Answerer};
 use connection::Connection;
 use responder_session::AnswerKey;
 use script_text::Why;
-use session_keys::{behind_type, byte_at};
+use session_keys::behind_type;
 use spdm_basis::RecordFrame;
-
-// The type of a body that is an SPDM message in the clear (DSP0275).
-const CLEAR: u8 = 5;
 
 // Why an answer that is in turn is refused, but for wrong verify data: it is in the clear or a record
 // that opens, or it does not open. The body is the request that it answers, which was not handed in
-// yet. What `room` holds before and after does not matter. Fewer than 2^64 - 1 messages came.
+// yet, and of which this is had. What `room` holds before and after does not matter. Fewer than 2^64 - 1
+// messages came.
 fn reply_why(
     keys: &AnswerKeys,
     connection: &Connection,
     body: &[u8],
+    coming: &Coming,
     answer: &[u8],
     room: &mut RecordFrame,
 ) -> Why
     ensures { (r : RspSetup) (d : Dialogue) (round : Round)
         → connected.StandsFor connection.now r d.responder → messages_of d.responder < 2 ^ 64 - 1
         → StandFor keys.now r d.responder → round.body ≡ body.now
+        → IsComing coming.now r d.responder body.now
         → why_of result ≡ reply_why r d answer.now (Some round) }
 {
-    if byte_at(answer, 0) == CLEAR {
+    if is_clear(answer) {
         return Why::BadReply;
     }
-    let is_clear = byte_at(body, 0) == CLEAR;
-    if keys.opens(
-        connection,
-        is_clear,
-        behind_type(body),
-        behind_type(answer),
-        room,
-    ) {
-        Why::BadReply
-    } else {
-        Why::BadRecord
+    if keys.opens(connection, body, coming, behind_type(answer), room) {
+        return Why::BadReply;
     }
+    Why::BadRecord
 }
 
 impl Answerer {
@@ -55,14 +49,47 @@ impl Answerer {
     ghost use Rattle.responder_machine.specs.BoundLaws.{messages_of};
     ghost use Rattle.responder_machine.specs.History.{History};
     ghost use Rattle.responder_machine.specs.Setup.{RspSetup};
-    ghost use Rattle.capture_ends.specs.AnswerKeys.{IsComingKey, StandFor};
+    ghost use Rattle.capture_ends.specs.AnswerKeys.{IsComing, IsComingKey, StandFor};
     ghost use Rattle.capture_ends.specs.Answerer.{IsAnswerer};
     ghost use Rattle.capture_laws.specs.Judged.{why_of};
     ghost use Rattle.world_machine.specs.Difference.{reply_why};
     ghost use Rattle.world_machine.specs.Rounds.{Dialogue, Round};
 
-    /// Why an answer to this body is refused, but for wrong verify data: had before it is judged.
-    /// Fewer than 2^64 - 1 messages came.
+    /// What is had of this body before its answer is judged. Fewer than 2^64 - 1 messages came.
+    pub(crate) fn prepare(&self, body: &[u8], coming: &mut Coming)
+        ensures { (r : RspSetup) (h : History) → IsAnswerer self.now r h
+            → messages_of h < 2 ^ 64 - 1 → IsComing coming.new r h body.now }
+    {
+        prepare(&self.connection, body, coming);
+    }
+
+    /// Why an answer to this body, of which this is had, is refused, but for wrong verify data: had before
+    /// it is judged. Fewer than 2^64 - 1 messages came.
+    pub(crate) fn reply_why_with(
+        &mut self,
+        keys: &AnswerKeys,
+        body: &[u8],
+        coming: &Coming,
+        answer: &[u8],
+    ) -> Why
+        ensures told { (r : RspSetup) (d : Dialogue) (round : Round)
+            → IsAnswerer self.old r d.responder → messages_of d.responder < 2 ^ 64 - 1
+            → StandFor keys.now r d.responder → round.body ≡ body.now
+            → IsComing coming.now r d.responder body.now
+            → why_of result ≡ reply_why r d answer.now (Some round) }
+        ensures same { self.new.connection ≡ self.old.connection }
+    {
+        reply_why(
+            keys,
+            &self.connection,
+            body,
+            coming,
+            answer,
+            &mut self.record,
+        )
+    }
+
+    /// The same, where nothing is had of the body yet.
     pub fn reply_why(&mut self, keys: &AnswerKeys, body: &[u8], answer: &[u8]) -> Why
         ensures told { (r : RspSetup) (d : Dialogue) (round : Round)
             → IsAnswerer self.old r d.responder → messages_of d.responder < 2 ^ 64 - 1
@@ -70,7 +97,9 @@ impl Answerer {
             → why_of result ≡ reply_why r d answer.now (Some round) }
         ensures same { self.new.connection ≡ self.old.connection }
     {
-        reply_why(keys, &self.connection, body, answer, &mut self.record)
+        let mut coming = Coming::new();
+        self.prepare(body, &mut coming);
+        self.reply_why_with(keys, body, &coming, answer)
     }
 
     /// The key of the answer to this body, had before it is judged. Fewer than 2^64 - 1 messages

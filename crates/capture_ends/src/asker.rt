@@ -1,6 +1,7 @@
 use crate::asker_setup::AskerSetup;
 use crate::owed_messages::sends_owed;
 use asking::{Asking, Body, Setup};
+use psk_session::InnerPair;
 use spdm_basis::{OutOfMemory, Psk, RecordFrame};
 use std::alloc::Global;
 
@@ -12,11 +13,12 @@ pub struct Asker {
     pub(crate) setup: AskerSetup,
     pub(crate) asking: Asking,
     pub(crate) owes: bool,
-    // Room for the body that the requester sends, and for the inner messages of a record that came
-    // and of its own.
+    // Room for the body that the requester sends, for the inner messages of a record that came and
+    // of its own, and for two that are compared.
     pub(crate) room: Body,
     pub(crate) inner: RecordFrame,
     pub(crate) own: RecordFrame,
+    pub(crate) pair: InnerPair,
 }
 
 impl Asker {
@@ -44,6 +46,7 @@ impl Asker {
             room: Body::new(),
             inner: RecordFrame::new(),
             own: RecordFrame::new(),
+            pair: InnerPair::new(),
         })
     }
 
@@ -64,7 +67,13 @@ impl Asker {
         if !self.owes {
             return false;
         }
-        if !sends_owed(&mut self.asking, &self.setup, &mut self.room, body) {
+        if !sends_owed(
+            &mut self.asking,
+            &self.setup,
+            &mut self.room,
+            &mut self.pair,
+            body,
+        ) {
             return false;
         }
         self.owes = false;

@@ -22,6 +22,7 @@ mod clear_answers;
 mod clear_commands;
 mod clear_judged;
 mod clear_values;
+mod coming;
 mod conversation;
 mod conversation_laws;
 mod conversation_replies;

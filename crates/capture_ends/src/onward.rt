@@ -1,3 +1,5 @@
+use script_text::Why;
+
 /// How a request or an answer goes on from what is kept of a requester and the responder.
 #[derive(Clone, Copy, Debug, PartialEq, Eq)]
 pub enum Onward {
@@ -5,4 +7,7 @@ pub enum Onward {
     Kept,
     /// Into a large message: nothing is said of what is kept then.
     Large,
+    /// An answer may be given by what it shows, and the requester asks for a chunk upon it: a fetch begins by it where it
+    /// is LargeResponse again, and else it is refused, and this is why. Nothing is said of what is kept then.
+    Asked(Why),
 }

@@ -12,6 +12,7 @@ ghost use Rattle.requester_machine.specs.Owed.{with_next};
 use crate::asker_setup::AskerSetup;
 use crate::bodies::byte_at;
 use asking::{Asking, Body, Command, FreeValues};
+use psk_session::InnerPair;
 use spdm_grammar::names::request_code::CHUNK_SEND;
 
 // The type of a body that is a secured record (DSP0276).
@@ -50,14 +51,14 @@ pub(crate) fn write_outstanding(asking: &mut Asking, setup: &AskerSetup, room: &
 }
 
 // Takes a body as the record that is owed.
-fn take_record(asking: &mut Asking, body: &[u8]) -> bool
+fn take_record(asking: &mut Asking, pair: &mut InnerPair, body: &[u8]) -> bool
     ensures { (q : ReqSetup) (bare : History) (sent : Sent) (id : ℕ) (ask : message.Ask)
         → TookLast bare id → sent.aim ≡ InSession id ask → length body.now ≤ 4161
         → StandsFor asking.old q (with_next (Some sent) bare)
         → IsSentOwed q bare sent body.now result asking.new }
 {
     match body.split_first() {
-        Some((&SECURED, sealed)) => asking.take_padded(sealed),
+        Some((&SECURED, sealed)) => asking.take_padded(sealed, pair),
         _ => false,
     }
 }
@@ -68,6 +69,7 @@ pub(crate) fn sends_owed(
     asking: &mut Asking,
     setup: &AskerSetup,
     room: &mut Body,
+    pair: &mut InnerPair,
     body: &[u8],
 ) -> bool
     ensures { (q : ReqSetup) (bare : History) (sent : Sent) → IsKeptSetup setup.now q
@@ -77,7 +79,7 @@ pub(crate) fn sends_owed(
 {
     let _ = write_outstanding(asking, setup, room);
     if byte_at(room.as_slice(), 0) == SECURED {
-        return take_record(asking, body);
+        return take_record(asking, pair, body);
     }
     !is_first_chunk(room.as_slice()) && room.as_slice() == body
 }

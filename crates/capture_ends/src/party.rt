@@ -2,11 +2,13 @@ ghost use Rattle.std.specs.Prelude.{◌≡◌, Err, Ok, if◌then◌else◌};
 ghost use Rattle.capture_ends.specs.Asker.{is_first_chunk};
 ghost use Rattle.capture_ends.specs.declared.onward.Onward.TheVariants as onward;
 
+use crate::coming::Coming;
 use crate::owed_messages::is_first_chunk;
 use crate::{AnswerKeys, Answerer, Asker, Onward};
 use capture_laws::{Places, Round, SessionTable};
 use connection::Setup;
 use script_text::Why;
+use spdm_basis::RecordFrame;
 
 /// A requester of a capture and the responder towards it, while no large message is under way: what
 /// the two ends hold, and the keys of answers that were given; its number, and where its entries stand
@@ -24,6 +26,10 @@ pub struct Party {
     pub number: u8,
     /// Where its entries stand in the table of sessions.
     pub places: Places,
+    // Room for what is had of a request while its answer is judged.
+    pub(crate) coming: Coming,
+    /// Room for the text of a record. What it holds before and after a call does not matter.
+    pub text: RecordFrame,
 }
 
 // What is told of a request that is refused for this: its body may be the first chunk of a large one.
@@ -66,6 +72,8 @@ impl Party {
             keys: AnswerKeys::new(),
             number,
             places: Places::new(),
+            coming: Coming::new(),
+            text: RecordFrame::new(),
         }
     }
 

@@ -41,7 +41,8 @@ impl Party {
 
     /// An answer of at most 4,161 bytes came whole, in order behind this round: it goes on, and the
     /// table of sessions with it; or it is refused, and then why, and the table stays. Nothing is said
-    /// of what is kept then, and where it is a part of a large answer. An `Err` comes only where
+    /// of what is kept then, and where it is a part of a large answer, or the requester asks for a chunk
+    /// upon it. An `Err` comes only where
     /// PSK_EXCHANGE_RSP began a session and there is no memory for its entry, and says nothing of what
     /// is kept.
     pub fn replies(
@@ -63,15 +64,25 @@ impl Party {
         ensures memory { OnErr result (IsSome (id_begun (response_of (drop 1 answer.now)))) }
     {
         let body = round.body();
-        let why = self.answerer.reply_why(&self.keys, body, answer);
-        let key = self.answerer.coming_key(body);
+        self.answerer.prepare(body, &mut self.coming);
+        let why = self
+            .answerer
+            .reply_why_with(&self.keys, body, &self.coming, answer);
         let begun = self.answerer.begun(round.tag(), body, answer);
         let taken = self.answerer.taken(body, answer);
-        match self.answerer.judges(setup, round.tag(), body, answer) {
+        match self.answerer.judges_with(
+            setup,
+            round.tag(),
+            body,
+            &self.coming,
+            answer,
+            &mut self.text,
+        ) {
             Judged::Given(Given::Whole) => {
+                let key = self.coming.take_key();
                 let heard = self.go_on(round, key, answer, false);
                 if heard.fetches {
-                    return Ok(Ok(Onward::Large));
+                    return Ok(Ok(Onward::Asked(why)));
                 }
                 let change = self.change(begun, heard.accepted, taken);
                 table.take(&mut self.places, self.number, &change)?;

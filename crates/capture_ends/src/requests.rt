@@ -42,6 +42,7 @@ impl Asker {
             &self.setup,
             &mut self.room,
             &mut self.inner,
+            &mut self.pair,
             body,
         )
     }

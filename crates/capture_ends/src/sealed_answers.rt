@@ -4,6 +4,7 @@ ghost use Rattle.capture_ends.specs.ShownBy.{shows_last};
 
 use crate::answerer::{response_of, shows_large};
 use crate::clear_answers::blocks_are_few;
+use crate::coming::Coming;
 use crate::record_answers::{is_repeated, least_free};
 use crate::record_values::inner_part;
 use crate::{Answerer, Given};
@@ -61,6 +62,7 @@ impl Answerer {
     ghost use Rattle.responder_machine.specs.Setup.{RspSetup};
     ghost use Rattle.responder_session.specs.OwnAnswers.{IsKeyOfReply};
     ghost use Rattle.spdm_machine.specs.Bodies.{record_body};
+    ghost use Rattle.capture_ends.specs.AnswerKeys.{IsComing};
     ghost use Rattle.capture_ends.specs.Answerer.{IsAnswerer, history_shown};
     ghost use Rattle.capture_laws.specs.AnswersShown.{record_values};
     ghost use Rattle.capture_laws.specs.DropsShown.{IsShownAnswer};
@@ -69,8 +71,8 @@ impl Answerer {
     ghost use Rattle.world_machine.specs.Opening.{turn_in};
     ghost use Rattle.world_machine.specs.Rounds.{no_draw};
 
-    // What this record brings as the answer to one with this inner message that its session takes; it is opened
-    // with the key of the answer.
+    // What this record brings as the answer to one with this inner message that its session takes; its text is
+    // written with the key of the answer, in place of what `text` holds.
     fn answers_taken(
         &mut self,
         setup: &Setup<'_>,
@@ -78,6 +80,7 @@ impl Answerer {
         inner: &[u8],
         key: &AnswerKey,
         sealed: &[u8],
+        text: &mut RecordFrame,
     ) -> Option<Given>
         requires { length sealed.now ≤ 4160 }
         ensures told { (r : RspSetup) (h : History) (tag : ℕ) → IsSetUp setup.now r
@@ -98,8 +101,7 @@ impl Answerer {
         if sealed.len() < LEAST_RECORD {
             return None;
         }
-        let mut text = RecordFrame::new();
-        key.text(sealed, &mut text);
+        key.text(sealed, text);
         if !self.gives_shown(setup, request, inner, text.as_slice(), sealed) {
             return None;
         }
@@ -121,20 +123,25 @@ impl Answerer {
         self.sends(setup, request, &least_free(), sealed)
     }
 
-    /// What this record brings as the answer to one, by what it shows; None where it is not right. Fewer than
-    /// 2^64 - 1 messages came. Behind an answer that is not right nothing is kept.
-    pub fn answers_sealed(
+    /// What this record brings as the answer to one of which this is had, by what it shows; None where it is not
+    /// right. What `text` holds before and after does not matter. Fewer than 2^64 - 1 messages came. Behind an
+    /// answer that is not right nothing is kept.
+    pub(crate) fn answers_sealed(
         &mut self,
         setup: &Setup<'_>,
         request: &[u8],
+        coming: &Coming,
         sealed: &[u8],
+        text: &mut RecordFrame,
     ) -> Option<Given>
         requires { length sealed.now ≤ 4160 }
         ensures told { (r : RspSetup) (h : History) (tag : ℕ) → IsSetUp setup.now r
             → IsAnswerer self.old r h → messages_of h < 2 ^ 64 - 1
+            → IsComing coming.now r h (record_body request.now)
             → IsGivenTo r h tag (record_body request.now) (record_body sealed.now) result }
         ensures stands { (r : RspSetup) (h : History) (tag : ℕ) → IsSetUp setup.now r
             → IsAnswerer self.old r h → messages_of h < 2 ^ 64 - 1
+            → IsComing coming.now r h (record_body request.now)
             → IfSome result (λ given. IsAnswerer self.new r (history_behind r h tag
             (record_body request.now) (record_body sealed.now) given)) }
     {
@@ -142,9 +149,11 @@ impl Answerer {
             let same = self.answers_repeated(setup, request, sealed);
             return whole_if(same);
         }
-        let mut inner = RecordFrame::new();
-        match self.connection.answer_key(request, &mut inner) {
-            Some(key) => self.answers_taken(setup, request, inner.as_slice(), &key, sealed),
+        match &coming.key {
+            Some(key) => {
+                let inner = coming.inner.as_slice();
+                self.answers_taken(setup, request, inner, key, sealed, text)
+            }
             None => None,
         }
     }

@@ -11,6 +11,7 @@ use crate::asker_setup::AskerSetup;
 use crate::bodies::{byte_at, rest_of};
 use crate::owed_messages::LONG_CONTEXT;
 use asking::{Asking, Body, Command, FreeValues};
+use psk_session::InnerPair;
 use spdm_basis::RecordFrame;
 use spdm_grammar::names::request_code::{END_SESSION, GET_MEASUREMENTS, HEARTBEAT, KEY_UPDATE};
 
@@ -74,6 +75,7 @@ fn seals(
     asking: &mut Asking,
     setup: &AskerSetup,
     room: &mut Body,
+    pair: &mut InnerPair,
     command: Command<'_>,
     sealed: &[u8],
 ) -> bool
@@ -93,7 +95,7 @@ fn seals(
     {
         return false;
     }
-    asking.take_padded(sealed)
+    asking.take_padded(sealed, pair)
 }
 
 // Whether some command sends this record, where nothing is outstanding: the inner message is opened
@@ -103,6 +105,7 @@ pub(crate) fn sends_sealed(
     setup: &AskerSetup,
     room: &mut Body,
     inner: &mut RecordFrame,
+    pair: &mut InnerPair,
     sealed: &[u8],
 ) -> bool
     ensures { (q : ReqSetup) (h : History) → IsKeptSetup setup.now q → length h < 2 ^ 64 - 1
@@ -115,7 +118,7 @@ pub(crate) fn sends_sealed(
     }
     let session = session_number(named.unwrap_or(0));
     match command_in(session, inner.as_slice()) {
-        Some(command) => seals(asking, setup, room, command, sealed),
+        Some(command) => seals(asking, setup, room, pair, command, sealed),
         None => false,
     }
 }

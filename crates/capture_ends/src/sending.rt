@@ -17,6 +17,7 @@ use crate::clear_commands::sends_clear;
 use crate::owed_messages::LONG_CONTEXT;
 use crate::sealed_commands::sends_sealed;
 use asking::{Asking, Body, Command, FreeValues};
+use psk_session::InnerPair;
 use spdm_basis::RecordFrame;
 
 // Whether Connect sends this body, whatever is outstanding.
@@ -61,6 +62,7 @@ pub(crate) fn sends_command(
     setup: &AskerSetup,
     room: &mut Body,
     inner: &mut RecordFrame,
+    pair: &mut InnerPair,
     body: &[u8],
 ) -> bool
     ensures { (q : ReqSetup) (h : History) → IsKeptSetup setup.now q → length h < 2 ^ 64 - 1
@@ -71,7 +73,7 @@ pub(crate) fn sends_command(
         return sends_clear(asking, setup, room, rest_of(body));
     }
     if is_secured(body) {
-        return sends_sealed(asking, setup, room, inner, rest_of(body));
+        return sends_sealed(asking, setup, room, inner, pair, rest_of(body));
     }
     false
 }

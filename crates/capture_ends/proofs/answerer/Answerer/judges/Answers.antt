@@ -1,16 +1,4 @@
-use Rattle.std.proofs.Common.{◌∙◌, sym, subst, eqb-true}
-use Rattle.std.specs.Prelude.{slice_index}
-use Rattle.capture_ends.proofs.BodyJudged.{judged_to_record}
 use Rattle.capture_ends.proofs.answerer.Answerer.judges.Goals as goal
-use Rattle.capture_ends.specs.PartyReplies.{IsGiven}
-use Rattle.capture_ends.specs.declared.given.Judged.{Judged}
-
-pub returns-then-is_clear : goal.returns-then-is_clear
-returns-then-is_clear c = λ r d round set_up answerer few tag body typed apart.
-    c.judges_reply.ensures r d round set_up answerer few tag body (eqb-true (slice_index c.args.body.now 0) 5 (sym c.is_clear.ensures ∙ c.if-is_clear.true)) apart
 
 pub returns : goal.returns
-returns c = λ r d round set_up answerer few tag body typed apart.
-    subst (λ (x : Judged). IsGiven r d round c.args.answer.now x c.answers_record-given.new.self) (sym c.judged_of.ensures)
-    (judged_to_record r d round c.args.body.now c.args.answer.now c.behind_type.result.now c.answers_record-given.result c.answers_record-given.new.self body typed (sym c.is_clear.ensures ∙ c.if-is_clear.false) c.behind_type.ensures
-    (c.answers_record-given.ensures.told r d.responder round.tag set_up answerer few) (c.answers_record-given.ensures.stands r d.responder round.tag set_up answerer few))
+returns c = λ r d round set_up answerer few tag body typed apart. c.judges_with.ensures r d round set_up answerer few tag body typed apart (c.prepare.ensures r d.responder answerer few)

@@ -1,4 +1,4 @@
-use Rattle.std.proofs.Common.{◌≡◌, ◌+◌, ◌-◌, ◌^◌, ◌<◌, ◌∙◌, sym, ap, subst, length, arith, List, ℕ, true, false, inl, inr, Result}
+use Rattle.std.proofs.Common.{◌≡◌, ◌+◌, ◌-◌, ◌^◌, ◌<◌, ◌∙◌, sym, ap, subst, length, arith, List, ℕ, true, false, inl, inr, Option, Result}
 use Rattle.std.specs.Prelude.{OnOk}
 use Rattle.capture_laws.specs.KeptChanges.{begun_shown, taken_shown}
 use Rattle.capture_laws.specs.Keeping.{restored}
@@ -11,12 +11,13 @@ use Rattle.connection.specs.declared.connected.Connection.{Connection}
 use Rattle.requester_machine.specs.Setup.{ReqSetup}
 use Rattle.responder_machine.specs.May.{on_body, with_dropped}
 use Rattle.responder_machine.specs.Responder.{after}
+use Rattle.responder_session.specs.declared.answer_key.AnswerKey.{AnswerKey}
 use Rattle.spdm_basis.specs.declared.OutOfMemory.{OutOfMemory}
 use Rattle.capture_ends.proofs.InTurn.{answers_in_turn}
 use Rattle.capture_ends.proofs.CarriedBy.{keeps_carries}
 use Rattle.capture_ends.proofs.KnownFetches.{kept_asks_none}
 use Rattle.capture_ends.proofs.KeptTyped.{kept_apart, kept_body}
-use Rattle.capture_ends.proofs.PartyReplied.{answers_round, apart_for, behind_whole, body_is, few_messages, goes_whole, is_part, kept_limits, refused_for, round_is, whole_kept}
+use Rattle.capture_ends.proofs.PartyReplied.{answers_round, apart_for, asked_upon, behind_whole, body_is, few_messages, goes_whole, is_part, kept_limits, refused_for, round_is, whole_kept}
 use Rattle.capture_ends.proofs.PartyTold.{few_behind, is_change, is_step}
 use Rattle.capture_ends.proofs.party.Party.replies.Goals as goal
 use Rattle.capture_ends.specs.AnswerKeys.{IsComingKey}
@@ -41,14 +42,15 @@ returns-then-heard-clause-told c = λ w q older rows k route keeps below byte no
     let seen = c.args.round.now in
     let body = c.body-body.ensures ∙ body_is w q older k route answer byte limits keeps turn rows seen now in
     let small = few_messages w q older k carries few in
-    let first = subst (λ (x : Connection). connected.StandsFor x r k.responder) (sym c.reply_why-why.ensures.same) party.answerer in
-    let second = subst (λ (x : Connection). connected.StandsFor x r k.responder) (sym c.coming_key-key.ensures.same) first in
-    let told = c.judges.ensures r (restored k) turn.round set_up second small (answers_round w q older k route answer byte limits keeps turn rows seen now c.tag-2.result c.tag-2.ensures).1 (sym body) (subst IsBody (sym body) (kept_body w q older k turn.round carries turn.answers.0)) (kept_apart w q older k turn.round answer carries) in
-    let given = subst (λ (x : Judged). IsGiven r (restored k) turn.round answer x c.judges.new.self) (c.in-Given-Whole.is ∙ ap judged.Given c.in-Given-Whole.field-0-is) told in
+    let coming = c.prepare.ensures r k.responder party.answerer small in
+    let second = subst (λ (x : Connection). connected.StandsFor x r k.responder) (sym c.reply_why_with-why.ensures.same) party.answerer in
+    let told = c.judges_with.ensures r (restored k) turn.round set_up second small (answers_round w q older k route answer byte limits keeps turn rows seen now c.tag-2.result c.tag-2.ensures).1 (sym body) (subst IsBody (sym body) (kept_body w q older k turn.round carries turn.answers.0)) (kept_apart w q older k turn.round answer carries) coming in
+    let given = subst (λ (x : Judged). IsGiven r (restored k) turn.round answer x c.judges_with.new.self) (c.in-Given-Whole.is ∙ ap judged.Given c.in-Given-Whole.field-0-is) told in
     let at = round_is w q older k route answer byte limits keeps turn rows seen now in
     let fetches = c.go_on-heard.ensures.fetches w q older k turn.round carries below turn.answers.0 at party.asker (sym (kept_asks_none w q older k keeps)) in
     let asks : asks_upon k route.tag answer ≡ true = sym (ap (λ (n : ℕ). asks_upon k n answer) turn.answers.1) ∙ sym fetches ∙ c.if-heard.true in
-    is_part w q older k route answer byte limits keeps turn rows c.go_on-heard.new.self c.args.table.now (inr (inr (given.0, asks)))
+    asked_upon w q older k route answer byte limits keeps turn rows c.reply_why_with-why.result given.0 asks
+    (c.reply_why_with-why.ensures.told r (restored k) turn.round party.answerer small party.keys (sym body) coming) c.go_on-heard.new.self c.args.table.now
 
 pub returns-in_ok-take-in-Given-Whole-clause-told : goal.returns-in_ok-take-in-Given-Whole-clause-told
 returns-in_ok-take-in-Given-Whole-clause-told c = λ w q older rows k route keeps below byte now set_up none party stands.
@@ -61,20 +63,21 @@ returns-in_ok-take-in-Given-Whole-clause-told c = λ w q older rows k route keep
     let seen = c.args.round.now in
     let body = c.body-body.ensures ∙ body_is w q older k route answer byte limits keeps turn rows seen now in
     let small = few_messages w q older k carries few in
-    let first = subst (λ (x : Connection). connected.StandsFor x r k.responder) (sym c.reply_why-why.ensures.same) party.answerer in
-    let second = subst (λ (x : Connection). connected.StandsFor x r k.responder) (sym c.coming_key-key.ensures.same) first in
-    let told = c.judges.ensures r (restored k) turn.round set_up second small (answers_round w q older k route answer byte limits keeps turn rows seen now c.tag-2.result c.tag-2.ensures).1 (sym body) (subst IsBody (sym body) (kept_body w q older k turn.round carries turn.answers.0)) (kept_apart w q older k turn.round answer carries) in
-    let given = subst (λ (x : Judged). IsGiven r (restored k) turn.round answer x c.judges.new.self) (c.in-Given-Whole.is ∙ ap judged.Given c.in-Given-Whole.field-0-is) told in
+    let coming = c.prepare.ensures r k.responder party.answerer small in
+    let second = subst (λ (x : Connection). connected.StandsFor x r k.responder) (sym c.reply_why_with-why.ensures.same) party.answerer in
+    let told = c.judges_with.ensures r (restored k) turn.round set_up second small (answers_round w q older k route answer byte limits keeps turn rows seen now c.tag-2.result c.tag-2.ensures).1 (sym body) (subst IsBody (sym body) (kept_body w q older k turn.round carries turn.answers.0)) (kept_apart w q older k turn.round answer carries) coming in
+    let given = subst (λ (x : Judged). IsGiven r (restored k) turn.round answer x c.judges_with.new.self) (c.in-Given-Whole.is ∙ ap judged.Given c.in-Given-Whole.field-0-is) told in
     let new = c.go_on-heard.new.self in
     let same = c.go_on-heard.ensures.answerer in
     let behind = history_shown r k.responder turn.round.tag turn.round.body answer in
     let answerer = subst (λ (x : Answerer). IsAnswerer x r behind) (sym same) given.1 in
-    let coming = subst (λ (b : List ℕ). IsComingKey r k.responder b c.coming_key-key.result) c.body-body.ensures (c.coming_key-key.ensures.key r k.responder first small) in
+    let key = subst (λ (b : List ℕ). IsComingKey r k.responder b c.take_key-key.result) c.body-body.ensures
+    (subst (λ (o : Option AnswerKey). IsComingKey r k.responder c.body-body.result.now o) (sym c.take_key-key.ensures) coming.key) in
     let at = round_is w q older k route answer byte limits keeps turn rows seen now in
     let last = record new { places = c.take.new.places } in
     let are = behind_whole w q older k route answer byte limits keeps turn rows seen now last answerer
     (λ h. c.go_on-heard.ensures.asker w q older k h turn.round carries below turn.answers.0 at party.asker)
-    (λ ids f there. c.go_on-heard.ensures.keys r k.responder ids f no_draw party.keys coming
+    (λ ids f there. c.go_on-heard.ensures.keys r k.responder ids f no_draw party.keys key
     (subst (λ (x : Answerer). IsAnswerer x r (after (with_dropped k.responder ids) (on_body r (with_dropped k.responder ids) (tag_in seen) (body_in seen) f no_draw))) same there)) in
     let next = whole_kept w q older k route answer byte limits keeps turn rows in
     let tag = sym (answers_round w q older k route answer byte limits keeps turn rows seen now c.tag.result c.tag.ensures).1 in
@@ -109,10 +112,10 @@ returns-in-Given-Large-clause-told c = λ w q older rows k route keeps below byt
     let seen = c.args.round.now in
     let body = c.body-body.ensures ∙ body_is w q older k route answer byte limits keeps turn rows seen now in
     let small = few_messages w q older k carries few in
-    let first = subst (λ (x : Connection). connected.StandsFor x r k.responder) (sym c.reply_why-why.ensures.same) party.answerer in
-    let second = subst (λ (x : Connection). connected.StandsFor x r k.responder) (sym c.coming_key-key.ensures.same) first in
-    let told = c.judges.ensures r (restored k) turn.round set_up second small (answers_round w q older k route answer byte limits keeps turn rows seen now c.tag-2.result c.tag-2.ensures).1 (sym body) (subst IsBody (sym body) (kept_body w q older k turn.round carries turn.answers.0)) (kept_apart w q older k turn.round answer carries) in
-    let given = subst (λ (x : Judged). IsGiven r (restored k) turn.round answer x c.judges.new.self) (c.in-Given-Large.is ∙ ap judged.Given c.in-Given-Large.field-0-is) told in
+    let coming = c.prepare.ensures r k.responder party.answerer small in
+    let second = subst (λ (x : Connection). connected.StandsFor x r k.responder) (sym c.reply_why_with-why.ensures.same) party.answerer in
+    let told = c.judges_with.ensures r (restored k) turn.round set_up second small (answers_round w q older k route answer byte limits keeps turn rows seen now c.tag-2.result c.tag-2.ensures).1 (sym body) (subst IsBody (sym body) (kept_body w q older k turn.round carries turn.answers.0)) (kept_apart w q older k turn.round answer carries) coming in
+    let given = subst (λ (x : Judged). IsGiven r (restored k) turn.round answer x c.judges_with.new.self) (c.in-Given-Large.is ∙ ap judged.Given c.in-Given-Large.field-0-is) told in
     is_part w q older k route answer byte limits keeps turn rows c.args.self.now c.args.table.now (inl given)
 
 pub returns-in-Given-Last-clause-told : goal.returns-in-Given-Last-clause-told
@@ -126,11 +129,11 @@ returns-in-Given-Last-clause-told c = λ w q older rows k route keeps below byte
     let seen = c.args.round.now in
     let body = c.body-body.ensures ∙ body_is w q older k route answer byte limits keeps turn rows seen now in
     let small = few_messages w q older k carries few in
-    let first = subst (λ (x : Connection). connected.StandsFor x r k.responder) (sym c.reply_why-why.ensures.same) party.answerer in
-    let second = subst (λ (x : Connection). connected.StandsFor x r k.responder) (sym c.coming_key-key.ensures.same) first in
-    let told = c.judges.ensures r (restored k) turn.round set_up second small (answers_round w q older k route answer byte limits keeps turn rows seen now c.tag-2.result c.tag-2.ensures).1 (sym body) (subst IsBody (sym body) (kept_body w q older k turn.round carries turn.answers.0)) (kept_apart w q older k turn.round answer carries) in
-    let given = subst (λ (x : Judged). IsGiven r (restored k) turn.round answer x c.judges.new.self) (c.in-Given-Last.is ∙ ap judged.Given c.in-Given-Last.field-0-is) told in
-    is_part w q older k route answer byte limits keeps turn rows c.args.self.now c.args.table.now (inr (inl given))
+    let coming = c.prepare.ensures r k.responder party.answerer small in
+    let second = subst (λ (x : Connection). connected.StandsFor x r k.responder) (sym c.reply_why_with-why.ensures.same) party.answerer in
+    let told = c.judges_with.ensures r (restored k) turn.round set_up second small (answers_round w q older k route answer byte limits keeps turn rows seen now c.tag-2.result c.tag-2.ensures).1 (sym body) (subst IsBody (sym body) (kept_body w q older k turn.round carries turn.answers.0)) (kept_apart w q older k turn.round answer carries) coming in
+    let given = subst (λ (x : Judged). IsGiven r (restored k) turn.round answer x c.judges_with.new.self) (c.in-Given-Last.is ∙ ap judged.Given c.in-Given-Last.field-0-is) told in
+    is_part w q older k route answer byte limits keeps turn rows c.args.self.now c.args.table.now (inr given)
 
 pub returns-in-Apart-clause-told : goal.returns-in-Apart-clause-told
 returns-in-Apart-clause-told c = λ w q older rows k route keeps below byte now set_up none party stands.
@@ -143,10 +146,10 @@ returns-in-Apart-clause-told c = λ w q older rows k route keeps below byte now 
     let seen = c.args.round.now in
     let body = c.body-body.ensures ∙ body_is w q older k route answer byte limits keeps turn rows seen now in
     let small = few_messages w q older k carries few in
-    let first = subst (λ (x : Connection). connected.StandsFor x r k.responder) (sym c.reply_why-why.ensures.same) party.answerer in
-    let second = subst (λ (x : Connection). connected.StandsFor x r k.responder) (sym c.coming_key-key.ensures.same) first in
-    let told = c.judges.ensures r (restored k) turn.round set_up second small (answers_round w q older k route answer byte limits keeps turn rows seen now c.tag-2.result c.tag-2.ensures).1 (sym body) (subst IsBody (sym body) (kept_body w q older k turn.round carries turn.answers.0)) (kept_apart w q older k turn.round answer carries) in
-    let given = subst (λ (x : Judged). IsGiven r (restored k) turn.round answer x c.judges.new.self) c.in-Apart.is told in
+    let coming = c.prepare.ensures r k.responder party.answerer small in
+    let second = subst (λ (x : Connection). connected.StandsFor x r k.responder) (sym c.reply_why_with-why.ensures.same) party.answerer in
+    let told = c.judges_with.ensures r (restored k) turn.round set_up second small (answers_round w q older k route answer byte limits keeps turn rows seen now c.tag-2.result c.tag-2.ensures).1 (sym body) (subst IsBody (sym body) (kept_body w q older k turn.round carries turn.answers.0)) (kept_apart w q older k turn.round answer carries) coming in
+    let given = subst (λ (x : Judged). IsGiven r (restored k) turn.round answer x c.judges_with.new.self) c.in-Apart.is told in
     apart_for w q older k route answer byte limits keeps turn rows given.0 given.1 c.args.self.now c.args.table.now
 
 pub returns-in-Refused-clause-told : goal.returns-in-Refused-clause-told
@@ -160,9 +163,9 @@ returns-in-Refused-clause-told c = λ w q older rows k route keeps below byte no
     let seen = c.args.round.now in
     let body = c.body-body.ensures ∙ body_is w q older k route answer byte limits keeps turn rows seen now in
     let small = few_messages w q older k carries few in
-    let first = subst (λ (x : Connection). connected.StandsFor x r k.responder) (sym c.reply_why-why.ensures.same) party.answerer in
-    let second = subst (λ (x : Connection). connected.StandsFor x r k.responder) (sym c.coming_key-key.ensures.same) first in
-    let told = c.judges.ensures r (restored k) turn.round set_up second small (answers_round w q older k route answer byte limits keeps turn rows seen now c.tag-2.result c.tag-2.ensures).1 (sym body) (subst IsBody (sym body) (kept_body w q older k turn.round carries turn.answers.0)) (kept_apart w q older k turn.round answer carries) in
-    let given = subst (λ (x : Judged). IsGiven r (restored k) turn.round answer x c.judges.new.self) c.in-Refused.is told in
-    refused_for w q older k route answer byte limits keeps turn rows c.reply_why-why.result given.0 given.1
-    (c.reply_why-why.ensures.told r (restored k) turn.round party.answerer small party.keys (sym body)) c.args.self.now c.args.table.now
+    let coming = c.prepare.ensures r k.responder party.answerer small in
+    let second = subst (λ (x : Connection). connected.StandsFor x r k.responder) (sym c.reply_why_with-why.ensures.same) party.answerer in
+    let told = c.judges_with.ensures r (restored k) turn.round set_up second small (answers_round w q older k route answer byte limits keeps turn rows seen now c.tag-2.result c.tag-2.ensures).1 (sym body) (subst IsBody (sym body) (kept_body w q older k turn.round carries turn.answers.0)) (kept_apart w q older k turn.round answer carries) coming in
+    let given = subst (λ (x : Judged). IsGiven r (restored k) turn.round answer x c.judges_with.new.self) c.in-Refused.is told in
+    refused_for w q older k route answer byte limits keeps turn rows c.reply_why_with-why.result given.0 given.1
+    (c.reply_why_with-why.ensures.told r (restored k) turn.round party.answerer small party.keys (sym body) coming) c.args.self.now c.args.table.now
