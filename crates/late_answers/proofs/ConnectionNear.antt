@@ -3,11 +3,12 @@ use Rattle.std.proofs.Common.{◌≡◌, ◌%◌, ◌∙◌, ℕ, List, [], sym,
 use Rattle.chunking.specs.Cutting as cutting
 use Rattle.chunking.specs.Keeping as keeping
 use Rattle.connection.specs.Connected as connected
+use Rattle.connection.specs.LateFetch.{with_ended}
 use Rattle.connection.specs.Live.{IsSlotOf}
 use Rattle.connection.specs.Negotiating.{IsUpTo}
 use Rattle.connection.specs.Sessions.{slot_of}
 use Rattle.connection.specs.declared.connected.Connection.{Connection}
-use Rattle.late_answers.specs.PassedConnection.{StandsNear, with_ended}
+use Rattle.late_answers.specs.PassedConnection.{StandsNear}
 use Rattle.late_answers.specs.PassedStands.{AreNear}
 use Rattle.request_rules.specs.LargeAnswer.{left_by}
 use Rattle.responder_machine.specs.History.{History, clear_turns, ended_of, kept_of}

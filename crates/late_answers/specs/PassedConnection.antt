@@ -1,15 +1,12 @@
 -- A connection that stands for one history stands for another that is near, once it has the last record of its ended session.
 -- This project's own.
-use Rattle.std.specs.Prelude.{◌≡◌, Option}
+use Rattle.std.specs.Prelude.{◌≡◌}
 use Rattle.connection.specs.Connected as connected
+use Rattle.connection.specs.LateFetch.{with_ended}
 use Rattle.connection.specs.declared.connected.Connection.{Connection}
 use Rattle.late_answers.specs.PassedStands.{AreNear}
-use Rattle.responder_machine.specs.History.{History, KeptRecord, ended_of, kept_of}
+use Rattle.responder_machine.specs.History.{History, ended_of, kept_of}
 use Rattle.responder_machine.specs.Setup.{RspSetup}
-
--- With another last record of the ended session.
-abbrev pub with_ended : Connection → Option KeptRecord → Connection
-with_ended seen last = record seen { sessions = record seen.sessions { ended = last } }
 
 -- The law.
 abbrev pub StandsNear : Type 0

@@ -24,6 +24,13 @@ impl Marks {
         }
     }
 
+    /// The same marks.
+    pub fn copy(&self) -> Marks
+        ensures { result ≡ self.now }
+    {
+        Marks { set: self.set }
+    }
+
     // The session of this RspSessionID was touched.
     fn mark(&mut self, id: u16)
         ensures own { 1 ≤ id → id ≤ 4 → mark_of self.new id ≡ true }
