@@ -165,7 +165,7 @@ asks_choice known a (ForChunk x handle number before) is asks = (false, subst (A
 asks_choice known a (InSession id ask) is asks = absurd (none-some a is)
 
 -- CAPABILITIES come whole.
-whole_caps : (q : ReqSetup) (h : History) (known : Bool) (aim : Aim) (m : List ℕ) (caps : Caps) (answer : List ℕ) (place : ℕ) → asked_in aim ≡ Some (GetCapabilities caps) → AsksIn known aim → carried_by q h m aim ≡ Whole answer place
+pub whole_caps : (q : ReqSetup) (h : History) (known : Bool) (aim : Aim) (m : List ℕ) (caps : Caps) (answer : List ℕ) (place : ℕ) → asked_in aim ≡ Some (GetCapabilities caps) → AsksIn known aim → carried_by q h m aim ≡ Whole answer place
     → (aim ≡ Plain (GetCapabilities caps)) × (answer ≡ m)
 unfolding carried_by
 whole_caps q h known (Plain a) m caps answer place is asks whole = (ap (λ (x : RequestMessage). Plain x) (same_Some a (GetCapabilities caps) is), cc whole)

@@ -107,7 +107,7 @@ tells_begun q h g c body next tells counts =
     subst (λ (l : History). IsBegun g l body) (sym tells.4) (record { sent = tells.0; waits = refl; is = tells.3; so = told_so q h tells.1.0 c tells.0 kind tells.2; counts = counts tells.0 })
 
 -- What is owed was sent by itself.
-abbrev IsTook : History → Type 0
+abbrev pub IsTook : History → Type 0
 IsTook [] = ⊥
 IsTook (Told c s d ∷ h) = ⊥
 IsTook (TookClear tag m led d ∷ h) = Unit {0}
@@ -118,7 +118,7 @@ alike_took (TookClear tag m led d) f h alike = tt
 alike_took (TookRecord tag id sealed inner led d) f h alike = tt
 alike_took (Told c s d) f h alike = absurd alike
 
-owed_took : (round : Option Round) (h g : History) (sd se : Option (List ℕ)) → AskersAlike round h g sd se → is_later round (outstanding h) ≡ true → IsTook h
+pub owed_took : (round : Option Round) (h g : History) (sd se : Option (List ℕ)) → AskersAlike round h g sd se → is_later round (outstanding h) ≡ true → IsTook h
 owed_took round _ _ _ _ (Settled h g agree not at) later = absurd (false≢true (sym not ∙ later))
 owed_took round _ _ _ _ (Owing e f h g s t agree alike out sent like tagged else still at) later = alike_took e f h alike
 owed_took round _ _ _ _ (Shown h g w v a b handle number s t u waits wait aims aim tags not at) later = absurd (false≢true (sym not ∙ ap (is_later round) (sym waits) ∙ later))

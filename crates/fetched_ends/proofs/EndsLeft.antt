@@ -1,4 +1,4 @@
--- What is told of an answer while no large one is fetched, and what of it is left unjudged.
+-- What is told of an answer while no large one is fetched: no part of a large answer is left.
 use Rattle.std.proofs.Common.{◌≡◌, ◌==◌, ◌∙◌, ℕ, List, ◌∷◌, refl, sym, ap, subst, length, drop, Bool, true, false, Option, Some, None, Result, Ok, Err, is_some, cond, inl, inr}
 use Rattle.std.specs.Prelude.{IfOk, slice_index}
 use Rattle.std.proofs.lemmas.Bool.{false≢true}
@@ -21,7 +21,7 @@ use Rattle.fetched_answers.proofs.RestQuiet.{none_pends_in_clear}
 use Rattle.fetched_ends.proofs.SessionsQuiet.{none_pends_in_session}
 use Rattle.fetched_ends.specs.BegunHeld.{IsLargeInClear}
 use Rattle.fetched_ends.specs.BegunIn.{IsLargeInRecord, IsLeftOther}
-use Rattle.fetched_ends.specs.JudgedEnds.{IsJudgedAnswer, IsLeft, StandsBehind}
+use Rattle.fetched_ends.specs.JudgedEnds.{IsJudgedAnswer, StandsBehind}
 use Rattle.fetched_ends.specs.declared.fetch.Fetch.{Fetch}
 use Rattle.large_requests.proofs.Meanwhile.{sending_is_alone}
 use Rattle.large_requests.specs.declared.large_request.LargeRequest.{LargeRequest}
@@ -104,19 +104,18 @@ module _ (w : Configuration) (q : ReqSetup) (older : List (List ℕ)) (k : Kept)
       by_outcome (Unopened b) may last = false≢true last
       by_outcome (Adds e) may last = none_gets_by round (slice_index round.body 0 == 5) refl e may (and_first (takes_get e) _ last)
 
-  -- What is left, where it is no LargeResponse.
-  pub is_left : (IsLargeInClear w k route.tag answer → ⊥) → (IsLargeInRecord w k route.tag answer → ⊥) → IsPartOfLarge w k route.tag answer → IsLeft w k route.tag answer
-  is_left clear sealed (round, at, inr (inr again)) = (round, at, again.0, again.1)
-  is_left clear sealed (round, at, inr (inl ends)) = absurd (no_last round ends)
-  is_left clear sealed (round, at, inl large) = by_type (slice_index round.body 0 == 5) refl
+  -- Where it is no LargeResponse, it is no part of a large one.
+  pub no_part : (IsLargeInClear w k route.tag answer → ⊥) → (IsLargeInRecord w k route.tag answer → ⊥) → IsPartOfLarge w k route.tag answer → ⊥
+  no_part clear sealed (round, at, inr ends) = no_last round ends
+  no_part clear sealed (round, at, inl large) = by_type (slice_index round.body 0 == 5) refl
     where
-      by_type : (b : Bool) → (slice_index round.body 0 == 5) ≡ b → IsLeft w k route.tag answer
-      by_type true type = absurd (clear (round, at, type, large))
-      by_type false type = absurd (sealed (round, at, type, large))
+      by_type : (b : Bool) → (slice_index round.body 0 == 5) ≡ b → ⊥
+      by_type true type = clear (round, at, type, large)
+      by_type false type = sealed (round, at, type, large)
 
   -- In a session it is none in the clear.
-  pub session_left : ((round : Round) → k.round ≡ Some round → (slice_index round.body 0 == 5) ≡ false) → (IsLargeInRecord w k route.tag answer → ⊥) → IsPartOfLarge w k route.tag answer → IsLeft w k route.tag answer
-  session_left record_came sealed part = is_left (λ is. false≢true (sym (record_came is.0 is.1.0) ∙ is.2)) sealed part
+  pub session_part : ((round : Round) → k.round ≡ Some round → (slice_index round.body 0 == 5) ≡ false) → (IsLargeInRecord w k route.tag answer → ⊥) → IsPartOfLarge w k route.tag answer → ⊥
+  session_part record_came sealed part = no_part (λ is. false≢true (sym (record_came is.0 is.1.0) ∙ is.2)) sealed part
 
   -- ---- What is told.
 
@@ -134,39 +133,46 @@ module _ (w : Configuration) (q : ReqSetup) (older : List (List ℕ)) (k : Kept)
           entries = c.entries;
         })
 
+    -- The requester asks for a chunk upon it.
+    asked_rest : (why : declared.Why) → IsReplied w q older rows k route answer (Ok (onward.Asked why)) new table → IsJudgedAnswer w q older rows packet route answer (Ok (onward.Asked why)) (record { talk = record talk { party = new }; fetched = o }) table
+    asked_rest why is = told_on w q older rows packet route answer is_answer k keeps (Ok (onward.Asked why)) new table is
+
     -- Whatever it is.
-    pub told_rest : (IsPartOfLarge w k route.tag answer → IsLeft w k route.tag answer) → (result : Result Onward declared.Why) → IsReplied w q older rows k route answer result new table
+    pub told_rest : (IsPartOfLarge w k route.tag answer → ⊥) → (result : Result Onward declared.Why) → IsReplied w q older rows k route answer result new table
         → IsJudgedAnswer w q older rows packet route answer result (record { talk = record talk { party = new }; fetched = o }) table
-    told_rest left (Ok onward.Kept) is = kept_rest is
-    told_rest left (Ok onward.Large) is = (k, keeps, left is)
-    told_rest left (Err why) is = told_on w q older rows packet route answer is_answer k keeps (Err why) new table is
+    told_rest none_left (Ok onward.Kept) is = kept_rest is
+    told_rest none_left (Ok onward.Large) is = none_left is
+    told_rest none_left (Ok (onward.Asked why)) is = asked_rest why is
+    told_rest none_left (Err why) is = told_on w q older rows packet route answer is_answer k keeps (Err why) new table is
 
     -- Of an answer to a record, where a part that is left is no LargeResponse.
     pub told_in : ((round : Round) → k.round ≡ Some round → (slice_index round.body 0 == 5) ≡ false) → (result : Result Onward declared.Why) → IsReplied w q older rows k route answer result new table → IsLeftOther w k route.tag answer result
         → IsJudgedAnswer w q older rows packet route answer result (record { talk = record talk { party = new }; fetched = o }) table
     told_in sealed (Ok onward.Kept) is other = kept_rest is
-    told_in sealed (Ok onward.Large) is other = (k, keeps, session_left sealed other is)
+    told_in sealed (Ok onward.Large) is other = session_part sealed other is
+    told_in sealed (Ok (onward.Asked why)) is other = asked_rest why is
     told_in sealed (Err why) is other = told_on w q older rows packet route answer is_answer k keeps (Err why) new table is
 
     -- The same of a call that may want memory.
-    pub all_rest : (IsPartOfLarge w k route.tag answer → IsLeft w k route.tag answer) → (result : Result (Result Onward declared.Why) OutOfMemory) → IfOk result (λ told. IsReplied w q older rows k route answer told new table)
+    pub all_rest : (IsPartOfLarge w k route.tag answer → ⊥) → (result : Result (Result Onward declared.Why) OutOfMemory) → IfOk result (λ told. IsReplied w q older rows k route answer told new table)
         → IfOk result (λ told. IsJudgedAnswer w q older rows packet route answer told (record { talk = record talk { party = new }; fetched = o }) table)
-    all_rest left (Ok told) is = told_rest left told is
-    all_rest left (Err fault) is = is
+    all_rest none_left (Ok told) is = told_rest none_left told is
+    all_rest none_left (Err fault) is = is
 
 -- ---- While a large request is sent.
 
 module _ (w : Configuration) (q : ReqSetup) (older : List (List ℕ)) (rows : List Row) (packet : List ℕ) (route : RouteFields) (answer : List ℕ) (new : Conversation) (o : Option Fetch) (rest : o ≡ None) (table : List Seen) where
-  sent_by : (party : Party) (large : Option LargeRequest) → is_some large ≡ true → conversations.StandsAs party large w q older rows → conversations.IsPart w q older route.tag answer → ⊥
-  sent_by party None is stands part = false≢true is
-  sent_by party (Some large) is stands part = sending_is_alone w q older stands.0 part.0 stands.1.sending part.1
+  sent_by : (party : Party) (large : Option LargeRequest) → is_some large ≡ true → conversations.StandsAs party large w q older rows → (k : Kept) → Keeps w q older k → ⊥
+  sent_by party None is stands k keeps = false≢true is
+  sent_by party (Some large) is stands k keeps = sending_is_alone w q older stands.0 k stands.1.sending keeps
 
-  -- No part of a large answer comes then.
+  -- No part of a large answer comes then, and the requester asks for no chunk.
   pub sent_rest : (party : Party) (large : Option LargeRequest) → is_some large ≡ true → conversations.StandsAs party large w q older rows → (result : Result (Result Onward declared.Why) OutOfMemory)
       → IfOk result (λ told. conversations.IsJudgedAnswer w q older rows packet route answer told new.party new.large table) → IfOk result (λ told. IsJudgedAnswer w q older rows packet route answer told (record { talk = new; fetched = o }) table)
   sent_rest party large is stands (Ok (Ok onward.Kept)) c =
       subst (λ (x : Option Fetch). StandsBehind (record { talk = new; fetched = x }) table w q older rows packet) (sym rest)
       (record { before = c.before; came = c.came; after = c.after; goes = c.goes; stands = c.stands; entries = c.entries })
-  sent_rest party large is stands (Ok (Ok onward.Large)) c = absurd (sent_by party large is stands c)
+  sent_rest party large is stands (Ok (Ok onward.Large)) c = sent_by party large is stands c.0 c.1
+  sent_rest party large is stands (Ok (Ok (onward.Asked why))) c = absurd (sent_by party large is stands c.0.0 c.0.1)
   sent_rest party large is stands (Ok (Err why)) c = c
   sent_rest party large is stands (Err fault) c = c

@@ -15,8 +15,9 @@ use Rattle.connection.specs.Connected as connected
 use Rattle.fetched_answers.proofs.ClearViews.{keys_stand_on, views_are_left}
 use Rattle.fetched_answers.specs.ClearSessions.{IsLeftBy, IsUnseenRequest}
 use Rattle.fetched_ends.proofs.HeldBegins.{IsBegunHere, behind, begun_here, led_here}
-use Rattle.fetched_ends.specs.Held.{IsLedTo, StandsBefore}
+use Rattle.fetched_ends.specs.Held.{HasGets, IsLedTo, StandsBefore}
 use Rattle.fetched_ends.specs.declared.held.Held.{Held}
+use Rattle.late_answers.specs.declared.marks.Marks.{Marks}
 use Rattle.requester_machine.specs.May.{IsSetUp}
 use Rattle.requester_machine.specs.Setup.{ReqSetup}
 use Rattle.responder_machine.specs.History.{Entry, History, kept_of}
@@ -37,16 +38,18 @@ module _ (w : Configuration) (q : ReqSetup) (older : List (List ℕ)) (k : Kept)
   abbrev pub Left : (left : History) → Type 0
   Left left = IsLeftBy (Clear turn.round.tag left_turn no_draw) k.responder left
 
-  pub stands_begun : (seen : Answerer) (seen_keys : AnswerKeys) (held : Held) (left : History) → held.tag ≡ turn.round.tag → Left left
+  pub stands_begun : (seen : Answerer) (seen_keys : AnswerKeys) (held : Held) (left : History) → held.tag ≡ turn.round.tag → held.late ≡ None → Left left
       → connected.StandsFor seen.connection (responder_for w k) left → answer_keys.StandFor seen_keys (responder_for w k) left
       → here.turned.message ≡ held.request → here.turned.reply ≡ held.reply → held.newest ≡ kept_of (behind w q older k route answer byte limits carries turn type large)
       → StandsBefore seen seen_keys held (responder_for w k) (behind w q older k route answer byte limits carries turn type large)
-  stands_begun seen seen_keys held left tag left_is stands keys request reply newest = record {
+  stands_begun seen seen_keys held left tag late left_is stands keys request reply newest = record {
     gets = [];
     turn = left_turn;
     before = k.responder;
     left = left;
-    behind = here.added ∙ ap (λ (n : ℕ). Clear n left_turn no_draw ∷ k.responder) (sym tag);
+    behind =
+        subst (λ (o : Option Marks). HasGets o held.tag left_turn [] k.responder (behind w q older k route answer byte limits carries turn type large)) (sym late)
+        (here.added ∙ ap (λ (n : ℕ). Clear n left_turn no_draw ∷ k.responder) (sym tag));
     are = tt;
     unseen = subst (λ (n : ℕ). IsUnseenRequest (Clear n left_turn no_draw)) (sym tag) here.unseen;
     left_is = subst (λ (n : ℕ). IsLeftBy (Clear n left_turn no_draw) k.responder left) (sym tag) left_is;

@@ -197,7 +197,7 @@ module _ (w : Configuration) (q : ReqSetup) (older : List (List ℕ)) (k : Kept)
       beside = record { asker = asker; keys = keys_begun w q older k route answer byte limits carries turn type large new.keys keys; number = number; places = places };
       at = at_is w q older k route answer byte limits carries turn type large;
       before =
-          stands_begun w q older k route answer byte limits carries turn type large new.answerer new.keys held left from.tag_is (left_here exchange left is leaves) stands
+          stands_begun w q older k route answer byte limits carries turn type large new.answerer new.keys held left from.tag_is from.late (left_here exchange left is leaves) stands
           (keys_by exchange new.keys r h left leaves keys) (asked_is w q older k route answer byte limits carries turn type large ∙ sym from.request)
           (it.reply ∙ sym from.reply_is) (from.newest ∙ sym newest_is);
       answer = from.answer f (none_came w q older k route answer byte limits carries turn type large);

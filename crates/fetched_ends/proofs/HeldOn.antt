@@ -1,20 +1,17 @@
 -- An answer with which a large one is fetched on in the clear: what the calls leave.
-use Rattle.std.proofs.Common.{◌≡◌, ◌∙◌, ◌<◌, ◌≤◌, ◌+◌, ◌-◌, ◌^◌, ℕ, List, ◌∷◌, ◌++◌, Bool, true, false, Option, Some, None, refl, sym, ap, subst, length, arith, is_some}
+use Rattle.std.proofs.Common.{◌≡◌, ◌<◌, ◌-◌, ◌^◌, ℕ, List, Some, sym, length, arith}
 use Rattle.capture_ends.proofs.FewMessages.{kept_messages}
 use Rattle.capture_ends.specs.Asker.{Carries}
 use Rattle.capture_ends.specs.declared.party.Party.{Party}
 use Rattle.capture_laws.specs.Changes.{views_in}
 use Rattle.capture_laws.specs.RepliesShown.{responder_for}
-use Rattle.fetched_answers.proofs.ClearViews.{views_are_left}
+use Rattle.fetched_ends.proofs.HasGets.{views_held}
 use Rattle.fetched_ends.proofs.HeldWhy.{few_left}
 use Rattle.fetched_ends.specs.Held.{IsHeldIn}
 use Rattle.fetched_ends.specs.declared.held.Held.{Held}
 use Rattle.large_answers.specs.Fetching.{Fetching, IsFetchingOf}
 use Rattle.requester_machine.specs.Setup.{ReqSetup}
 use Rattle.responder_machine.specs.BoundLaws.{messages_of}
-use Rattle.responder_machine.specs.History.{Entry, History}
-use Rattle.responder_machine.specs.History.Entry.{Clear}
-use Rattle.world_machine.specs.Rounds.{no_draw}
 use Rattle.world_machine.specs.SessionTable.{Row}
 use Rattle.world_machine.specs.Setup.{Configuration}
 
@@ -32,5 +29,4 @@ module _ (w : Configuration) (q : ReqSetup) (older : List (List ℕ)) (rows : Li
   pub views_here : views_in kept.before.left ≡ views_in f.kept.responder
   views_here =
       let b = kept.before in
-      let one : Entry = Clear held.tag b.turn no_draw in
-      sym (ap views_in b.behind ∙ views_are_left b.gets one b.before b.left b.are b.unseen b.left_is)
+      sym (views_held held.late held.tag b.turn b.gets b.before b.left f.kept.responder b.behind b.are b.unseen b.left_is)

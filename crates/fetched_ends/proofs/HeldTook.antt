@@ -16,9 +16,10 @@ use Rattle.capture_laws.specs.RepliesShown.{responder_for}
 use Rattle.capture_laws.specs.declared.verdict.Seen.{Seen}
 use Rattle.chunking.specs.Cutting.{chunk_count, chunk_end, nth_chunk, unit_of}
 use Rattle.fetched_answers.proofs.ClearChunks.{next_is_given}
-use Rattle.fetched_answers.proofs.ClearViews.{keys_stand_on, views_are_left}
+use Rattle.fetched_answers.proofs.ClearViews.{keys_stand_on}
 use Rattle.fetched_answers.proofs.MeanwhileClear.{get_goes_on}
 use Rattle.fetched_answers.specs.ClearChunks.{clear_with, get_entry, get_message, get_response}
+use Rattle.fetched_ends.proofs.HasGets.{gets_more, views_held}
 use Rattle.fetched_ends.proofs.HeardOn.{heard_on}
 use Rattle.fetched_ends.proofs.HeldCut.{can_be_cut}
 use Rattle.fetched_ends.proofs.HeldGave.{e, gave_there, get, message_is, p, response}
@@ -39,7 +40,6 @@ use Rattle.requester_machine.specs.May.{IsSetUp}
 use Rattle.requester_machine.specs.Setup.{ReqSetup}
 use Rattle.responder_machine.specs.History.{Entry, History, kept_of}
 use Rattle.responder_machine.specs.History as responder_history
-use Rattle.responder_machine.specs.History.Entry.{Clear}
 use Rattle.responder_machine.specs.Place.{place_terms}
 use Rattle.responder_machine.specs.Setup.{RspSetup}
 use Rattle.spdm_basis.proofs.Bools.{suc_units}
@@ -52,7 +52,7 @@ use Rattle.spdm_machine.specs.Bodies.{clear_body}
 use Rattle.large_answers.proofs.Sized.{chunk_few, transfer_few}
 use Rattle.world_machine.proofs.GetTells.{transfer_of}
 use Rattle.world_machine.specs.CapturedAnswers.{AnswersPlainly}
-use Rattle.world_machine.specs.Rounds.{Round, no_draw}
+use Rattle.world_machine.specs.Rounds.{Round}
 use Rattle.world_machine.specs.SessionTable.{Row}
 use Rattle.world_machine.specs.Setup.{Configuration}
 
@@ -118,11 +118,8 @@ module _ (w : Configuration) (q : ReqSetup) (older : List (List ℕ)) (rows : Li
       views_stay : views_in (added ∷ h) ≡ views_in h
       views_stay =
           let b = kept.before in
-          let one : Entry = Clear held.tag b.turn no_draw in
-          ap (λ (l : History). views_in (added ∷ l)) b.behind
-          ∙ views_are_left (added ∷ b.gets) one b.before b.left (refl, b.are) b.unseen b.left_is
-          ∙ sym (views_are_left b.gets one b.before b.left b.are b.unseen b.left_is)
-          ∙ ap views_in (sym b.behind)
+          views_held held.late held.tag b.turn (added ∷ b.gets) b.before b.left (added ∷ h) (gets_more held.late held.tag b.turn b.gets b.before h added b.behind) (refl, b.are) b.unseen b.left_is
+          ∙ sym (views_held held.late held.tag b.turn b.gets b.before b.left h b.behind b.are b.unseen b.left_is)
 
   abbrev pub shows : ShowsChunk f next answer
   shows =
@@ -178,7 +175,7 @@ module _ (w : Configuration) (q : ReqSetup) (older : List (List ℕ)) (rows : Li
         turn = b.turn;
         before = b.before;
         left = b.left;
-        behind = ap (λ (l : History). added ∷ l) b.behind;
+        behind = gets_more held.late held.tag b.turn b.gets b.before h added b.behind;
         are = (refl, b.are);
         unseen = b.unseen;
         left_is = b.left_is;

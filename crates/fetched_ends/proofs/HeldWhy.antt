@@ -1,5 +1,5 @@
 -- Why an answer is refused while a large one is fetched in the clear: it is told by what was left before its request.
-use Rattle.std.proofs.Common.{◌≡◌, ◌≢◌, ◌<◌, ◌≤◌, ◌+◌, ◌==◌, ◌||◌, ◌++◌, ◌⊎◌, ℕ, List, [], ◌∷◌, refl, sym, ap, ◌∙◌, subst, drop, arith, Bool, true, false, Option, Some, None, cond, inl, inr, Err}
+use Rattle.std.proofs.Common.{◌≡◌, ◌≤◌, ◌==◌, ◌||◌, ℕ, List, refl, sym, ap, ◌∙◌, subst, drop, arith, Bool, true, false, Option, Some, None, cond, inl, inr, Err}
 use Rattle.std.specs.Prelude.{MatchBool, slice_index}
 use Rattle.std.proofs.lemmas.Bool.{false≢true}
 use Rattle.mctp_framing.specs.Cutting.{RouteFields}
@@ -10,8 +10,8 @@ use Rattle.capture_ends.specs.declared.answer_keys.AnswerKeys.{AnswerKeys}
 use Rattle.capture_laws.specs.Judged.{why_of}
 use Rattle.capture_laws.specs.Keeping.{Kept, restored}
 use Rattle.capture_laws.specs.Order.{replies_wrong}
-use Rattle.fetched_answers.proofs.ClearViews.{clear_why_is_before}
-use Rattle.fetched_answers.specs.ClearSessions.{AreGets, IsLeftBy, IsUnseenRequest, IsWithoutHandshake}
+use Rattle.fetched_answers.specs.ClearSessions.{IsLeftBy, IsWithoutHandshake}
+use Rattle.fetched_ends.proofs.HasGets.{few_held, opens_held}
 use Rattle.fetched_ends.specs.Held.{StandsBefore}
 use Rattle.fetched_ends.specs.declared.held.Held.{Held}
 use Rattle.responder_machine.specs.BoundLaws.{messages_of}
@@ -28,14 +28,6 @@ use Rattle.world_machine.specs.Opening.{opens_answering}
 use Rattle.world_machine.specs.Rounds.{Dialogue, Round, no_draw}
 
 -- ---- How many messages came before.
-
-more_messages : (gets h : List Entry) → messages_of h ≤ messages_of (gets ++ h)
-more_messages [] h = omega arith
-more_messages (Clear tag t d ∷ gets) h = (let rest = more_messages gets h in omega (arith, rest))
-more_messages (Sealed tag m t reply d ∷ gets) h = (let rest = more_messages gets h in omega (arith, rest))
-more_messages (Queued bytes ∷ gets) h = more_messages gets h
-more_messages (Ticked seconds ∷ gets) h = more_messages gets h
-more_messages (Dropped id ∷ gets) h = more_messages gets h
 
 left_messages : (e : Entry) (before left : History) → IsLeftBy e before left → messages_of left ≡ messages_of before
 left_messages (Clear tag t d) before left is = by_code (takes PSK_EXCHANGE t) is
@@ -56,15 +48,12 @@ module _ (seen : Answerer) (keys : AnswerKeys) (held : Held) (r : RspSetup) (h :
   pub few_left : messages_of stands.left ≤ messages_of h
   few_left =
       let left = left_messages e stands.before stands.left stands.left_is in
-      let all = more_messages stands.gets (e ∷ stands.before) in
-      let is = ap messages_of stands.behind in
-      let one : messages_of (e ∷ stands.before) ≡ messages_of stands.before + 1 = refl in
-      omega (arith, left, all, is, one)
+      let all = few_held held.late held.tag stands.turn stands.gets stands.before h stands.behind in
+      omega (arith, left, all)
 
   -- It opens as by what was left.
   pub opens_left : (m sealed : List ℕ) → opens_answering r h true m sealed ≡ opens_answering r stands.left true m sealed
-  opens_left m sealed =
-      ap (λ (l : History). opens_answering r l true m sealed) stands.behind ∙ clear_why_is_before r stands.gets e stands.before stands.left m sealed stands.are stands.unseen stands.left_is
+  opens_left = opens_held held.late held.tag stands.turn stands.gets stands.before stands.left h stands.behind stands.are stands.unseen stands.left_is r
 
   -- A reason by what was left is the reason.
   pub why_left : (d : Dialogue) (answer : List ℕ) (round : Round) → d.responder ≡ stands.left → (slice_index round.body 0 == 5) ≡ true

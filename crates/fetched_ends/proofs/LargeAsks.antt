@@ -168,7 +168,7 @@ large_short : (c : Option ChunkMessage) (handle : ℕ) → length (large_reply c
 large_short None handle = omega arith
 large_short (Some c) handle = omega arith
 
-chunk_sent : (o : Option RequestMessage) (c : ChunkMessage) → chunk_in o ≡ Some c → o ≡ Some (ChunkSend c)
+pub chunk_sent : (o : Option RequestMessage) (c : ChunkMessage) → chunk_in o ≡ Some c → o ≡ Some (ChunkSend c)
 chunk_sent None c is = absurd (none-some c is)
 chunk_sent (Some (ChunkSend x)) c is = ap (λ (y : ChunkMessage). Some (ChunkSend y)) (same_Some x c is)
 chunk_sent (Some GetVersion) c is = absurd (none-some c is)
@@ -192,7 +192,7 @@ large_fits true n small = small
 large_fits false n small = tt
 
 -- One chunk is read as it was sent.
-piece_read : (len transfer handle number : ℕ) (whole : List ℕ) → handle < 256 → number < 2 ^ 16 → length whole ≤ 4096 → transfer < 2 ^ 32
+pub piece_read : (len transfer handle number : ℕ) (whole : List ℕ) → handle < 256 → number < 2 ^ 16 → length whole ≤ 4096 → transfer < 2 ^ 32
     → chunk_in (request_in len (canonical_request (ChunkSend (nth_chunk transfer handle whole number)))) ≡ Some (nth_chunk transfer handle whole number)
 piece_read len transfer handle number whole byte few short most =
     let c : ChunkMessage = nth_chunk transfer handle whole number in

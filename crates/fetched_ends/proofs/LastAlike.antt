@@ -47,7 +47,7 @@ module _ (tag handle transfer : ℕ) (whole : List ℕ) (h : History) (at : (n :
       ap (λ (x : ℕ). get_entry tag handle n (canonical_response (ChunkResponse (nth_chunk x handle whole n))) ∷ with_large None whole (gets_behind tag handle whole h n)) (at n)
       ∙ ap (λ (l : History). get_entry tag handle n (canonical_response (ChunkResponse (nth_chunk transfer handle whole n))) ∷ l) (behind_list n)
 
-abbrev get_turn : (handle number : ℕ) → (response : List ℕ) → Turn
+abbrev pub get_turn : (handle number : ℕ) → (response : List ℕ) → Turn
 get_turn handle number response = record {
   message = get_message handle number;
   refused = None;
@@ -73,7 +73,7 @@ ended_by t rest gets =
     let others = get_others t gets in
     ap (λ (b : Bool). cond (b || takes PSK_EXCHANGE t) None rest) others.0 ∙ ap (λ (b : Bool). cond b None rest) others.1
 
-gets_ended : (gets : List Entry) (h : History) → AreGets gets → ended_of (gets ++ h) ≡ ended_of h
+pub gets_ended : (gets : List Entry) (h : History) → AreGets gets → ended_of (gets ++ h) ≡ ended_of h
 gets_ended [] h are = refl
 gets_ended (Clear tag t d ∷ gets) h are = ended_by t (ended_of (gets ++ h)) (and_first (takes CHUNK_GET t) _ are.0) ∙ gets_ended gets h are.1
 gets_ended (Sealed tag m t reply d ∷ gets) h are = absurd (false≢true are.0)

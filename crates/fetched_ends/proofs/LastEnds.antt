@@ -1,9 +1,7 @@
 -- The last chunk of a large answer that is held, of bytes to which its request leads: the fetch ends by it.
-use Rattle.std.proofs.Common.{◌≡◌, ◌≢◌, ◌<◌, ◌+◌, ◌^◌, ◌==◌, ◌&&◌, ◌||◌, ◌++◌, ◌∙◌, ℕ, List, [], ◌∷◌, refl, sym, ap, subst, drop, length, Bool, true, false, Option, Some, None, Ok, cond, inr, is_some, arith}
-use Rattle.std.specs.Prelude.{not, slice_index}
-use Rattle.std.proofs.lemmas.Bool.{false≢true}
+use Rattle.std.proofs.Common.{◌≡◌, ◌≢◌, ◌<◌, ◌+◌, ◌^◌, ◌==◌, ◌&&◌, ◌||◌, ◌∙◌, ℕ, List, [], ◌∷◌, refl, sym, ap, subst, length, Bool, true, false, Option, Some, None, Ok, cond, inr, arith}
+use Rattle.std.specs.Prelude.{not}
 use Rattle.std.proofs.lemmas.Option.{same_Some}
-use Rattle.spdm_basis.proofs.Bools.{and_second}
 use Rattle.mctp_framing.specs.Cutting.{RouteFields}
 use Rattle.mctp_framing.specs.Gathering.Gathered.{Whole}
 use Rattle.capture_ends.proofs.InTurn.{AnswersInTurn}
@@ -27,9 +25,9 @@ use Rattle.capture_laws.specs.declared.change.Change.{Change}
 use Rattle.capture_laws.specs.declared.verdict.Seen.{Seen}
 use Rattle.connection.specs.Connected as connected
 use Rattle.connection.specs.declared.connected.Connection.{Connection}
-use Rattle.fetched_answers.specs.ClearSessions.{AreGets}
 use Rattle.fetched_answers.specs.LastShown.{IsShownEntry, drops_with}
 use Rattle.fetched_ends.proofs.ChangesOn.{accepted_on, asked_on}
+use Rattle.fetched_ends.proofs.FrontHeld.{begun_held, given_messages}
 use Rattle.fetched_ends.proofs.HeardOn.{IsHeardOn, heard_on}
 use Rattle.fetched_ends.proofs.HeldOn.{carries}
 use Rattle.fetched_ends.proofs.HeldRounds.{place}
@@ -39,6 +37,7 @@ use Rattle.fetched_ends.proofs.LastWhole.{answer_seen}
 use Rattle.fetched_ends.specs.Fetched.{IsRepliedTo, rows_upon}
 use Rattle.fetched_ends.specs.Held.{IsHeldIn, IsShownChunk, StandsBefore, filled_with, repeats_held}
 use Rattle.fetched_ends.specs.LastHeld.{begun_if}
+use Rattle.fetched_ends.specs.LastMarked.{IsUnmarked}
 use Rattle.fetched_ends.specs.declared.held.Held.{Held}
 use Rattle.fetched_ends.specs.declared.shown.Shown.TheVariants as shown
 use Rattle.fetched_ends.specs.declared.upon.Upon.TheVariants as upon
@@ -49,20 +48,19 @@ use Rattle.requester_machine.specs.May.{IsSetUp}
 use Rattle.requester_machine.specs.Setup.{ReqSetup}
 use Rattle.responder_machine.specs.BoundLaws.{messages_of}
 use Rattle.responder_machine.specs.History.{Entry, History}
-use Rattle.responder_machine.specs.History.Entry.{Clear, Sealed, Queued, Ticked, Dropped}
-use Rattle.responder_machine.specs.May.{with_dropped}
+use Rattle.responder_machine.specs.History.Entry.{Clear}
 use Rattle.responder_machine.specs.Responder.Outcome.{Adds}
 use Rattle.responder_machine.specs.Setup.{RspSetup}
-use Rattle.responder_machine.specs.Turn.{Turn, answer_in, handle_in, takes}
+use Rattle.responder_machine.specs.Turn.{Turn, answer_in, takes}
 use Rattle.spdm_grammar.specs.Message.RequestMessage.{GetVersion}
 use Rattle.spdm_grammar.specs.Requests.{canonical_request}
-use Rattle.spdm_grammar.specs.declared.names.request_code.TheConstants.{CHUNK_GET, PSK_EXCHANGE}
+use Rattle.spdm_grammar.specs.declared.names.request_code.TheConstants.{PSK_EXCHANGE}
 use Rattle.spdm_machine.specs.Bodies.{clear_body}
 use Rattle.spdm_machine.specs.Sessions.{id_in_exchange}
 use Rattle.world_machine.proofs.FetchedSessions.{takes_with}
 use Rattle.world_machine.specs.Capture.{RepliesBy}
 use Rattle.world_machine.specs.CapturedAnswers.{Answers, Completes}
-use Rattle.world_machine.specs.LargeAnswers.{handle_shown, is_fetching, is_unseen_effect, is_unseen_in, place_named, seen, seen_turn, while_fetched}
+use Rattle.world_machine.specs.LargeAnswers.{handle_shown, is_fetching, place_named, seen, seen_turn, while_fetched}
 use Rattle.world_machine.specs.Rounds.{Dialogue, Round, no_draw}
 use Rattle.world_machine.specs.SessionTable.{Row, number_from}
 use Rattle.world_machine.specs.Setup.{Configuration}
@@ -87,42 +85,6 @@ moved_before old new keys held r h same b = record {
   reply = b.reply;
   newest = b.newest;
 }
-
--- ---- The session that the whole begins.
-
-get_seen : (t : Turn) → (takes CHUNK_GET t && not (is_unseen_effect t.effect || is_some (handle_in t.effect))) ≡ true → is_unseen_effect t.effect ≡ false
-get_seen t is = by_parts (is_unseen_effect t.effect) (is_some (handle_in t.effect)) (and_second (takes CHUNK_GET t) _ is)
-  where
-    by_parts : (a b : Bool) → not (a || b) ≡ true → a ≡ false
-    by_parts true b is = absurd (false≢true is)
-    by_parts false b is = refl
-
-module _ (v : List ℕ) (tag : ℕ) (t : Turn) (before : History) where
-  abbrev e : Entry
-  e = Clear tag t no_draw
-
-  pub begins_here : (gets : List Entry) → AreGets gets → is_unseen_in None (Clear tag t no_draw) ≡ true → begun_by_large None v (gets ++ Clear tag t no_draw ∷ before) ≡ begun_by (Adds (seen v (Clear tag t no_draw)))
-  begins_here [] are un = ap (λ (b : Bool). cond b (begun_by (Adds (seen v e))) (begun_by_large None v before)) un
-  begins_here (Clear other u d ∷ gets) are un =
-      ap (λ (b : Bool). cond b (begun_by (Adds (seen v (Clear other u d)))) (begun_by_large None v (gets ++ e ∷ before))) (get_seen u are.0) ∙ begins_here gets are.1 un
-  begins_here (Sealed other m u reply d ∷ gets) are un = absurd (false≢true are.0)
-  begins_here (Queued bytes ∷ gets) are un = absurd (false≢true are.0)
-  begins_here (Ticked seconds ∷ gets) are un = absurd (false≢true are.0)
-  begins_here (Dropped id ∷ gets) are un = absurd (false≢true are.0)
-
--- ---- How many messages there are.
-
-dropped_messages : (ids : List ℕ) (h : History) → messages_of (with_dropped h ids) ≡ messages_of h
-dropped_messages [] h = refl
-dropped_messages (id ∷ ids) h = dropped_messages ids (Dropped id ∷ h)
-
-same_messages : (tag : ℕ) (t u : Turn) (before : History) (ids : List ℕ) (gets : List Entry) → messages_of (gets ++ Clear tag t no_draw ∷ before) ≡ messages_of (gets ++ Clear tag u no_draw ∷ with_dropped before ids)
-same_messages tag t u before ids [] = ap (λ (n : ℕ). n + 1) (sym (dropped_messages ids before))
-same_messages tag t u before ids (Clear other x d ∷ gets) = ap (λ (n : ℕ). n + 1) (same_messages tag t u before ids gets)
-same_messages tag t u before ids (Sealed other m x reply d ∷ gets) = ap (λ (n : ℕ). n + 1) (same_messages tag t u before ids gets)
-same_messages tag t u before ids (Queued bytes ∷ gets) = same_messages tag t u before ids gets
-same_messages tag t u before ids (Ticked seconds ∷ gets) = same_messages tag t u before ids gets
-same_messages tag t u before ids (Dropped id ∷ gets) = same_messages tag t u before ids gets
 
 module _ (w : Configuration) (q : ReqSetup) (older : List (List ℕ)) (rows : List Row) (f : Fetching) (own : IsFetchingOf w q older f) (party : Party) (held : Held) (kept : IsHeldIn party held w q f rows) (route : RouteFields) (answer : List ℕ) (limits : IsSetUp f.kept.setup) (turn : AnswersInTurn f.kept route answer)
     (other : turn.round.body ≢ clear_body (canonical_request GetVersion)) (anew : repeats_held held turn.round.tag turn.round.body ≡ false) (shows : IsShownChunk held turn.round.body answer shown.Last) (byte : w.responder.beat < 256) where
@@ -155,14 +117,15 @@ module _ (w : Configuration) (q : ReqSetup) (older : List (List ℕ)) (rows : Li
 
   pub behind_few : messages_of f.kept.responder + 1 < 2 ^ 64 → messages_of behind < 2 ^ 64
   behind_few less =
-      let same = ap messages_of kept.before.behind ∙ same_messages held.tag t (seen_turn v t) kept.before.before (drops_with kept.before.before (seen v (Clear held.tag t no_draw))) kept.before.gets in
+      let same = given_messages v (drops_with kept.before.before (seen v (Clear held.tag t no_draw))) h in
       omega (arith, less, same)
 
-  module _ (led : IsShownEntry (responder_for w f.kept) kept.before.before (seen (filled_with held answer) (Clear held.tag kept.before.turn no_draw))) where
+  module _ (led : IsShownEntry (responder_for w f.kept) kept.before.before (seen (filled_with held answer) (Clear held.tag kept.before.turn no_draw)))
+      (unmarked : IsUnmarked held.late kept.before.before (seen (filled_with held answer) (Clear held.tag kept.before.turn no_draw))) where
     pub completes : Completes (responder_for w f.kept) (dialogue_of f (filled_with held answer)) turn.round answer behind
     completes =
         (last_ends w q older rows f own party held kept round turn.answers.0 other anew v stand byte answer
-        (last.is_chunk w q older rows f own party held kept round turn.answers.0 other anew answer shows byte) (last.none_left w q older rows f own party held kept round turn.answers.0 other anew answer shows byte) behind).1 (led, refl)
+        (last.is_chunk w q older rows f own party held kept round turn.answers.0 other anew answer shows byte) (last.none_left w q older rows f own party held kept round turn.answers.0 other anew answer shows byte) behind).1 (led, unmarked, refl)
 
     carried : Carries w q older f.kept
     carried = carries w q older rows f own party held kept
@@ -210,7 +173,7 @@ module _ (w : Configuration) (q : ReqSetup) (older : List (List ℕ)) (rows : Li
           let none : place_named round.body ≡ None = place w q older rows f own party held kept round turn.answers.0 other in
           let newest : completes.2 ≡ first_of behind completes.2 = sym (ap (λ (l : History). first_of l completes.2) completes.8) in (
             law.0 ∙ ap (λ (o : Option ℕ). begun_by_large o completes.0 h) none ∙ ap (λ (l : List ℕ). begun_by_large None l h) same
-                ∙ ap (begun_by_large None v) kept.before.behind ∙ begins_here v held.tag t kept.before.before kept.before.gets kept.before.are kept.before.unseen.0,
+                ∙ begun_held held.late held.tag t kept.before.gets kept.before.before h v kept.before.behind kept.before.are kept.before.unseen,
             law.1 ∙ ap (λ (x : Entry). answered_by (Adds x)) newest,
           )
         where

@@ -19,7 +19,7 @@ seen_by true b is = absurd (false≢true is)
 seen_by false b is = refl
 
 -- CHUNK_GET was seen.
-get_seen : (t : Turn) → (takes CHUNK_GET t && not (is_unseen_effect t.effect || is_some (handle_in t.effect))) ≡ true → is_unseen_effect t.effect ≡ false
+pub get_seen : (t : Turn) → (takes CHUNK_GET t && not (is_unseen_effect t.effect || is_some (handle_in t.effect))) ≡ true → is_unseen_effect t.effect ≡ false
 get_seen t is = seen_by (is_unseen_effect t.effect) (is_some (handle_in t.effect)) (and_second (takes CHUNK_GET t) _ is)
 
 unseen_clear : (e : Entry) → IsUnseenRequest e → is_unseen_in None e ≡ true

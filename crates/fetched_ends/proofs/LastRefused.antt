@@ -1,5 +1,5 @@
 -- The last chunk of a large answer that is held, which is refused, and why.
-use Rattle.std.proofs.Common.{◌≡◌, ◌≢◌, ◌≤◌, ◌<◌, ◌+◌, ◌*◌, ◌==◌, ◌&&◌, ◌||◌, ◌++◌, ◌⊎◌, ◌∙◌, ℕ, List, [], ◌∷◌, refl, sym, ap, subst, drop, take, length, arith, Bool, true, false, Option, Some, None, Err, cond, inl, inr, eqb-true}
+use Rattle.std.proofs.Common.{◌≡◌, ◌≢◌, ◌≤◌, ◌<◌, ◌+◌, ◌==◌, ◌&&◌, ◌||◌, ◌∙◌, ℕ, List, ◌∷◌, refl, sym, ap, subst, drop, take, length, arith, Bool, true, false, Option, Some, None, Err, cond, inl, inr}
 use Rattle.std.specs.Prelude.{bytes_eq, nat_lt, not, slice_index}
 use Rattle.std.proofs.lemmas.Bool.{false≢true}
 use Rattle.std.proofs.lemmas.List.{take_all}
@@ -17,7 +17,7 @@ use Rattle.capture_laws.specs.LargeShown.{ends_large, last_shown}
 use Rattle.capture_laws.specs.RepliesShown.{responder_for}
 use Rattle.capture_laws.specs.declared.verdict.Seen.{Seen}
 use Rattle.chunking.proofs.ChunkSteps as step
-use Rattle.chunking.specs.Cutting.{chunk_count, chunk_end, unit_of}
+use Rattle.chunking.specs.Cutting.{chunk_count, chunk_end}
 use Rattle.fetched_answers.proofs.ClearChunks.{next_is_given}
 use Rattle.fetched_answers.proofs.LastApart.{code_is, code_settles, gets_settle, last_apart_is_shown}
 use Rattle.fetched_answers.proofs.LastShown as last_law
@@ -25,10 +25,11 @@ use Rattle.fetched_answers.proofs.MeanwhileClear as meanwhile
 use Rattle.fetched_answers.proofs.MeanwhileClear.{get_begins_none, get_completes, get_goes_on}
 use Rattle.fetched_answers.proofs.NotApart.{replies_are_not_apart}
 use Rattle.fetched_answers.specs.ClearApart.{IsLastApart, LeadsToOther}
-use Rattle.fetched_answers.specs.ClearChunks.{clear_with, get_entry, get_message, get_response}
+use Rattle.fetched_answers.specs.ClearChunks.{clear_with, get_message, get_response}
 use Rattle.fetched_answers.specs.LastShown.{IsShownEntry, drops_with}
 use Rattle.fetched_answers.specs.WholeValues.{values_with_whole}
 use Rattle.fetched_ends.proofs.AsksTold.{answers_tell_asking}
+use Rattle.fetched_ends.proofs.FrontApart.{from_apart, to_apart}
 use Rattle.fetched_ends.proofs.HeldCut.{can_be_cut}
 use Rattle.fetched_ends.proofs.HeldGave as gave
 use Rattle.fetched_ends.proofs.HeldNever.{clear_shape}
@@ -37,13 +38,16 @@ use Rattle.fetched_ends.proofs.HeldWhy.{reason_is, why_left}
 use Rattle.fetched_ends.proofs.LastInClear.{last_ends}
 use Rattle.fetched_ends.proofs.LastRound as round_of
 use Rattle.fetched_ends.proofs.LastWhole as whole_of
+use Rattle.fetched_ends.proofs.WalksUndrawn.{AreUndrawn, walks_undrawn}
 use Rattle.fetched_ends.specs.Fetched.{IsFetchedWhy, IsRepliedTo}
-use Rattle.fetched_ends.specs.Held.{IsHeldIn, IsShownChunk, StandsBefore, filled_with, repeats_held}
+use Rattle.fetched_ends.specs.Held.{HasGets, IsHeldIn, IsShownChunk, StandsBefore, filled_with, repeats_held}
 use Rattle.fetched_ends.specs.LastHeld.{IsLedApart, hash_at}
+use Rattle.fetched_ends.specs.LastMarked.{IsUnmarked}
 use Rattle.fetched_ends.specs.declared.held.Held.{Held}
 use Rattle.fetched_ends.specs.declared.shown.Shown.TheVariants as shown
 use Rattle.large_answers.specs.Fetching.{Fetching, IsFetchingOf, MayStand, dialogue_of, number_of}
 use Rattle.large_answers.specs.FetchingLaws.{AnswersFrom, EndsFetching, GoesFetching, TurnsFetching}
+use Rattle.late_answers.specs.declared.marks.Marks.{Marks}
 use Rattle.requester_machine.specs.May.{IsSetUp}
 use Rattle.requester_machine.specs.Setup.{ReqSetup}
 use Rattle.responder_machine.specs.History.{Entry, History, clear_turns, negotiation_of}
@@ -158,12 +162,13 @@ module _ (w : Configuration) (q : ReqSetup) (older : List (List ℕ)) (rows : Li
       let asks = get u stands in
       get_begins_none next_is_given r (dialogue_of f u) u round asks.handle (number_of f) answer next whole refl asks.body asks.next large
 
-  shown_by : (u : List ℕ) (stands : MayStand f u) (next : History) → Completes r (dialogue_of f u) round answer next → IsShownEntry r b.before (seen v e)
+  shown_by : (u : List ℕ) (stands : MayStand f u) (next : History) → Completes r (dialogue_of f u) round answer next → IsShownEntry r b.before (seen v e) × IsUnmarked held.late b.before (seen v e)
   shown_by u stands next completes =
       let asks = get u stands in
       let ends = (get_completes next_is_given r (dialogue_of f u) u round asks.handle (number_of f) answer next refl asks.body asks.next).0 completes in
       let same = same_whole u stands ends.1 in
-      ((last_ends w q older rows f own party held kept round turn.answers.0 other anew v stand byte answer is_chunk none_left next).0 (subst (λ (x : List ℕ). Completes r (dialogue_of f x) round answer next) same completes)).0
+      let shown = (last_ends w q older rows f own party held kept round turn.answers.0 other anew v stand byte answer is_chunk none_left next).0 (subst (λ (x : List ℕ). Completes r (dialogue_of f x) round answer next) same completes) in
+      (shown.0, shown.1)
 
   one_round : (rd : Round) → f.kept.round ≡ Some rd → rd ≡ round
   one_round rd at = same_Some rd round (sym at ∙ turn.answers.0)
@@ -178,14 +183,15 @@ module _ (w : Configuration) (q : ReqSetup) (older : List (List ℕ)) (rows : Li
       by_from (inl large) = large_never c.2.2.0 c.2.2.3 c.2.2.1 large.0.0 large.0.1
       by_from (inr again) = none-some c.2.2.0 (sym again.0.1.0)
 
-  -- It ends the fetch only where the request leads to all bytes.
+  -- It ends the fetch only where the request leads to all bytes, and no mark is set of the session that they begin.
   pub ends_shown : (next : Kept) → EndsFetching w f (Whole route answer) next → IsShownEntry (responder_for w f.kept) kept.before.before (seen (filled_with held answer) (Clear held.tag kept.before.turn no_draw))
+      × IsUnmarked held.late kept.before.before (seen (filled_with held answer) (Clear held.tag kept.before.turn no_draw))
   unfolding Answers
   ends_shown next c =
       let replies = c.3.2 in
       by_answer replies.4.0 replies.4.1 (subst (λ (x : Round). Answers r (dialogue_of f c.0) x answer replies.4.0 replies.4.1) (one_round replies.0 replies.1) replies.4.2)
     where
-      by_answer : (behind : History) (fetching : Option (List ℕ)) → Answers r (dialogue_of f c.0) round answer behind fetching → IsShownEntry r b.before (seen v e)
+      by_answer : (behind : History) (fetching : Option (List ℕ)) → Answers r (dialogue_of f c.0) round answer behind fetching → IsShownEntry r b.before (seen v e) × IsUnmarked held.late b.before (seen v e)
       by_answer behind fetching (inl plain) = absurd (plain_never c.0 c.2 behind plain.0)
       by_answer behind fetching (inr (inl large)) = absurd (large_never c.0 c.2 behind large.0 large.1)
       by_answer behind fetching (inr (inr (inl again))) = absurd (none-some c.0 (sym again.1.0))
@@ -202,18 +208,75 @@ module _ (w : Configuration) (q : ReqSetup) (older : List (List ℕ)) (rows : Li
   body_is : round.body ≡ clear_body m
   body_is = clear_shape round.body (type w q older rows f own party held kept round turn.answers.0 other)
 
-  abbrev law : (CompletesApart r (dialogue_of f v) round answer → IsLastApart r h round answer v e b.before (verify_size (dialogue_of f v))) × (IsLastApart r h round answer v e b.before (verify_size (dialogue_of f v)) → CompletesApart r (dialogue_of f v) round answer)
-  law = last_apart_is_shown r (dialogue_of f v) round answer v b.gets e b.before byte refl (type w q older rows f own party held kept round turn.answers.0 other) b.are b.unseen b.behind
+  abbrev HasHere : Option Marks → Type 0
+  HasHere late = HasGets late held.tag t b.gets b.before h
 
-  -- The size of verify data, where the request is PSK_EXCHANGE.
-  sized : (whole : List ℕ) (size : ℕ) (apart : is_apart size whole v ≡ true) (code : slice_index whole 1 ≡ PSK_EXCHANGE_RSP) → LeadsToOther r b.before e v whole → verify_size (dialogue_of f v) ≡ hash_at b.before
-  sized whole size apart code leads =
-      let ids : List ℕ = drops_with b.before (seen v e) in
-      let exchange = code_is r byte b.before held.tag t no_draw b.unseen.0 v whole code size apart ids (values_with_whole r (with_dropped b.before ids) held.tag (clear_body t.message) (clear_body t.reply) v) leads in
-      ap (λ (l : History). hash_len (terms_of (negotiation_of (clear_turns l)))) b.behind
-      ∙ ap (λ (n : Negotiation). hash_len (terms_of n)) (gets_settle b.gets (e ∷ b.before) b.are ∙ code_settles t (clear_turns b.before) PSK_EXCHANGE exchange refl)
+  abbrev undrawn : AreUndrawn h
+  undrawn = walks_undrawn w q older (dialogue_of f own.stands.0) (own.all own.stands.0 own.stands.1)
 
-  apart_by : (u : List ℕ) (stands : MayStand f u) → CompletesApart r (dialogue_of f u) round answer → Apart
+  here : place_named round.body ≡ None
+  here = place w q older rows f own party held kept round turn.answers.0 other
+
+  -- The last chunk, as an entry.
+  abbrev entry : Entry
+  entry = gave.e w q older rows f own party held kept round turn.answers.0 other anew v stand
+
+  gives : gives_last (with_large (place_named round.body) v h) entry ≡ true
+  gives = ap (λ (o : Option ℕ). gives_last (with_large o v h) entry) here ∙ meanwhile.last_is r h v round.tag (get v stand).handle (number_of f) (get v stand).next ∙ ap not none_left
+
+  -- Where the request came last.
+  module _ (has : HasGets None held.tag t b.gets b.before h) where
+    abbrev law : (CompletesApart r (dialogue_of f v) round answer → IsLastApart r h round answer v e b.before (verify_size (dialogue_of f v))) × (IsLastApart r h round answer v e b.before (verify_size (dialogue_of f v)) → CompletesApart r (dialogue_of f v) round answer)
+    law = last_apart_is_shown r (dialogue_of f v) round answer v b.gets e b.before byte refl (type w q older rows f own party held kept round turn.answers.0 other) b.are b.unseen has
+
+    -- The size of verify data, where the request is PSK_EXCHANGE.
+    sized : (whole : List ℕ) (size : ℕ) (apart : is_apart size whole v ≡ true) (code : slice_index whole 1 ≡ PSK_EXCHANGE_RSP) → LeadsToOther r b.before e v whole → verify_size (dialogue_of f v) ≡ hash_at b.before
+    sized whole size apart code leads =
+        let ids : List ℕ = drops_with b.before (seen v e) in
+        let exchange = code_is r byte b.before held.tag t no_draw b.unseen.0 v whole code size apart ids (values_with_whole r (with_dropped b.before ids) held.tag (clear_body t.message) (clear_body t.reply) v) leads in
+        ap (λ (l : History). hash_len (terms_of (negotiation_of (clear_turns l)))) has
+        ∙ ap (λ (n : Negotiation). hash_len (terms_of n)) (gets_settle b.gets (e ∷ b.before) b.are ∙ code_settles t (clear_turns b.before) PSK_EXCHANGE exchange refl)
+
+    new_to : CompletesApart r (dialogue_of f v) round answer → Apart
+    new_to c =
+        let s = law.0 c in
+        record {
+          other = s.other;
+          led = s.led;
+          code = s.code;
+          apart = subst (λ (n : ℕ). is_apart n s.other v ≡ true) (sized s.other (verify_size (dialogue_of f v)) s.apart s.code s.led) s.apart;
+        }
+
+    new_from : Apart → CompletesApart r (dialogue_of f v) round answer
+    new_from apart = law.1 is_last_apart
+      where
+        is_last : LeadsAt r (with_large (place_named round.body) v h) round.tag round.body (Adds entry) (values_shown_by r (with_large (place_named round.body) v h) round.tag round.body answer) × (last_shown r (with_large (place_named round.body) v h) round.tag round.body answer ≡ Adds entry)
+        is_last = last_law.last_is r (with_large (place_named round.body) v h) round.tag round.body byte entry answer (gave.leads w q older rows f own party held kept round turn.answers.0 other anew v stand) gives (sym is_chunk)
+
+        is_last_apart : IsLastApart r h round answer v e b.before (verify_size (dialogue_of f v))
+        is_last_apart =
+            let k : History = with_large (place_named round.body) v h in
+            record {
+              leads = subst (λ (o : Outcome). LeadsAt r k round.tag round.body o (values_shown_by r k round.tag round.body answer)) (sym is_last.1) is_last.0;
+              last = subst (λ (o : Outcome). ends_large k o ≡ true) (sym is_last.1) gives;
+              body = ap body_of is_last.1 ∙ sym is_chunk;
+              other = apart.other;
+              led = apart.led;
+              code = apart.code;
+              apart = subst (λ (n : ℕ). is_apart n apart.other v ≡ true) (sym (sized apart.other (hash_at b.before) apart.apart apart.code apart.led)) apart.apart;
+            }
+
+  -- Its verify data are alone wrong exactly where the request leads to bytes from which they are apart, and no mark is set.
+  apart_to : (late : Option Marks) → HasHere late → CompletesApart r (dialogue_of f v) round answer → Apart × IsUnmarked late b.before (seen v e)
+  apart_to None has c = (new_to has c, tt)
+  apart_to (Some marks) has c = to_apart r byte held.tag t b.before b.unseen v marks b.gets h has undrawn b.are (dialogue_of f v) refl refl round here answer c
+
+  apart_from : (late : Option Marks) → HasHere late → Apart → IsUnmarked late b.before (seen v e) → CompletesApart r (dialogue_of f v) round answer
+  apart_from None has apart none = new_from has apart
+  apart_from (Some marks) has apart none =
+      from_apart r byte held.tag t b.before b.unseen v marks b.gets h has undrawn b.are (dialogue_of f v) refl refl round here answer apart none entry (gave.leads w q older rows f own party held kept round turn.answers.0 other anew v stand) gives (sym is_chunk)
+
+  apart_by : (u : List ℕ) (stands : MayStand f u) → CompletesApart r (dialogue_of f u) round answer → Apart × IsUnmarked held.late b.before (seen v e)
   apart_by u stands c =
       let leads : MayLeadTo r (with_large None u h) round.tag (clear_body m) (Adds c.3) =
       subst (λ (l : List ℕ). MayLeadTo r (with_large None u h) round.tag l (Adds c.3)) body_is
@@ -222,48 +285,19 @@ module _ (w : Configuration) (q : ReqSetup) (older : List (List ℕ)) (rows : Li
       let at : MayLeadTo r (with_large None u h) round.tag (clear_body (get_message asks.handle (number_of f))) (Adds c.3) =
       subst (λ (l : List ℕ). MayLeadTo r (with_large None u h) round.tag l (Adds c.3)) (sym body_is ∙ asks.body) leads in
       let same = same_whole u stands (sym c.7 ∙ ap body_of ((next_is_given r h u round.tag asks.handle (number_of f) (Adds c.3) asks.next).0 at)) in
-      let s = law.0 (subst (λ (x : List ℕ). CompletesApart r (dialogue_of f x) round answer) same c) in
-      record {
-        other = s.other;
-        led = s.led;
-        code = s.code;
-        apart = subst (λ (n : ℕ). is_apart n s.other v ≡ true) (sized s.other (verify_size (dialogue_of f v)) s.apart s.code s.led) s.apart;
-      }
+      apart_to held.late b.behind (subst (λ (x : List ℕ). CompletesApart r (dialogue_of f x) round answer) same c)
 
   pub apart_goes : (u : List ℕ) → MayStand f u → GoesApart (responder_for w f.kept) (dialogue_of f u) (Whole route answer)
       → IsLedApart (responder_for w f.kept) kept.before.before (Clear held.tag kept.before.turn no_draw) (filled_with held answer) (hash_at kept.before.before)
+      × IsUnmarked held.late kept.before.before (seen (filled_with held answer) (Clear held.tag kept.before.turn no_draw))
   apart_goes u stands c = by_apart (subst (λ (o : Option Round). AreRepliesApart r (dialogue_of f u) o answer) turn.answers.0 c.1)
     where
-      by_apart : AreRepliesApart r (dialogue_of f u) (Some round) answer → Apart
+      by_apart : AreRepliesApart r (dialogue_of f u) (Some round) answer → Apart × IsUnmarked held.late b.before (seen v e)
       by_apart (inl replies) = absurd (replies_are_not_apart w q older (dialogue_of f u) u round answer (own.all u stands) refl turn.answers.0 (type w q older rows f own party held kept round turn.answers.0 other) replies)
       by_apart (inr last) = apart_by u stands last
 
-  goes_apart : Apart → GoesApart r (dialogue_of f v) (Whole route answer)
-  goes_apart apart = (turn.right, subst (λ (o : Option Round). AreRepliesApart r (dialogue_of f v) o answer) (sym turn.answers.0) (inr (law.1 is_last_apart)))
-    where
-      entry : Entry
-      entry = gave.e w q older rows f own party held kept round turn.answers.0 other anew v stand
-
-      gives : gives_last (with_large (place_named round.body) v h) entry ≡ true
-      gives =
-          ap (λ (o : Option ℕ). gives_last (with_large o v h) entry) (place w q older rows f own party held kept round turn.answers.0 other)
-          ∙ meanwhile.last_is r h v round.tag (get v stand).handle (number_of f) (get v stand).next ∙ ap not none_left
-
-      is_last : LeadsAt r (with_large (place_named round.body) v h) round.tag round.body (Adds entry) (values_shown_by r (with_large (place_named round.body) v h) round.tag round.body answer) × (last_shown r (with_large (place_named round.body) v h) round.tag round.body answer ≡ Adds entry)
-      is_last = last_law.last_is r (with_large (place_named round.body) v h) round.tag round.body byte entry answer (gave.leads w q older rows f own party held kept round turn.answers.0 other anew v stand) gives (sym is_chunk)
-
-      is_last_apart : IsLastApart r h round answer v e b.before (verify_size (dialogue_of f v))
-      is_last_apart =
-          let k : History = with_large (place_named round.body) v h in
-          record {
-            leads = subst (λ (o : Outcome). LeadsAt r k round.tag round.body o (values_shown_by r k round.tag round.body answer)) (sym is_last.1) is_last.0;
-            last = subst (λ (o : Outcome). ends_large k o ≡ true) (sym is_last.1) gives;
-            body = ap body_of is_last.1 ∙ sym is_chunk;
-            other = apart.other;
-            led = apart.led;
-            code = apart.code;
-            apart = subst (λ (n : ℕ). is_apart n apart.other v ≡ true) (sym (sized apart.other (hash_at b.before) apart.apart apart.code apart.led)) apart.apart;
-          }
+  goes_apart : Apart → IsUnmarked held.late b.before (seen v e) → GoesApart r (dialogue_of f v) (Whole route answer)
+  goes_apart apart none = (turn.right, subst (λ (o : Option Round). AreRepliesApart r (dialogue_of f v) o answer) (sym turn.answers.0) (inr (apart_from held.late b.behind apart none)))
 
   -- The request leads to these bytes, and so to no others.
   pub led_not_apart : IsShownEntry (responder_for w f.kept) kept.before.before (seen (filled_with held answer) (Clear held.tag kept.before.turn no_draw))
@@ -280,10 +314,11 @@ module _ (w : Configuration) (q : ReqSetup) (older : List (List ℕ)) (rows : Li
     NoEnd = (next : Kept) → EndsFetching w f (Whole route answer) next → ⊥
 
     pub refused_apart : (IsShownEntry (responder_for w f.kept) kept.before.before (seen (filled_with held answer) (Clear held.tag kept.before.turn no_draw)) → ⊥)
-        → IsLedApart (responder_for w f.kept) kept.before.before (Clear held.tag kept.before.turn no_draw) (filled_with held answer) (hash_at kept.before.before) → IsRepliedTo w q older rows f route answer (Err reasons.BadVerify) new stands table
-    refused_apart never apart = (goes_never, turns_never, λ next c. never (ends_shown next c), (v, stand, goes_apart apart))
+        → IsLedApart (responder_for w f.kept) kept.before.before (Clear held.tag kept.before.turn no_draw) (filled_with held answer) (hash_at kept.before.before)
+        → IsUnmarked held.late kept.before.before (seen (filled_with held answer) (Clear held.tag kept.before.turn no_draw)) → IsRepliedTo w q older rows f route answer (Err reasons.BadVerify) new stands table
+    refused_apart never apart none = (goes_never, turns_never, λ next c. never (ends_shown next c).0, (v, stand, goes_apart apart none))
 
-    refused_by : NoEnd → (Apart → ⊥) → (d : Dialogue) (why : declared_why.Why) → d.responder ≡ b.left → why_of why ≡ reply_why r d answer (Some turn.round) → IsRepliedTo w q older rows f route answer (Err why) new stands table
+    refused_by : NoEnd → (Apart × IsUnmarked held.late b.before (seen v e) → ⊥) → (d : Dialogue) (why : declared_why.Why) → d.responder ≡ b.left → why_of why ≡ reply_why r d answer (Some turn.round) → IsRepliedTo w q older rows f route answer (Err why) new stands table
     refused_by no_end no_apart d why left is = (
       goes_never,
       turns_never,
@@ -310,10 +345,15 @@ module _ (w : Configuration) (q : ReqSetup) (older : List (List ℕ)) (rows : Li
     pub refused_other : (IsShownEntry (responder_for w f.kept) kept.before.before (seen (filled_with held answer) (Clear held.tag kept.before.turn no_draw)) → ⊥)
         → (IsLedApart (responder_for w f.kept) kept.before.before (Clear held.tag kept.before.turn no_draw) (filled_with held answer) (hash_at kept.before.before) → ⊥)
         → (d : Dialogue) (why : declared_why.Why) → d.responder ≡ kept.before.left → why_of why ≡ reply_why (responder_for w f.kept) d answer (Some turn.round) → IsRepliedTo w q older rows f route answer (Err why) new stands table
-    refused_other never no_apart d why left is = refused_by (λ next c. never (ends_shown next c)) no_apart d why left is
+    refused_other never no_apart d why left is = refused_by (λ next c. never (ends_shown next c).0) (λ apart. no_apart apart.0) d why left is
+
+    -- A mark is set of the session that they begin.
+    pub refused_marked : (IsUnmarked held.late kept.before.before (seen (filled_with held answer) (Clear held.tag kept.before.turn no_draw)) → ⊥)
+        → (d : Dialogue) (why : declared_why.Why) → d.responder ≡ kept.before.left → why_of why ≡ reply_why (responder_for w f.kept) d answer (Some turn.round) → IsRepliedTo w q older rows f route answer (Err why) new stands table
+    refused_marked marked d why left is = refused_by (λ next c. marked (ends_shown next c).1) (λ apart. marked apart.1) d why left is
 
     -- It leads to them, but the requester asks for another chunk.
     pub refused_asking : IsShownEntry (responder_for w f.kept) kept.before.before (seen (filled_with held answer) (Clear held.tag kept.before.turn no_draw)) → asks_upon f.kept route.tag answer ≡ true
         → (d : Dialogue) (why : declared_why.Why) → d.responder ≡ kept.before.left → why_of why ≡ reply_why (responder_for w f.kept) d answer (Some turn.round) → IsRepliedTo w q older rows f route answer (Err why) new stands table
     refused_asking led asks d why left is =
-        refused_by (λ next c. false≢true (sym ((answers_tell_asking w q older f route answer limits own).ends next c) ∙ asks)) (led_not_apart led) d why left is
+        refused_by (λ next c. false≢true (sym ((answers_tell_asking w q older f route answer limits own).ends next c) ∙ asks)) (λ apart. led_not_apart led apart.0) d why left is

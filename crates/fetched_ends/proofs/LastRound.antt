@@ -2,7 +2,6 @@
 -- behind them.
 use Rattle.std.proofs.Common.{◌≡◌, ◌≢◌, ◌≤◌, ◌<◌, ◌+◌, ◌==◌, ◌++◌, ◌∙◌, ℕ, zero, suc, List, [], ◌∷◌, refl, sym, ap, subst, drop, length, arith, Bool, true, false, Option, Some, None, cond, eqb-true, is_some, inl, inr}
 use Rattle.std.specs.Prelude.{MatchBool, nat_lt, slice_index}
-use Rattle.std.proofs.lemmas.Bool.{false≢true}
 use Rattle.std.proofs.lemmas.Bool.Decides.{nat_tests}
 use Rattle.capture_ends.proofs.ClearAnswered.{get_told}
 use Rattle.capture_ends.proofs.ClearJudged.{adds_at}
@@ -14,46 +13,48 @@ use Rattle.capture_laws.proofs.OneWalk.{walks_alike}
 use Rattle.capture_laws.specs.RepliesShown.{responder_for}
 use Rattle.chunking.specs.Cutting.{chunk_count, nth_chunk}
 use Rattle.connection.specs.Connected as connected
+use Rattle.connection.specs.LateFetch.{with_ended}
 use Rattle.connection.specs.declared.connected.Connection.{Connection}
 use Rattle.fetched_answers.proofs.ClearStands.{stands_alike}
 use Rattle.fetched_answers.proofs.ClearViews.{keys_stand_on}
 use Rattle.fetched_answers.proofs.LargeWalks.{walks_large}
 use Rattle.fetched_answers.proofs.ReadyGets.{IsReady, LargeStand, common_at, common_given}
 use Rattle.fetched_answers.proofs.TurnsBoth.{Settles}
-use Rattle.fetched_answers.specs.ClearChunks.{clear_with, get_entry, get_response}
-use Rattle.fetched_answers.specs.ClearSessions.{AreClear, AreGets, IsLeftBy, IsWithoutHandshake}
-use Rattle.fetched_answers.specs.LastShown.{drops_with}
+use Rattle.fetched_answers.specs.ClearChunks.{clear_with, get_entry}
+use Rattle.fetched_answers.specs.ClearSessions.{AreClear, IsLeftBy, IsWithoutHandshake}
+use Rattle.fetched_answers.specs.LastShown.{IsShownEntry, drops_with}
 use Rattle.fetched_answers.specs.StandsAlike.{AreAlike}
-use Rattle.fetched_ends.proofs.GetsGiven.{gets_given}
+use Rattle.fetched_ends.proofs.FrontEnded.{key_gets, key_late, sessions_late, stands_late}
+use Rattle.fetched_ends.proofs.FrontHeld.{common_held, given_held, handle_held, large_held, settles_held, unseen_held}
+use Rattle.fetched_ends.proofs.FrontLed.{given_late, given_new}
 use Rattle.fetched_ends.proofs.HeldCut.{may_stand}
 use Rattle.fetched_ends.proofs.HeldGave.{get, response}
 use Rattle.fetched_ends.proofs.HeldRounds.{IsAsked, handle_is, response_is, settles, transfer_is}
-use Rattle.fetched_ends.proofs.HeldSettled.{gets_common}
-use Rattle.fetched_ends.proofs.LastAlike.{behind_list, gets_list, given_alike}
+use Rattle.fetched_ends.proofs.LastAlike.{behind_list, get_turn, gets_list, given_alike}
 use Rattle.fetched_ends.proofs.LastBefore.{all_like, left_like}
 use Rattle.fetched_ends.proofs.LastInClear as ending
-use Rattle.fetched_ends.proofs.LastLed.{with_here}
-use Rattle.fetched_ends.proofs.LastReady.{can_be_given, gets_handle, handle_given, large_behind, large_code, not_get, ready_moved, settles_behind, transfer_on, turns_are, unseen_behind}
+use Rattle.fetched_ends.proofs.LastReady.{can_be_given, large_code, not_get, ready_moved, transfer_on, turns_are}
 use Rattle.fetched_ends.proofs.LastWhole.{adds_anew}
+use Rattle.fetched_ends.proofs.WalksUndrawn.{AreUndrawn, walks_undrawn}
 use Rattle.fetched_ends.specs.GetsHeld.{AreGiven, GiveChunks}
-use Rattle.fetched_ends.specs.Held.{IsHeldIn, IsShownChunk, StandsBefore, filled_with, repeats_held}
+use Rattle.fetched_ends.specs.Held.{HasGets, IsHeldIn, IsShownChunk, StandsBefore, filled_with, repeats_held}
 use Rattle.fetched_ends.specs.LastHeld.{CanBeGiven, IsLastOf, all_given, count_at, gets_behind, left_by, transfer_at}
+use Rattle.fetched_ends.specs.LastMarked.{IsUnmarked, with_ended_if}
 use Rattle.fetched_ends.specs.declared.held.Held.{Held}
 use Rattle.fetched_ends.specs.declared.shown.Shown.TheVariants as shown
 use Rattle.large_answers.specs.Fetching.{Fetching, IsFetchingOf, MayStand, dialogue_of, number_of}
+use Rattle.late_answers.specs.declared.marks.Marks.{Marks}
 use Rattle.negotiate.specs.declared.shared.Common.{Common}
 use Rattle.requester_machine.specs.Setup.{ReqSetup}
-use Rattle.responder_machine.specs.Answer.{Free}
 use Rattle.responder_machine.specs.Handling.{turn_of}
-use Rattle.responder_machine.specs.History.{Entry, History, clear_turns, kept_of, negotiation_of}
+use Rattle.responder_machine.specs.History.{Entry, History, clear_turns, ended_of}
 use Rattle.responder_machine.specs.History.Entry.{Clear, Sealed, Queued, Ticked, Dropped}
 use Rattle.responder_machine.specs.LargeMessages.{handle_of}
 use Rattle.responder_machine.specs.May.{with_dropped}
 use Rattle.responder_machine.specs.Place.{clear_place, place_terms}
 use Rattle.responder_machine.specs.Refusal.{code_of}
-use Rattle.responder_machine.specs.Responder.{is_repeat}
 use Rattle.responder_machine.specs.Responder.Outcome.{Adds}
-use Rattle.responder_machine.specs.Session.{Events}
+use Rattle.responder_machine.specs.Session.{Events, session_of}
 use Rattle.responder_session.specs.declared.answer_key.AnswerKey.{AnswerKey}
 use Rattle.responder_machine.specs.Setup.{RspSetup}
 use Rattle.responder_machine.specs.Turn.{Turn, handle_in, is_taken, takes}
@@ -68,7 +69,7 @@ use Rattle.world_machine.proofs.DropsTell.{turns_stay}
 use Rattle.world_machine.proofs.FetchedSessions.{takes_with}
 use Rattle.world_machine.proofs.PlainTells.{led_clear}
 use Rattle.world_machine.proofs.UnseenStands.{UnseenStand}
-use Rattle.world_machine.specs.LargeAnswers.{handle_shown, is_large, seen, seen_turn, turn_with, unseen, with_large}
+use Rattle.world_machine.specs.LargeAnswers.{dropped_before_large, handle_shown, is_large, seen, seen_turn, turn_with, unseen, with_large}
 use Rattle.world_machine.specs.Rounds.{Dialogue, Round, no_draw}
 use Rattle.world_machine.specs.SessionTable.{Row}
 use Rattle.world_machine.specs.Setup.{Configuration}
@@ -77,14 +78,6 @@ use Rattle.world_machine.specs.Setup.{Configuration}
 dropped_keys : (seen_keys : AnswerKeys) (r : RspSetup) (ids : List ℕ) (h : History) → answer_keys.StandFor seen_keys r h → answer_keys.StandFor seen_keys r (with_dropped h ids)
 dropped_keys seen_keys r [] h stands = stands
 dropped_keys seen_keys r (id ∷ ids) h stands = dropped_keys seen_keys r ids (Dropped id ∷ h) (keys_stand_on seen_keys r (Dropped id ∷ []) h (tt, tt) stands)
-
-gets_ended : (r : RspSetup) (key : Option AnswerKey) (gets : List Entry) (h : History) → AreGets gets → IsEndedKey r h key → IsEndedKey r (gets ++ h) key
-gets_ended r key [] h are stands = stands
-gets_ended r key (Clear tag t d ∷ gets) h are stands = gets_ended r key gets h are.1 stands
-gets_ended r key (Sealed tag m t reply d ∷ gets) h are stands = absurd (false≢true are.0)
-gets_ended r key (Queued bytes ∷ gets) h are stands = absurd (false≢true are.0)
-gets_ended r key (Ticked seconds ∷ gets) h are stands = absurd (false≢true are.0)
-gets_ended r key (Dropped id ∷ gets) h are stands = absurd (false≢true are.0)
 
 dropped_ended : (r : RspSetup) (key : Option AnswerKey) (ids : List ℕ) (h : History) → IsEndedKey r h key → IsEndedKey r (with_dropped h ids) key
 dropped_ended r key [] h stands = stands
@@ -162,16 +155,19 @@ module _ (w : Configuration) (q : ReqSetup) (older : List (List ℕ)) (rows : Li
   d = dialogue_of f own.stands.0
 
   settles_here : Settles X
-  settles_here = settles_behind b.gets X (subst Settles b.behind (settles w q older rows f own party held kept round is other))
+  settles_here = settles_held held.late held.tag t b.gets b.before h b.behind (settles w q older rows f own party held kept round is other)
 
   unseen_here : UnseenStand X
-  unseen_here = unseen_behind b.gets X (subst UnseenStand b.behind (walks_alike w q older d d (own.all own.stands.0 own.stands.1) (own.all own.stands.0 own.stands.1)).one.unseen)
+  unseen_here = unseen_held held.late held.tag t b.gets b.before h b.behind (walks_alike w q older d d (own.all own.stands.0 own.stands.1) (own.all own.stands.0 own.stands.1)).one.unseen
 
   large_here : LargeStand X
-  large_here = large_behind b.gets X (subst LargeStand b.behind (walks_large w q older d (own.all own.stands.0 own.stands.1)))
+  large_here = large_held held.late held.tag t b.gets b.before h b.behind (walks_large w q older d (own.all own.stands.0 own.stands.1))
+
+  abbrev undrawn : AreUndrawn h
+  undrawn = walks_undrawn w q older d (own.all own.stands.0 own.stands.1)
 
   common_here : common_at (clear_turns X) ≡ common_at (clear_turns h)
-  common_here = sym (ap (λ (l : History). common_at (clear_turns l)) b.behind ∙ gets_common b.gets X b.are)
+  common_here = common_held held.late held.tag t b.gets b.before h b.behind b.are b.unseen (settles w q older rows f own party held kept round is other)
 
   chunks_here : (common_at (clear_turns X)).chunk ≡ true
   chunks_here = ap (λ (c : Common). c.chunk) (common_here ∙ sym (common_given v h (settles w q older rows f own party held kept round is other))) ∙ g.next.chunks
@@ -188,10 +184,7 @@ module _ (w : Configuration) (q : ReqSetup) (older : List (List ℕ)) (rows : Li
   -- ---- The handle.
 
   handles : handle_of (clear_with h v).turns ≡ handle_shown t
-  handles =
-      ap (λ (l : History). handle_of (clear_turns (with_large None v l))) b.behind
-      ∙ ap (λ (l : History). handle_of (clear_turns l)) (with_here v asked b.before b.unseen b.before b.gets b.are)
-      ∙ gets_handle b.gets (seen v asked ∷ b.before) b.are ∙ handle_given v (handle_shown t) t.effect (handle_of (clear_turns b.before)) b.unseen.0
+  handles = handle_held held.late held.tag t b.gets b.before h v b.behind b.are b.unseen
 
   handle_here : g.handle ≡ hd
   handle_here = sym (handle_is w q older rows f own party held kept round is other anew v stand)
@@ -252,7 +245,7 @@ module _ (w : Configuration) (q : ReqSetup) (older : List (List ℕ)) (rows : Li
   given =
       let all = kept.gave v stand in
       let here = subst (λ (n : ℕ). GiveChunks held.transfer n v h (number_of f)) (g.next.same ∙ handle_here) all in
-      gets_given held.transfer hd v b.gets held.tag t b.before (number_of f) b.are b.unseen.0 (subst (λ (l : History). GiveChunks held.transfer hd v l (number_of f)) b.behind here)
+      given_held held.transfer hd v held.late held.tag t b.gets b.before h (number_of f) b.behind b.are b.unseen here
 
   count_there : count_at (asked ∷ gl) v ≡ suc (number_of f)
   count_there = ap (λ (n : ℕ). chunk_count n v) (transfer_there v) ∙ (let one = count_here in let two = kept.answer.number in omega (arith, one, two))
@@ -260,13 +253,27 @@ module _ (w : Configuration) (q : ReqSetup) (older : List (List ℕ)) (rows : Li
   abbrev again : History
   again = gets_list round.tag held.transfer hd v (suc (number_of f)) ++ seen v asked ∷ gl
 
-  alike : AreAlike again behind
-  alike =
-      let to : get_entry round.tag hd (number_of f) chunk ∷ b.gets ++ seen v asked ∷ with_dropped b.before ids ≡ behind =
-      ap (λ (n : ℕ). get_entry round.tag n (number_of f) chunk ∷ b.gets ++ seen v asked ∷ with_dropped b.before ids) (sym handle_here)
-      ∙ ap (λ (l : List ℕ). get_entry round.tag g.handle (number_of f) l ∷ b.gets ++ seen v asked ∷ with_dropped b.before ids) (sym chunk_is) in
-      subst (AreAlike again) to
-      (given_alike held.tag t (seen_turn v t) b.before b.left b.left_is (takes_with v (Some (handle_shown t)) PSK_EXCHANGE t) ids (turns_left ∙ sym (turns_stay ids b.before)) round.tag held.transfer hd v b.gets (number_of f) b.are given)
+  -- The newest one gives the last chunk.
+  abbrev newest_turn : Turn
+  newest_turn = get_turn hd (number_of f) chunk
+
+  abbrev newest : Entry
+  newest = Clear round.tag newest_turn no_draw
+
+  -- The history with the request in front, and the one behind the last chunk.
+  abbrev front : History
+  front = newest ∷ b.gets ++ seen v asked ∷ with_dropped b.before ids
+
+  abbrev there : History
+  there = newest ∷ with_large None v (dropped_before_large None ids h)
+
+  alike : AreAlike again front
+  alike = given_alike held.tag t (seen_turn v t) b.before b.left b.left_is (takes_with v (Some (handle_shown t)) PSK_EXCHANGE t) ids (turns_left ∙ sym (turns_stay ids b.before)) round.tag held.transfer hd v b.gets (number_of f) b.are given
+
+  behind_is : there ≡ behind
+  behind_is =
+      ap (λ (n : ℕ). get_entry round.tag n (number_of f) chunk ∷ with_large None v (dropped_before_large None ids h)) (sym handle_here)
+      ∙ ap (λ (l : List ℕ). get_entry round.tag g.handle (number_of f) l ∷ with_large None v (dropped_before_large None ids h)) (sym chunk_is)
 
   again_is : all_given round.tag hd v (asked ∷ gl) ≡ again
   again_is =
@@ -274,17 +281,43 @@ module _ (w : Configuration) (q : ReqSetup) (older : List (List ℕ)) (rows : Li
       let base : with_large None v (asked ∷ gl) ≡ seen v asked ∷ gl = ap (λ (x : Bool). cond x (seen v asked ∷ gl) (asked ∷ with_large None v gl)) b.unseen.0 in
       ap (λ (n : ℕ). with_large None v (gets_behind round.tag hd v (asked ∷ gl) n)) count_there ∙ list ∙ ap (λ (l : History). gets_list round.tag held.transfer hd v (suc (number_of f)) ++ l) base
 
-  pub stands_behind : (seen_as : Connection) → connected.StandsFor seen_as (responder_for w f.kept) (all_given round.tag (slice_index round.body 4) v (Clear held.tag kept.before.turn no_draw ∷ left_by kept.before.before kept.before.left (Clear held.tag kept.before.turn no_draw) v))
-      → connected.StandsFor seen_as (responder_for w f.kept) behind
-  stands_behind seen_as stands = stands_alike seen_as r again behind alike (subst (connected.StandsFor seen_as r) again_is stands)
+  module _ (shown : IsShownEntry (responder_for w f.kept) kept.before.before (seen (filled_with held answer) (Clear held.tag kept.before.turn no_draw))) (unmarked : IsUnmarked held.late kept.before.before (seen (filled_with held answer) (Clear held.tag kept.before.turn no_draw))) where
+    abbrev HasHere : Option Marks → Type 0
+    HasHere late = HasGets late held.tag t b.gets b.before h
 
-  -- So do the keys of answers.
-  pub keys_behind : (seen_keys : AnswerKeys) → answer_keys.StandFor seen_keys (responder_for w f.kept) kept.before.left → answer_keys.StandFor seen_keys (responder_for w f.kept) behind
-  keys_behind seen_keys stands =
-      let there = dropped_keys seen_keys r ids b.left stands in
-      let request = keys_stand_on seen_keys r (seen v asked ∷ []) gl (tt, tt) there in
-      let all = keys_stand_on seen_keys r (gets_list round.tag held.transfer hd v (suc (number_of f))) (seen v asked ∷ gl) (list_clear round.tag held.transfer hd v (suc (number_of f))) request in
-      record {
-        last = λ id. subst (λ (s : Events). IsLastKey r s (last_key seen_keys id)) (alike.sessions id) (all.last id);
-        ended = gets_ended r seen_keys.ended b.gets (seen v asked ∷ with_dropped b.before ids) b.are (dropped_ended r seen_keys.ended ids b.before (left_ended r seen_keys.ended asked b.before b.left b.left_is stands.ended));
-      }
+    stands_by : (late : Option Marks) → HasHere late → IsUnmarked late b.before (seen v asked) → (seen_as : Connection) → connected.StandsFor seen_as r front → connected.StandsFor (with_ended_if late (ended_of b.left) seen_as) r there
+    stands_by None has none seen_as stands = subst (λ (l : History). connected.StandsFor seen_as r (newest ∷ l)) (sym (given_new held.tag t b.gets b.before h v ids has b.are b.unseen)) stands
+    stands_by (Some marks) has none seen_as stands =
+        subst (λ (l : History). connected.StandsFor (with_ended seen_as (ended_of b.left)) r (newest ∷ l)) (sym (given_late marks held.tag t b.gets b.before h v ids has b.are))
+        (stands_late r byte marks held.tag t b.gets b.before h has undrawn b.are b.unseen v shown none round.tag newest_turn refl refl b.left b.left_is seen_as stands)
+
+    sessions_by : (late : Option Marks) → HasHere late → IsUnmarked late b.before (seen v asked) → (id : ℕ) → session_of id front ≡ session_of id there
+    sessions_by None has none id = ap (λ (l : History). session_of id (newest ∷ l)) (sym (given_new held.tag t b.gets b.before h v ids has b.are b.unseen))
+    sessions_by (Some marks) has none id =
+        sessions_late r byte marks held.tag t b.gets b.before h has undrawn b.are b.unseen v shown none round.tag newest_turn refl refl id
+        ∙ ap (λ (l : History). session_of id (newest ∷ l)) (sym (given_late marks held.tag t b.gets b.before h v ids has b.are))
+
+    ended_by : (late : Option Marks) → HasHere late → IsUnmarked late b.before (seen v asked) → (key : Option AnswerKey) → IsEndedKey r b.before key → IsEndedKey r there key
+    ended_by None has none key is =
+        subst (λ (l : History). IsEndedKey r (newest ∷ l) key) (sym (given_new held.tag t b.gets b.before h v ids has b.are b.unseen))
+        (key_gets r key b.gets (seen v asked ∷ with_dropped b.before ids) b.are (dropped_ended r key ids b.before is))
+    ended_by (Some marks) has none key is =
+        subst (λ (l : History). IsEndedKey r (newest ∷ l) key) (sym (given_late marks held.tag t b.gets b.before h v ids has b.are))
+        (key_late r byte marks held.tag t b.gets b.before h has undrawn b.are b.unseen v shown none round.tag newest_turn refl refl key is)
+
+    pub stands_behind : (seen_as : Connection) → connected.StandsFor seen_as (responder_for w f.kept) (all_given round.tag (slice_index round.body 4) v (Clear held.tag kept.before.turn no_draw ∷ left_by kept.before.before kept.before.left (Clear held.tag kept.before.turn no_draw) v))
+        → connected.StandsFor (with_ended_if held.late (ended_of kept.before.left) seen_as) (responder_for w f.kept) behind
+    stands_behind seen_as stands =
+        subst (connected.StandsFor (with_ended_if held.late (ended_of b.left) seen_as) r) behind_is
+        (stands_by held.late b.behind unmarked seen_as (stands_alike seen_as r again front alike (subst (connected.StandsFor seen_as r) again_is stands)))
+
+    -- So do the keys of answers.
+    pub keys_behind : (seen_keys : AnswerKeys) → answer_keys.StandFor seen_keys (responder_for w f.kept) kept.before.left → answer_keys.StandFor seen_keys (responder_for w f.kept) behind
+    keys_behind seen_keys stands =
+        let dropped = dropped_keys seen_keys r ids b.left stands in
+        let request = keys_stand_on seen_keys r (seen v asked ∷ []) gl (tt, tt) dropped in
+        let all = keys_stand_on seen_keys r (gets_list round.tag held.transfer hd v (suc (number_of f))) (seen v asked ∷ gl) (list_clear round.tag held.transfer hd v (suc (number_of f))) request in
+        subst (answer_keys.StandFor seen_keys r) behind_is (record {
+          last = λ id. subst (λ (s : Events). IsLastKey r s (last_key seen_keys id)) (alike.sessions id ∙ sessions_by held.late b.behind unmarked id) (all.last id);
+          ended = ended_by held.late b.behind unmarked seen_keys.ended (left_ended r seen_keys.ended asked b.before b.left b.left_is stands.ended);
+        })

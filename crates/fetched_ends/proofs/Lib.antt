@@ -131,3 +131,46 @@ pub mod EndsLeft
 pub mod SettledSessions
 pub mod SessionsQuiet
 pub mod LargeRecords
+pub mod MarksMoved
+pub mod MarksWalk
+pub mod MarksCases
+pub mod EndsSeen
+pub mod MarkedOn
+pub mod LateRequest
+pub mod LateLast
+pub mod LateLed
+pub mod MarksStay
+pub mod ErrorBytes
+pub mod LargeAsked
+pub mod LargeShows
+pub mod LateShown
+pub mod LateBegun
+pub mod LateTold
+pub mod LeftSame
+pub mod MarkedAgain
+pub mod WalksUndrawn
+pub mod FrontHeld
+pub mod FrontLed
+pub mod FrontMarked
+pub mod FrontEnded
+pub mod FrontApart
+pub mod HasGets
+pub mod VersionHeld
+mod NewestLed
+mod NewestStands
+mod AgainStands
+mod AgainReads
+mod AgainTold
+mod EndedApart
+mod AgainBegun
+mod AskedNone
+mod AskedRefused
+mod ClearAsked
+pub mod AckBytes
+pub mod ChunkAsked
+pub mod ClearAgain
+pub mod ClearFree
+pub mod OfferKept
+pub mod OfferAwaited
+pub mod FirstTaken
+pub mod PiecesSent

@@ -95,11 +95,11 @@ module _ (r : RspSetup) (tag : ℕ) (m : List ℕ) where
   by_parts p f None (Some c) = inl (chunk_taken (inside p) f c (joined_with (under_way (chunks_of p.turns)) c) c.last)
 
   -- A turn is taken, or its message is refused.
-  turn_taken : (p : Place) (f : Free) → (is_taken (turn_of r p m f) ≡ true) ⊎ ((e : ErrorCode) × (refusal r p m f ≡ Some e))
+  pub turn_taken : (p : Place) (f : Free) → (is_taken (turn_of r p m f) ≡ true) ⊎ ((e : ErrorCode) × (refusal r p m f ≡ Some e))
   unfolding turn_of
   turn_taken p f = by_parts p f (refusal r p m f) (chunk_in (request_at p m))
 
-  taken_again : (t : Turn) (g : History) → is_taken t ≡ true → t.message ≡ m → is_repeat (kept_of (Clear tag t no_draw ∷ g)) tag m ≡ true
+  pub taken_again : (t : Turn) (g : History) → is_taken t ≡ true → t.message ≡ m → is_repeat (kept_of (Clear tag t no_draw ∷ g)) tag m ≡ true
   taken_again t g taken spells =
       ap (λ (b : Bool). is_repeat (cond b (Some (record { tag = tag; message = t.message; reply = t.reply })) (kept_of g)) tag m) taken
       ∙ ap (λ (b : Bool). b && bytes_eq t.message m) (eq-eqb tag tag refl) ∙ (bytes_eq-Decides t.message m).1 spells

@@ -38,7 +38,7 @@ use Rattle.world_machine.specs.Setup.{Configuration, known_of}
 
 -- ---- An answer.
 
-clear_type : (body : List ℕ) → place_named body ≡ None → (slice_index body 0 == 5) ≡ true
+pub clear_type : (body : List ℕ) → place_named body ≡ None → (slice_index body 0 == 5) ≡ true
 clear_type body is = by_type (slice_index body 0 == 5) is
   where
     by_type : (b : Bool) → cond b None (Some (id_in_record (drop 1 body))) ≡ None → b ≡ true

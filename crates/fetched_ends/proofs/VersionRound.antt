@@ -1,5 +1,5 @@
 -- While a large answer is fetched in the clear, GET_VERSION is no repeat, and the requester awaits VERSION.
-use Rattle.std.proofs.Common.{◌≡◌, ◌≤◌, ◌==◌, ◌++◌, ◌∙◌, ℕ, List, ◌∷◌, refl, sym, ap, subst, drop, arith, Bool, true, false, Option, Some, None, inl, inr}
+use Rattle.std.proofs.Common.{◌≡◌, ◌≤◌, ◌==◌, ◌∙◌, ℕ, List, ◌∷◌, refl, sym, ap, subst, drop, arith, Bool, true, false, Option, Some, None, inl, inr}
 use Rattle.std.specs.Prelude.{slice_index}
 use Rattle.std.proofs.lemmas.Bool.{false≢true}
 use Rattle.std.proofs.lemmas.Option.{same_Some}
@@ -9,13 +9,13 @@ use Rattle.capture_laws.specs.Keeping.{restored}
 use Rattle.capture_laws.specs.RepliesShown.{responder_for}
 use Rattle.connection.specs.Connected as connected
 use Rattle.connection.specs.declared.connected.Connection.{Connection}
-use Rattle.fetched_answers.proofs.ClearStands.{version_ends_fetch}
 use Rattle.fetched_answers.proofs.ReadyGets.{common_given}
 use Rattle.fetched_answers.proofs.SettledCaps.{walks_settle}
 use Rattle.fetched_answers.proofs.TurnsBoth.{Settles}
-use Rattle.fetched_answers.proofs.VersionWalks.{version_is_anew}
 use Rattle.fetched_answers.specs.StandsAlike.{IsAnew, version_entry}
-use Rattle.fetched_ends.proofs.HeldSettled.{common_stays, gets_common, left_turns, settles_at}
+use Rattle.fetched_ends.proofs.HasGets.{common_held}
+use Rattle.fetched_ends.proofs.HeldSettled.{left_turns}
+use Rattle.fetched_ends.proofs.VersionHeld.{anew_held, version_held}
 use Rattle.fetched_ends.specs.Held.{IsHeldIn, StandsBefore}
 use Rattle.fetched_ends.specs.declared.held.Held.{Held}
 use Rattle.large_answers.specs.Fetching.{Fetching, IsFetchingOf, dialogue_of}
@@ -30,7 +30,6 @@ use Rattle.responder_machine.specs.Place.{clear_place, place_terms}
 use Rattle.responder_machine.specs.Responder.{is_repeat}
 use Rattle.responder_machine.specs.Setup.{RspSetup}
 use Rattle.responder_machine.specs.SizeLaws.{HasSizes}
-use Rattle.responder_machine.specs.Turn.{Turn}
 use Rattle.spdm_grammar.specs.Message.RequestMessage.{GetVersion}
 use Rattle.spdm_grammar.specs.Requests.{canonical_request}
 use Rattle.spdm_machine.specs.Bodies.{clear_body}
@@ -64,7 +63,7 @@ module _ (w : Configuration) (q : ReqSetup) (older : List (List ℕ)) (rows : Li
   type = ap (λ (l : List ℕ). slice_index l 0 == 5) version
 
   anew_all : (4 ≤ r.transfer) × (is_repeat (kept_of h) round.tag (canonical_request GetVersion) ≡ false) × (is_repeat (kept_of b.left) round.tag (canonical_request GetVersion) ≡ false)
-  anew_all = version_is_anew w q older d b.gets e b.before b.left round.tag (own.all own.stands.0 own.stands.1) b.behind b.are b.unseen b.left_is b.sized
+  anew_all = anew_held w q older d held.late held.tag b.turn b.gets b.before b.left round.tag (own.all own.stands.0 own.stands.1) b.behind b.are b.unseen b.left_is b.sized
 
   -- ---- Sizes.
 
@@ -77,9 +76,7 @@ module _ (w : Configuration) (q : ReqSetup) (older : List (List ℕ)) (rows : Li
       subst (connected.HasSizesAt r) turns b.stands.sizes b.sized
 
   common_here : (place_terms (clear_place h)).common ≡ (place_terms (clear_place b.before)).common
-  common_here =
-      let no_caps = settles_at b.gets e b.before (subst Settles b.behind settles) b.unseen.0 in
-      ap (λ (l : History). (place_terms (clear_place l)).common) b.behind ∙ gets_common b.gets (e ∷ b.before) b.are ∙ common_stays held.tag b.turn no_draw b.before b.unseen.1 no_caps
+  common_here = common_held held.late held.tag b.turn b.gets b.before h b.behind b.are b.unseen settles
 
   sizes_here : HasSizes r (place_terms (clear_place h)).common
   sizes_here = subst (HasSizes r) (sym common_here) before_sizes
@@ -98,8 +95,7 @@ module _ (w : Configuration) (q : ReqSetup) (older : List (List ℕ)) (rows : Li
 
   -- A connection that took it stands behind what is fetched too.
   pub stands_behind : (seen : Connection) → connected.StandsFor seen (responder_for w f.kept) (version_entry round.tag ∷ kept.before.left) → connected.StandsFor seen (responder_for w f.kept) (version_entry round.tag ∷ f.kept.responder)
-  stands_behind seen stands =
-      subst (λ (l : History). connected.StandsFor seen r (version_entry round.tag ∷ l)) (sym b.behind) (version_ends_fetch seen r round.tag b.gets e b.before b.left b.are b.unseen b.left_is stands)
+  stands_behind seen stands = version_held held.late held.tag b.turn b.gets b.before b.left h b.behind b.are b.unseen b.left_is seen r round.tag stands
 
   -- ---- The requester.
 

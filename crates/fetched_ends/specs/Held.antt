@@ -1,6 +1,6 @@
 -- A large answer that is fetched in the clear, as the program keeps it: the connection stands as before its request, and what
 -- came since is held beside it. This project's own.
-use Rattle.std.specs.Prelude.{◌≡◌, ◌≤◌, ◌<◌, ◌+◌, ◌++◌, ◌∷◌, ℕ, List, None, drop, length, slice_index, Bool, true, false, if◌then◌else◌, nat_lt}
+use Rattle.std.specs.Prelude.{◌≡◌, ◌≢◌, ◌≤◌, ◌<◌, ◌+◌, ◌++◌, ◌∷◌, ℕ, List, Option, Some, None, drop, length, slice_index, Bool, true, false, if◌then◌else◌, nat_lt}
 use Rattle.capture_ends.specs.AnswerKeys as answer_keys
 use Rattle.capture_ends.specs.Asker.{IsAsker}
 use Rattle.capture_ends.specs.Party.{IsBeside}
@@ -23,6 +23,10 @@ use Rattle.fetched_ends.specs.declared.shown.Shown.{Shown}
 use Rattle.fetched_ends.specs.declared.shown.Shown.TheVariants as shown
 use Rattle.large_answers.specs.Fetching.{Fetching}
 use Rattle.large_answers.specs.LargeAnswers as large_answers
+use Rattle.late_answers.specs.Marking as marking
+use Rattle.late_answers.specs.Passed.{StandsBack}
+use Rattle.late_answers.specs.PassedLast.{IsFree, WasAnew}
+use Rattle.late_answers.specs.declared.marks.Marks.{Marks}
 use Rattle.requester_machine.specs.Setup.{ReqSetup}
 use Rattle.responder_machine.specs.History.{Entry, History, clear_turns, kept_of, phase_of}
 use Rattle.responder_machine.specs.History.Entry.{Clear}
@@ -52,14 +56,30 @@ IsLedTo r before entry =
     (dropped : List ℕ) × (led : Entry) × MayLeadTo r (with_dropped before dropped) (tag_in entry) (request_in entry) (Adds led)
     × (is_large led ≡ true) × (unseen led ≡ entry)
 
+-- A request passed before in this history, and its fetch begins late, by a repeat that comes behind it: it stands further
+-- back there, under another tag, and these are the marks of the sessions that were touched since.
+pub record IsLate (marks : Marks) (tag : ℕ) (turn : Turn) (h : History) : Type 0 where
+  pub back : StandsBack h
+  pub same : back.turn ≡ turn
+  pub free : IsFree back.turn
+  pub anew : WasAnew h back
+  pub other : tag ≢ back.tag
+  pub stand : marking.StandsFor marks h
+
 -- The responder's history is the one before a request, that request with its answer not seen, and the CHUNK_GETs that came
--- since. The connection and the keys stand for what the request left of the sessions before it.
+-- since; or, where the fetch began late, the CHUNK_GETs behind the history at the repeat.
+abbrev pub HasGets : Option Marks → (tag : ℕ) → Turn → (gets : List Entry) → (before h : History) → Type 0
+HasGets None tag turn gets before h = h ≡ gets ++ Clear tag turn no_draw ∷ before
+HasGets (Some marks) tag turn gets before h = IsLate marks tag turn before × (h ≡ gets ++ before)
+
+-- The history is that. Where the fetch began late, the request is as if it came last, under the tag that is held. The
+-- connection and the keys stand for what the request left of the sessions before it.
 pub record StandsBefore (seen : Answerer) (seen_keys : AnswerKeys) (held : Held) (r : RspSetup) (h : History) : Type 0 where
   pub gets : List Entry
   pub turn : Turn
   pub before : History
   pub left : History
-  pub behind : h ≡ gets ++ Clear held.tag turn no_draw ∷ before
+  pub behind : HasGets held.late held.tag turn gets before h
   pub are : AreGets gets
   pub unseen : IsUnseenRequest (Clear held.tag turn no_draw)
   pub left_is : IsLeftBy (Clear held.tag turn no_draw) before left

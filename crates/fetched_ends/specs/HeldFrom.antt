@@ -1,5 +1,5 @@
 -- What is held behind LargeResponse in the clear, before the first chunk. This project's own.
-use Rattle.std.specs.Prelude.{◌≡◌, ◌≤◌, ◌+◌, ℕ, List, Some}
+use Rattle.std.specs.Prelude.{◌≡◌, ◌≤◌, ◌+◌, ℕ, List, Some, None}
 use Rattle.negotiate.specs.declared.shared.Common.{Common}
 use Rattle.fetched_ends.specs.declared.held.Held.{Held}
 use Rattle.large_answers.specs.Fetching.{Fetching, number_of}
@@ -18,4 +18,5 @@ pub record IsHeldFrom (common : Common) (tag round : ℕ) (message reply : List 
   pub short : held.most ≤ common.to_requester.max
   pub few : held.most ≤ MAX_MESSAGE_SIZE
   pub full : (n : ℕ) → n ≤ common.to_requester.max → n ≤ MAX_MESSAGE_SIZE → n ≤ held.most
+  pub late : held.late ≡ None
   pub answer : (f : Fetching) → number_of f ≡ 0 → StandsFor held.answer f

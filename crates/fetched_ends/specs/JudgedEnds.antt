@@ -86,24 +86,26 @@ abbrev pub IsAskedOf : Configuration → ReqSetup → List (List ℕ) → List R
 IsAskedOf w q older rows packet g (Ok u) new table = StandsBehind new table w q older rows packet
 IsAskedOf w q older rows packet g (Err why) new table = NoneGoesOn w q older packet × IsAskedReason w q older g (why_of why)
 
--- While nothing is fetched, what is left unjudged: LargeResponse again, by which a fetch begins, which is a repeat upon which the
--- requester asks for a chunk.
+-- While nothing is fetched, what is left unjudged: an answer that goes whole by what it shows, upon which the requester asks for
+-- a chunk. A fetch begins by it where it is LargeResponse again.
 abbrev pub IsLeft : Configuration → Kept → ℕ → (answer : List ℕ) → Type 0
 IsLeft w k tag answer =
     (round : Round) × AnswersRound k tag round
     × IsShownAnswer (responder_for w k) k.responder round.tag round.body answer
     × (asks_upon k tag answer ≡ true)
 
--- An answer is a part of a large one that is not judged, by what is kept of the packets while nothing is fetched and no large
--- request is sent.
+-- An answer is left unjudged so, by what is kept of the packets while nothing is fetched and no large request is sent.
 abbrev pub IsPart : Configuration → ReqSetup → List (List ℕ) → ℕ → (answer : List ℕ) → Type 0
 IsPart w q older tag answer = (k : Kept) × Keeps w q older k × IsLeft w k tag answer
 
--- Of an answer: it goes on, or it is such a part, of which nothing more is said; or no walk goes on with it, and then why.
+-- Of an answer: it goes on, or it is left unjudged so, and why it is refused where no walk goes on with it; or no walk does, and
+-- then why. None is a part of a large answer that is left.
 abbrev pub IsJudgedAnswer : Configuration → ReqSetup → List (List ℕ) → List Row → (packet : List ℕ) → RouteFields → (answer : List ℕ)
     → Result Onward declared.Why → (new : JudgedEnds) → (table : List Seen) → Type 0
 IsJudgedAnswer w q older rows packet route answer (Ok onward.Kept) new table = StandsBehind new table w q older rows packet
-IsJudgedAnswer w q older rows packet route answer (Ok onward.Large) new table = IsPart w q older route.tag answer
+IsJudgedAnswer w q older rows packet route answer (Ok onward.Large) new table = ⊥
+IsJudgedAnswer w q older rows packet route answer (Ok (onward.Asked why)) new table =
+    IsPart w q older route.tag answer × IsAnsweredReason w q older (Whole route answer) (why_of why)
 IsJudgedAnswer w q older rows packet route answer (Err why) new table =
     NoneGoesOn w q older packet × IsAnsweredReason w q older (Whole route answer) (why_of why)
 

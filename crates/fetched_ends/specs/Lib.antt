@@ -15,3 +15,13 @@ pub mod LastHeld
 pub mod MeasurementsAsked
 pub mod RefusedAgain
 pub mod SameChunks
+pub mod Marked
+pub mod MarkedEnds
+pub mod LateApart
+pub mod LateBefore
+pub mod LateLed
+pub mod HeldAgain
+pub mod LateBegins
+pub mod LastMarked
+pub mod AgainRead
+pub mod AgainBegins

@@ -11,6 +11,7 @@ use crate::shown::Shown;
 use chunking::nth_chunk;
 use connection::KeptReply;
 use large_answers::LargeAnswer;
+use late_answers::Marks;
 use session_keys::{behind_type, byte_at};
 use spdm_basis::Frame;
 use spdm_codec::write_response;
@@ -20,8 +21,9 @@ use spdm_grammar::{ChunkView, Response};
 const CLEAR: u8 = 5;
 
 /// A large answer that is fetched in the clear: its request, with its tag, and the LargeResponse that it got; the
-/// lengths that go by chunks, and the requester's transfer size; what came of it; and the newest request in the
-/// clear, with its reply. It takes no memory.
+/// lengths that go by chunks, and the requester's transfer size; what came of it; the newest request in the clear,
+/// with its reply; and, where the fetch began late, by a repeat of the request, the marks of the sessions that were
+/// touched between the two: then the tag is another than that of the request. It takes no memory.
 #[derive(Drop)]
 pub struct Held {
     pub(crate) tag: u8,
@@ -32,6 +34,7 @@ pub struct Held {
     pub(crate) transfer: u32,
     pub(crate) answer: LargeAnswer,
     pub(crate) newest: KeptReply,
+    pub(crate) late: Option<Marks>,
 }
 
 // Whether a body is this message in the clear.

@@ -87,6 +87,7 @@ fn held_from(connection: &Connection, tag: u8, message: &[u8], reply: &[u8]) -> 
         transfer: common.to_requester.transfer,
         answer: LargeAnswer::new(),
         newest,
+        late: None,
     }
 }
 

@@ -7,9 +7,11 @@ ghost use Rattle.connection.specs.Setup.{IsSetUp};
 ghost use Rattle.fetched_ends.specs.Fetched.{IsRepliedTo};
 ghost use Rattle.fetched_ends.specs.Held.{IsHeldIn, IsShownHeld, StandsBefore};
 ghost use Rattle.fetched_ends.specs.LastHeld.{begun_if};
+ghost use Rattle.fetched_ends.specs.LastMarked.{MarksStandAt, begins_touched, is_touched_at};
 ghost use Rattle.fetched_ends.specs.declared.shown.Shown.TheVariants as shown;
 ghost use Rattle.fetched_ends.specs.declared.upon.Upon.TheVariants as upon;
 ghost use Rattle.large_answers.specs.Fetching.{Fetching, IsFetchingOf};
+ghost use Rattle.late_answers.specs.Marking.{StandsFor};
 ghost use Rattle.mctp_framing.specs.Cutting.{RouteFields};
 ghost use Rattle.mctp_framing.specs.Gathering.Gathered.{Whole};
 ghost use Rattle.requester_machine.specs.Setup.{ReqSetup};
@@ -27,11 +29,13 @@ ghost use Rattle.world_machine.specs.Setup.{Configuration};
 use crate::Upon;
 use crate::asked_exchange::asks_exchange;
 use crate::held::Held;
-use crate::held_whole::{leads_to, rsp_id_in};
+use crate::held_late::leads_there;
+use crate::held_whole::rsp_id_in;
 use crate::led::Led;
 use capture_ends::{Answerer, Party};
 use capture_laws::{Round, SessionTable, answer_accepts, last_chunk_changes};
 use connection::Setup;
+use late_answers::Marks;
 use script_text::Why;
 use session_keys::{behind_type, byte_at};
 use spdm_basis::OutOfMemory;
@@ -55,6 +59,31 @@ fn begun_by(exchange: bool, whole: &[u8]) -> Option<u16>
         return None;
     }
     Some(rsp_id_in(whole))
+}
+
+// Whether the session of this RspSessionID from 1 to 4 was touched.
+fn is_touched_at(marks: &Marks, id: u16) -> bool
+    ensures { (h : History) → StandsFor marks.now h → result ≡ is_touched_at id h }
+{
+    if id == 0 || id > 4 {
+        return false;
+    }
+    marks.is_touched(id)
+}
+
+// Whether the fetch began late, and the session that these bytes begin was touched since their request, which is
+// PSK_EXCHANGE or not.
+fn begins_touched(held: &Held, exchange: bool, whole: &[u8]) -> bool
+    ensures { (h : History) → MarksStandAt held.now.late h
+        → result ≡ begins_touched held.now.late exchange whole.now h }
+{
+    let Some(marks) = &held.late else {
+        return false;
+    };
+    if !exchange {
+        return false;
+    }
+    is_touched_at(marks, rsp_id_in(whole))
 }
 
 /// An answer of at most 4,161 bytes came whole, in order behind this round, which is the last chunk of a large answer
@@ -86,7 +115,10 @@ pub(crate) fn ends_by_chunk(
         return Ok(Err(why));
     };
     let exchange = holds_exchange(&party.answerer, held);
-    match leads_to(
+    if begins_touched(held, exchange, whole.as_slice()) {
+        return Ok(Err(why));
+    }
+    match leads_there(
         &mut party.answerer,
         held,
         exchange,

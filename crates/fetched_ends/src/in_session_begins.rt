@@ -41,8 +41,8 @@ pub enum BegunIn {
 /// begins by it in a session, and the table of sessions goes on; or it is told how it goes on otherwise, or why
 /// it is refused. Where the request is none of a session whose answer may go by chunks, or the answer is in the
 /// clear, nothing is told. LargeResponse upon which the requester asks for no chunk goes on, and its answer is
-/// never seen. Nothing is said of what is kept where the answer is refused, and where it is a part of a large
-/// one: LargeResponse again, or a last chunk.
+/// never seen. Nothing is said of what is kept where the answer is refused, where the requester asks for a chunk
+/// upon one that goes whole, and where it is a last chunk.
 pub fn begins_in_session(
     party: &mut Party,
     table: &mut SessionTable,
@@ -83,7 +83,7 @@ pub fn begins_in_session(
         Some(Given::Whole) => {
             let heard = party.go_on(round, Some(key), answer, false);
             if heard.fetches {
-                return Ok(BegunIn::Told(Ok(Onward::Large)));
+                return Ok(BegunIn::Told(Ok(Onward::Asked(why))));
             }
             let change = party.change(None, heard.accepted, taken);
             table.take(&mut party.places, party.number, &change)?;

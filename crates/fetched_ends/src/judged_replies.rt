@@ -16,7 +16,7 @@ use spdm_basis::OutOfMemory;
 const CLEAR: u8 = 5;
 
 // Whether a body is a message in the clear.
-fn is_clear(body: &[u8]) -> bool
+pub(crate) fn is_clear(body: &[u8]) -> bool
     ensures { result ≡ (slice_index body.now 0 == 5) }
 {
     byte_at(body, 0) == CLEAR
@@ -294,9 +294,9 @@ impl JudgedEnds {
     }
 
     /// An answer of at most 4,161 bytes came whole, in order behind this round: it goes on, and the
-    /// table of sessions with it; or it is a part of a large answer that is not judged; or no walk goes on
-    /// with it, and then why. But for the first, nothing is said of what is kept then, and of the table. An
-    /// `Err` comes only where PSK_EXCHANGE_RSP began a session, whole or with its last chunk, and there is no
+    /// table of sessions with it; or the requester asks for a chunk upon it where nothing is fetched, which is
+    /// left unjudged, and why it is refused where no walk goes on with it; or no walk does, and then why. But
+    /// for the first, nothing is said of what is kept then, and of the table. An `Err` comes only where PSK_EXCHANGE_RSP began a session, whole or with its last chunk, and there is no
     /// memory for its entry, and says nothing of what is kept.
     pub fn replies(
         &mut self,

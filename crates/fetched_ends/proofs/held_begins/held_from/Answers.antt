@@ -18,5 +18,6 @@ returns c = λ r h stands asked given.
       short = elim c.if-max-gt-MOST_BYTES.branch [ then-max-gt-MOST_BYTES w ↦ omega (arith, max, w.if-max-gt-MOST_BYTES, w.result-is) | else-max-gt-MOST_BYTES w ↦ omega (arith, max, w.if-max-gt-MOST_BYTES, w.result-is) ];
       few = elim c.if-max-gt-MOST_BYTES.branch [ then-max-gt-MOST_BYTES w ↦ omega (arith, w.if-max-gt-MOST_BYTES, w.result-is) | else-max-gt-MOST_BYTES w ↦ omega (arith, w.if-max-gt-MOST_BYTES, w.result-is) ];
       full = λ n at most. elim c.if-max-gt-MOST_BYTES.branch [ then-max-gt-MOST_BYTES w ↦ omega (arith, max, at, most, w.if-max-gt-MOST_BYTES, w.result-is) | else-max-gt-MOST_BYTES w ↦ omega (arith, max, at, most, w.if-max-gt-MOST_BYTES, w.result-is) ];
+      late = refl;
       answer = c.new.ensures;
     }

@@ -1,13 +1,12 @@
-use Rattle.std.proofs.Common.{◌≡◌, ◌+◌, ◌-◌, ◌^◌, ◌<◌, ◌==◌, ◌∙◌, refl, sym, ap, subst, length, drop, arith, ne_eqb, List, [], ◌∷◌, ℕ, true, false, Some, None, Option, Result, inl, inr}
+use Rattle.std.proofs.Common.{◌≡◌, ◌+◌, ◌-◌, ◌^◌, ◌<◌, ◌==◌, ◌∙◌, refl, sym, ap, subst, length, drop, arith, ne_eqb, List, [], ◌∷◌, ℕ, true, false, Some, None, Option, Result, inr}
 use Rattle.std.specs.Prelude.{OnOk, slice_index}
 use Rattle.std.specs.Option.{IfSome}
 use Rattle.std.proofs.lemmas.Bool.{false≢true, not-false, not-true}
 use Rattle.std.proofs.lemmas.Option.{same_Some}
 use Rattle.capture_ends.proofs.CarriedBy.{keeps_carries}
 use Rattle.capture_ends.proofs.InTurn.{answers_in_turn}
-use Rattle.capture_ends.proofs.KeptTyped.{kept_body}
 use Rattle.capture_ends.proofs.KnownFetches.{kept_asks_none}
-use Rattle.capture_ends.proofs.PartyReplied.{behind_whole, few_messages, goes_whole, is_part, kept_limits, refused_for, whole_kept}
+use Rattle.capture_ends.proofs.PartyReplied.{asked_upon, behind_whole, few_messages, goes_whole, is_part, kept_limits, refused_for, whole_kept}
 use Rattle.capture_ends.proofs.PartyTold.{few_behind, is_change, is_step}
 use Rattle.capture_ends.specs.AnswerKeys.{IsComingKey, StandFor}
 use Rattle.capture_ends.specs.Answerer.{IsAnswerer, history_shown}
@@ -127,9 +126,10 @@ returns-then-heard-clause-told c = λ w q older rows k route keeps below byte no
     let shown = told.whole.0 is in
     let fetches = c.go_on-heard.ensures.fetches w q older k turn.round carries below turn.answers.0 at party.asker (sym (kept_asks_none w q older k keeps)) in
     let asks : asks_upon k route.tag answer ≡ true = sym (ap (λ (n : ℕ). asks_upon k n answer) turn.answers.1) ∙ sym fetches ∙ c.if-heard.true in (
-      is_part w q older k route answer byte limits keeps turn rows c.go_on-heard.new.self c.args.table.now (inr (inr (shown, asks))),
+      asked_upon w q older k route answer byte limits keeps turn rows c.reply_why-why.result shown asks
+          (c.reply_why-why.ensures.told r (restored k) turn.round party.answerer small party.keys (sym body)) c.go_on-heard.new.self c.args.table.now,
       sealed_round k turn.round turn.answers.0 type,
-      λ large. false≢true (ap is_large_given (sym is ∙ told.large.1 (record_here w k route answer turn large).large)),
+      tt,
     )
 
 pub returns-in_ok-take-in-Some-Whole-clause-told : goal.returns-in_ok-take-in-Some-Whole-clause-told
@@ -327,7 +327,7 @@ returns-in-Some-Last-clause-told c = λ w q older rows k route keeps below byte 
     let second = subst (λ (x : Connection). connected.StandsFor x r h) (sym c.coming_key.ensures.same) first in
     let told = given_is w q older k route answer carries turn type sealed c.behind_type-request.result.now c.answers_record.result request (c.answers_record.ensures.told r h turn.round.tag set_up second small) in
     let is = c.in-Some-Last.is ∙ ap Some c.in-Some-Last.field-0-is in (
-      is_part w q older k route answer byte limits keeps turn rows c.args.party.now c.args.table.now (inr (inl (told.last.0 is))),
+      is_part w q older k route answer byte limits keeps turn rows c.args.party.now c.args.table.now (inr (told.last.0 is)),
       sealed_round k turn.round turn.answers.0 type,
       λ large. false≢true (ap is_large_given (sym is ∙ told.large.1 (record_here w k route answer turn large).large)),
     )

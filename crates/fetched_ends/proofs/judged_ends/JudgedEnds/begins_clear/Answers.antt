@@ -12,7 +12,7 @@ use Rattle.capture_laws.specs.Order.{answered_why}
 use Rattle.capture_laws.specs.Rows.{StandsForRows}
 use Rattle.capture_laws.specs.declared.verdict.Seen.{Seen}
 use Rattle.connection.specs.Setup.{IsSetUp}
-use Rattle.fetched_ends.proofs.EndsLeft.{all_rest, is_left, kept_rest}
+use Rattle.fetched_ends.proofs.EndsLeft.{all_rest, kept_rest, no_part}
 use Rattle.fetched_ends.proofs.EndsReplied.{begun_on}
 use Rattle.fetched_ends.proofs.judged_ends.JudgedEnds.begins_clear.Goals as goal
 use Rattle.fetched_ends.specs.BegunHeld.{IsBegunHeld}
@@ -35,7 +35,7 @@ returns-in-Not-clause-told c = λ w q older rows packet route k at few byte roun
     (c.begins_held.ensures.told w q older rows k route keeps few byte now towards_it right party table) in
     let is = subst (λ (x : BegunHeld). IsBegunHeld w q older rows k route answer x new c.args.table.now after) c.in-Not.is begun in
     let entries = subst (λ (t : List Seen). StandsForRows t w (length older) rows) (sym is.2) table in
-    all_rest w q older k keeps route answer rows packet at talk none c.args.self.now.fetched rest c.replies.new.self c.replies.new.table (is_left w q older k keeps route answer is.0 sealed) c.replies.result
+    all_rest w q older k keeps route answer rows packet at talk none c.args.self.now.fetched rest c.replies.new.self c.replies.new.table (no_part w q older k keeps route answer is.0 sealed) c.replies.result
     (c.replies.ensures.told w q older rows k route keeps few byte now towards_it right is.1 entries)
 
 pub returns-in-Passed-clause-told : goal.returns-in-Passed-clause-told

@@ -9,7 +9,7 @@ use Rattle.capture_laws.proofs.PairWalks.{walks_setup}
 use Rattle.capture_laws.specs.Keeping.{restored}
 use Rattle.capture_laws.specs.Order.{answered_why, body_in}
 use Rattle.connection.specs.Setup.{IsSetUp}
-use Rattle.fetched_ends.proofs.EndsLeft.{all_rest, session_left}
+use Rattle.fetched_ends.proofs.EndsLeft.{all_rest, session_part}
 use Rattle.fetched_ends.proofs.judged_ends.JudgedEnds.begins_other.Goals as goal
 use Rattle.world_machine.specs.Rounds.{Round}
 use Rattle.world_machine.specs.Setup.{known_of}
@@ -24,7 +24,7 @@ returns-then-not-is_clear-clause-told c = λ w q older rows packet route k at fe
     let right = subst (λ (o : Option Round). answered_why o (Whole route answer) ≡ None) now why in
     let type : (slice_index (body_in c.args.round.now) 0 == 5) ≡ false = ap (λ (l : List ℕ). slice_index l 0 == 5) (sym c.body.ensures) ∙ sym c.is_clear.ensures ∙ c.if-not-is_clear.true in
     all_rest w q older k keeps route answer rows packet at talk none c.args.self.now.fetched rest c.replies.new.self c.replies.new.table
-    (session_left w q older k keeps route answer (λ other is. subst (λ (o : Option Round). (slice_index (body_in o) 0 == 5) ≡ false) (now ∙ is) type) sealed) c.replies.result
+    (session_part w q older k keeps route answer (λ other is. subst (λ (o : Option Round). (slice_index (body_in o) 0 == 5) ≡ false) (now ∙ is) type) sealed) c.replies.result
     (c.replies.ensures.told w q older rows k route keeps few byte now towards_it right party table)
 
 pub returns-clause-told : goal.returns-clause-told
