@@ -1,13 +1,14 @@
 ghost use Rattle.std.specs.Prelude.{◌≤◌, length};
 ghost use Rattle.checked_texts.specs.Texts.{IsCheckedText};
 
+use capture_laws::Verdict;
 use script_text::{ScriptFault, TEXT_LIMIT, parse_capture};
 use std::alloc::Global;
-use trace_check::{Checked, check};
+use trace_check::check;
 
-/// What is told of the capture that a text is. The fault is that of the first bad line, and the first
+/// The verdict on the capture that a text is. The fault is that of the first bad line, and the first
 /// that it has, or want of memory.
-pub fn check_text(alloc: Global, text: &[u8]) -> Result<Checked, ScriptFault>
+pub fn check_text(alloc: Global, text: &[u8]) -> Result<Verdict, ScriptFault>
     requires { length text.now ≤ TEXT_LIMIT }
     ensures { IsCheckedText text.now result }
 {
@@ -16,7 +17,7 @@ pub fn check_text(alloc: Global, text: &[u8]) -> Result<Checked, ScriptFault>
         Err(fault) => return Err(fault),
     };
     match check(alloc, &capture) {
-        Ok(checked) => Ok(checked),
+        Ok(verdict) => Ok(verdict),
         Err(_) => Err(ScriptFault::OutOfMemory),
     }
 }

@@ -6,16 +6,11 @@ use Rattle.checked_texts.specs.Texts.{IsCheckedText}
 use Rattle.script_text.specs.declared.config_text.TheConstants.{TEXT_LIMIT}
 use Rattle.script_text.specs.declared.faults.ScriptFault.{ScriptFault}
 use Rattle.spdm_basis.specs.Stream.{Takes}
-use Rattle.spdm_check.specs.Answers.{HasUnjudged, HasVerdict, IsAnswered, answer_of}
+use Rattle.spdm_check.specs.Answers.{HasVerdict, IsAnswered, answer_of}
 use Rattle.spdm_check.specs.Lines.{verdict_text}
-use Rattle.trace_check.specs.declared.checking.Checked.{Checked}
-use Rattle.trace_check.specs.declared.checking.Checked.TheVariants as checked
 
-pub judged_text : (text : List ℕ) (x : Result Checked ScriptFault) (told : Verdict) → length text ≤ TEXT_LIMIT → IsCheckedText text x → x ≡ Ok (checked.Judged told) → HasVerdict text told
+pub judged_text : (text : List ℕ) (x : Result Verdict ScriptFault) (told : Verdict) → length text ≤ TEXT_LIMIT → IsCheckedText text x → x ≡ Ok told → HasVerdict text told
 judged_text text x told fits is same = (let c = subst (IsCheckedText text) same is in (c.0, (fits, c.1), c.2))
-
-pub large_text : (text : List ℕ) (x : Result Checked ScriptFault) (packet : ℕ) → length text ≤ TEXT_LIMIT → IsCheckedText text x → x ≡ Ok (checked.Large packet) → HasUnjudged text packet
-large_text text x packet fits is same = (let c = subst (IsCheckedText text) same is in (c.0, (fits, c.1), c.2))
 
 pub written_text : (text : List ℕ) (old now : Option (List ℕ)) (told : Verdict) → HasVerdict text told → Takes old (verdict_text told) now → IsAnswered text old now (Ok (answer_of told))
 written_text text old now (verdict.Conforms table) has wrote = (table, record { has = has; wrote = wrote })

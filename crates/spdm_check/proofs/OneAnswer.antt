@@ -90,33 +90,31 @@ one_answer text (Judged told) (Judged other) is its = same_answer told other (sa
 
 -- ---- What is answered where no call failed.
 
--- It is want of memory, or comes of a finding, or of a packet that is not judged.
+-- It is want of memory, or comes of a finding.
 abbrev IsTold : (text : List ℕ) → Result CheckAnswer CheckFault → Type 0
 IsTold text given =
-    (given ≡ Err fault.OutOfMemory) ⊎ (((f : Finding) × HasFinding text f × (given ≡ answer_for f)) ⊎ ((packet : ℕ) × (given ≡ Ok (answer.Unjudged packet))))
+    (given ≡ Err fault.OutOfMemory) ⊎ ((f : Finding) × HasFinding text f × (given ≡ answer_for f))
 
 told_of : (text : List ℕ) (old now : Option (List ℕ)) (given : Result CheckAnswer CheckFault)
     → IsAnswered text old now given → (given ≡ Err fault.ReadFault → ⊥) → (given ≡ Err fault.WriteFault → ⊥)
     → IsTold text given
-told_of text old now (Ok answer.Conforms) is read wrote = inr (inl (Judged (verdict.Conforms is.0), is.1.has, refl))
-told_of text old now (Ok (answer.Differs packet w)) is read wrote = inr (inl (Judged (verdict.Differs packet w), is.has, refl))
-told_of text old now (Ok (answer.Unjudged packet)) is read wrote = inr (inr (packet, refl))
-told_of text old now (Err (fault.Line line f)) is read wrote = inr (inl (BadText (record { line = line; fault = f }), is, refl))
-told_of text old now (Err fault.TooLong) is read wrote = inr (inl (LongText, is, refl))
+told_of text old now (Ok answer.Conforms) is read wrote = inr (Judged (verdict.Conforms is.0), is.1.has, refl)
+told_of text old now (Ok (answer.Differs packet w)) is read wrote = inr (Judged (verdict.Differs packet w), is.has, refl)
+told_of text old now (Err (fault.Line line f)) is read wrote = inr (BadText (record { line = line; fault = f }), is, refl)
+told_of text old now (Err fault.TooLong) is read wrote = inr (LongText, is, refl)
 told_of text old now (Err fault.WriteFault) is read wrote = absurd (wrote refl)
 told_of text old now (Err fault.ReadFault) is read wrote = absurd (read refl)
 told_of text old now (Err fault.OutOfMemory) is read wrote = inl refl
 
 pub exactly : (text : List ℕ) (old now : Option (List ℕ)) (found : Finding) (given : Result CheckAnswer CheckFault)
     → HasFinding text found → IsAnswered text old now given → (given ≡ Err fault.ReadFault → ⊥) → (given ≡ Err fault.WriteFault → ⊥)
-    → (given ≡ Err fault.OutOfMemory) ⊎ ((given ≡ answer_for found) ⊎ ((packet : ℕ) × (given ≡ Ok (answer.Unjudged packet))))
+    → (given ≡ Err fault.OutOfMemory) ⊎ (given ≡ answer_for found)
 exactly text old now found given has is read wrote = by_told (told_of text old now given is read wrote)
   where
     by_told : IsTold text given
-        → (given ≡ Err fault.OutOfMemory) ⊎ ((given ≡ answer_for found) ⊎ ((packet : ℕ) × (given ≡ Ok (answer.Unjudged packet))))
+        → (given ≡ Err fault.OutOfMemory) ⊎ (given ≡ answer_for found)
     by_told (inl none) = inl none
-    by_told (inr (inl own)) = inr (inl (own.2 ∙ one_answer text own.0 found own.1 has))
-    by_told (inr (inr left)) = inr (inr left)
+    by_told (inr own) = inr (own.2 ∙ one_answer text own.0 found own.1 has)
 
 -- A capture is judged.
 pub completely : (text : List ℕ) (old now : Option (List ℕ)) (given : Result CheckAnswer CheckFault)

@@ -13,7 +13,6 @@ use Rattle.script_text.specs.declared.faults.ScriptFault.TheVariants as script
 use Rattle.script_text.specs.declared.script.Capture.{Capture}
 use Rattle.script_text.specs.declared.config_text.TheConstants.{TEXT_LIMIT}
 use Rattle.spdm_basis.specs.Stream.{Takes, TakesPrefix}
-use Rattle.trace_check.specs.Checking.{IsLargeAt}
 use Rattle.spdm_check.specs.Lines.{verdict_text}
 use Rattle.spdm_check.specs.declared.answer.CheckAnswer.{CheckAnswer}
 use Rattle.spdm_check.specs.declared.answer.CheckAnswer.TheVariants as answer
@@ -34,10 +33,6 @@ HasBadLine text bad = (length text ≤ TEXT_LIMIT) × (bad_line_in (capture_in t
 abbrev pub HasVerdict : (text : List ℕ) → Verdict → Type 0
 HasVerdict text told = (capture : Capture) × IsCapture text capture × IsVerdict (configuration_in capture.config) capture.packets told
 
--- It is a capture of which this packet is a part of a large answer that is not judged.
-abbrev pub HasUnjudged : (text : List ℕ) → (packet : ℕ) → Type 0
-HasUnjudged text packet = (capture : Capture) × IsCapture text capture × IsLargeAt (configuration_in capture.config) capture.packets packet
-
 -- ---- What is answered.
 
 -- The text has this verdict, and its lines were written whole.
@@ -50,7 +45,6 @@ pub record IsWritten (text : List ℕ) (old now : Option (List ℕ)) (told : Ver
 abbrev pub IsAnswered : (text : List ℕ) → (old now : Option (List ℕ)) → Result CheckAnswer CheckFault → Type 0
 IsAnswered text old now (Ok answer.Conforms) = (table : List Seen) × IsWritten text old now (verdict.Conforms table)
 IsAnswered text old now (Ok (answer.Differs packet why)) = IsWritten text old now (verdict.Differs packet why)
-IsAnswered text old now (Ok (answer.Unjudged packet)) = HasUnjudged text packet
 IsAnswered text old now (Err (fault.Line line f)) = HasBadLine text (record { line = line; fault = f })
 IsAnswered text old now (Err fault.TooLong) = TEXT_LIMIT < length text
 IsAnswered text old now (Err fault.WriteFault) = (told : Verdict) × HasVerdict text told × TakesPrefix old (verdict_text told) now
@@ -61,7 +55,6 @@ IsAnswered text old now (Err fault.OutOfMemory) = now ≡ old
 abbrev pub writes_nothing : Result CheckAnswer CheckFault → Bool
 writes_nothing (Ok answer.Conforms) = false
 writes_nothing (Ok (answer.Differs packet why)) = false
-writes_nothing (Ok (answer.Unjudged packet)) = true
 writes_nothing (Err fault.WriteFault) = false
 writes_nothing (Err _) = true
 
@@ -90,7 +83,7 @@ HasFinding text LongText = TEXT_LIMIT < length text
 HasFinding text (BadText bad) = HasBadLine text bad
 HasFinding text (Judged told) = HasVerdict text told
 
--- The answer where nothing fails, memory does not run out, and no part of a large answer is left unjudged.
+-- The answer where nothing fails, and memory does not run out.
 abbrev pub answer_for : Finding → Result CheckAnswer CheckFault
 answer_for LongText = Err fault.TooLong
 answer_for (BadText bad) = Err (fault.Line bad.line bad.fault)

@@ -9,9 +9,6 @@ pub enum CheckAnswer {
     Conforms,
     /// This packet, counted from 1, is the first that does not conform, for this reason. That was written.
     Differs { packet: u32, why: Why },
-    /// This packet is a part of a large answer that is not judged, and those before it conform. Nothing was
-    /// written.
-    Unjudged { packet: u32 },
 }
 
 /// Why a text has no verdict, or why it was not written.

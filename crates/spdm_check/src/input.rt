@@ -1,4 +1,4 @@
-ghost use Rattle.std.specs.Prelude.{◌≡◌, ◌≤◌, ◌⊎◌, [], ℕ, List, None, Some, Ok, Err, true, length, is_ok, IsErrOf, OnOk};
+ghost use Rattle.std.specs.Prelude.{◌≡◌, ◌≤◌, ◌⊎◌, [], ℕ, List, None, Some, Err, true, length, is_ok, IsErrOf, OnOk};
 ghost use Rattle.script_text.specs.Reading.{bad_line_in};
 ghost use Rattle.script_text.specs.ScriptText.{capture_in};
 ghost use Rattle.spdm_basis.specs.Stream.{HasFault, IsQuiet};
@@ -10,7 +10,6 @@ use checked_texts::check_text;
 use script_text::{LineFault, ScriptFault, TEXT_LIMIT};
 use spdm_basis::{InFault, OutFault, Sink, Source, read_all};
 use std::alloc::Global;
-use trace_check::Checked;
 
 // Why a text is no capture, as it is told.
 fn fault_of(fault: ScriptFault) -> CheckFault
@@ -47,11 +46,10 @@ fn answer_text<K: Sink>(alloc: Global, text: &[u8], sink: &mut K) -> Result<Chec
     ensures later { K.faults sink.old ≤ K.faults sink.new }
 {
     match check_text(alloc, text) {
-        Ok(Checked::Judged(verdict)) => match write_verdict(&verdict, sink) {
+        Ok(verdict) => match write_verdict(&verdict, sink) {
             Ok(()) => Ok(answer_of(&verdict)),
             Err(OutFault::WriteFault) => Err(CheckFault::WriteFault),
         },
-        Ok(Checked::Large(packet)) => Ok(CheckAnswer::Unjudged { packet }),
         Err(fault) => Err(fault_of(fault)),
     }
 }
@@ -65,13 +63,11 @@ pub fn check_input<S: Source, K: Sink>(
 ) -> Result<CheckAnswer, CheckFault>
     ensures answered { (text : List ℕ) → S.remaining source.old ≡ Some text
         → IsAnswered text (K.contents sink.old) (K.contents sink.new) result }
-    // Where nothing fails, the answer is the one for what there is to find of the text, unless memory runs out or a
-    // part of a large answer is left unjudged.
+    // Where nothing fails, the answer is the one for what there is to find of the text, unless memory runs out.
     ensures exact { (text : List ℕ) (found : Finding) → S.remaining source.old ≡ Some text
         → HasFinding text found → IsQuiet (S.faults source.old) (S.faults source.new)
         → IsQuiet (K.faults sink.old) (K.faults sink.new)
-        → (result ≡ Err CheckFault.OutOfMemory) ⊎ ((result ≡ answer_for found)
-        ⊎ ((packet : ℕ) × (result ≡ Ok (CheckAnswer.Unjudged packet)))) }
+        → (result ≡ Err CheckFault.OutOfMemory) ⊎ (result ≡ answer_for found) }
     ensures complete { (text : List ℕ) → S.remaining source.old ≡ Some text
         → length text ≤ TEXT_LIMIT → bad_line_in (capture_in text) ≡ None
         → IsQuiet (S.faults source.old) (S.faults source.new)

@@ -15,17 +15,9 @@ fn main(rt: HostRuntime) -> ExitCode {
     let outcome = command(&rt);
     match outcome {
         Outcome::Done => {}
-        Outcome::Unjudged { packet } => tell_packet(&rt, packet),
         _ => drop(rt.eprintln(outcome.name())),
     }
     ExitCode::from(outcome.status())
-}
-
-// Tells which packet is not judged, where there is memory for that.
-fn tell_packet(rt: &HostRuntime, packet: u32) {
-    if let Ok(text) = format!(in rt.alloc(); "Unjudged {packet}") {
-        let _ = rt.eprintln(text.as_str());
-    }
 }
 
 fn command(rt: &HostRuntime) -> Outcome {

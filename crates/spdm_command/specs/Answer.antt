@@ -15,7 +15,7 @@ use Rattle.spdm_basis.specs.Stream.{IsQuiet}
 use Rattle.spdm_show.specs.Shown.{shown_text}
 use Rattle.world_machine.specs.Totals.{Totals, totals_of}
 use Rattle.spdm_command.specs.declared.outcome.Outcome.{Outcome}
-use Rattle.spdm_command.specs.declared.outcome.Outcome.TheVariants.{Done, Usage, Differs, Unjudged, BadFrame, BadScript, ReadFault, WriteFault, OutOfMemory, SeedFault, TooLong, LinkFull}
+use Rattle.spdm_command.specs.declared.outcome.Outcome.TheVariants.{Done, Usage, Differs, BadFrame, BadScript, ReadFault, WriteFault, OutOfMemory, SeedFault, TooLong, LinkFull}
 use Rattle.spdm_command.specs.declared.words.Command.{Command}
 use Rattle.spdm_command.specs.declared.words.Command.TheVariants.{Check, Drive, Serve, Text}
 use Rattle.spdm_command.specs.declared.words.TextCommand.{TextCommand}
@@ -152,7 +152,6 @@ writes_nothing (BadScript line f) = true
 writes_nothing ReadFault = true
 writes_nothing TooLong = true
 writes_nothing SeedFault = true
-writes_nothing (Unjudged packet) = true
 writes_nothing (Differs packet why) = false
 writes_nothing Done = false
 writes_nothing WriteFault = false
@@ -171,7 +170,6 @@ ran ReadFault = false
 ran TooLong = false
 ran SeedFault = false
 ran (Differs packet why) = false
-ran (Unjudged packet) = false
 ran (BadFrame at) = false
 ran OutOfMemory = false
 

@@ -6,13 +6,12 @@ use Rattle.spdm_check.specs.declared.answer.CheckAnswer.TheVariants as answer
 use Rattle.spdm_check.specs.declared.answer.CheckFault.{CheckFault}
 use Rattle.spdm_check.specs.declared.answer.CheckFault.TheVariants as fault
 use Rattle.spdm_command.specs.declared.outcome.Outcome.{Outcome}
-use Rattle.spdm_command.specs.declared.outcome.Outcome.TheVariants.{Done, Differs, Unjudged, BadScript, ReadFault, WriteFault, OutOfMemory, TooLong}
+use Rattle.spdm_command.specs.declared.outcome.Outcome.TheVariants.{Done, Differs, BadScript, ReadFault, WriteFault, OutOfMemory, TooLong}
 
 -- The outcome of what was answered: a capture that conforms is done.
 abbrev pub outcome_of : Result CheckAnswer CheckFault → Outcome
 outcome_of (Ok answer.Conforms) = Done
 outcome_of (Ok (answer.Differs packet why)) = Differs packet why
-outcome_of (Ok (answer.Unjudged packet)) = Unjudged packet
 outcome_of (Err (fault.Line line f)) = BadScript line f
 outcome_of (Err fault.TooLong) = TooLong
 outcome_of (Err fault.ReadFault) = ReadFault
@@ -25,8 +24,7 @@ pub record IsChecked (text : List ℕ) (old now : Option (List ℕ)) (outcome : 
   pub is : outcome ≡ outcome_of answer
   pub answered : IsAnswered text old now answer
 
--- The outcome for what there is to find of a text, where nothing fails, memory does not run out, and no part of a large
--- answer is left unjudged.
+-- The outcome for what there is to find of a text, where nothing fails and memory does not run out.
 abbrev pub outcome_for : Finding → Outcome
 outcome_for found = outcome_of (answer_for found)
 
@@ -34,11 +32,9 @@ outcome_for found = outcome_of (answer_for found)
 abbrev pub is_judged : Outcome → Bool
 is_judged Done = true
 is_judged (Differs packet why) = true
-is_judged (Unjudged packet) = true
 is_judged _ = false
 
 -- This comes of captures alone.
 abbrev pub is_of_captures : Outcome → Bool
 is_of_captures (Differs packet why) = true
-is_of_captures (Unjudged packet) = true
 is_of_captures _ = false

@@ -1,7 +1,7 @@
 -- What a command answers to a stream. This project's own.
 use Rattle.std.specs.Prelude.{◌≡◌, Bool, true, false, Option, Some, None, Result, Ok, Err}
 use Rattle.spdm_command.specs.declared.outcome.Outcome.{Outcome}
-use Rattle.spdm_command.specs.declared.outcome.Outcome.TheVariants.{Done, Usage, Differs, Unjudged, BadFrame, BadScript, ReadFault, WriteFault, OutOfMemory, SeedFault, TooLong, LinkFull}
+use Rattle.spdm_command.specs.declared.outcome.Outcome.TheVariants.{Done, Usage, Differs, BadFrame, BadScript, ReadFault, WriteFault, OutOfMemory, SeedFault, TooLong, LinkFull}
 use Rattle.spdm_command.specs.declared.words.Command.{Command}
 use Rattle.spdm_command.specs.declared.words.Command.TheVariants.{Check, Drive, Serve, Text}
 use Rattle.stream_commands.specs.Driven as driven
@@ -42,7 +42,6 @@ is_of_streams OutOfMemory = false
 is_of_streams TooLong = false
 is_of_streams (LinkFull line) = false
 is_of_streams (Differs packet why) = false
-is_of_streams (Unjudged packet) = false
 
 -- The outcome is that of an answer which a responder gave so.
 pub record IsServed (before after : Outside) (outcome : Outcome) : Type 0 where

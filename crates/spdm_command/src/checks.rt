@@ -22,7 +22,6 @@ fn outcome_of(answer: &Result<CheckAnswer, CheckFault>) -> Outcome
             packet: *packet,
             why: *why,
         },
-        Ok(CheckAnswer::Unjudged { packet }) => Outcome::Unjudged { packet: *packet },
         Err(CheckFault::Line(line, fault)) => Outcome::BadScript {
             line: *line,
             fault: *fault,
@@ -41,8 +40,7 @@ pub fn check_capture<S: Source, K: Sink>(alloc: Global, source: &mut S, sink: &m
     ensures exact { (text : List ℕ) (found : Finding) → S.remaining source.old ≡ Some text
         → HasFinding text found → IsQuiet (S.faults source.old) (S.faults source.new)
         → IsQuiet (K.faults sink.old) (K.faults sink.new)
-        → (result ≡ Outcome.OutOfMemory) ⊎ ((result ≡ outcome_for found)
-        ⊎ ((packet : ℕ) × (result ≡ Outcome.Unjudged packet))) }
+        → (result ≡ Outcome.OutOfMemory) ⊎ (result ≡ outcome_for found) }
     ensures complete { (text : List ℕ) → S.remaining source.old ≡ Some text
         → length text ≤ text_limit → bad_line_in (capture_in text) ≡ None
         → IsQuiet (S.faults source.old) (S.faults source.new)

@@ -29,9 +29,6 @@ pub enum Outcome {
     LinkFull { line: u32 },
     /// The frame that begins at this byte of the stream is bad. What the frames before it led to was written.
     BadFrame { at: u64 },
-    /// This packet of a capture, counted from 1, is a part of a large answer that is not judged, and the capture
-    /// conforms before it. Nothing was written.
-    Unjudged { packet: u32 },
 }
 
 impl Outcome {
@@ -53,7 +50,6 @@ impl Outcome {
             Outcome::TooLong => 8,
             Outcome::LinkFull { .. } => 9,
             Outcome::BadFrame { .. } => 10,
-            Outcome::Unjudged { .. } => 11,
         }
     }
 
@@ -73,7 +69,6 @@ impl Outcome {
             Outcome::TooLong => "TooLong",
             Outcome::LinkFull { .. } => "LinkFull",
             Outcome::BadFrame { .. } => "BadFrame",
-            Outcome::Unjudged { .. } => "Unjudged",
         }
     }
 }

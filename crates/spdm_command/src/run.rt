@@ -114,8 +114,7 @@ pub fn spdm<S: Source, K: Sink, E: Seeds>(
         → (text : List ℕ) (found : Finding) → S.remaining source.old ≡ Some text
         → HasFinding text found → IsQuiet (S.faults source.old) (S.faults source.new)
         → IsQuiet (K.faults sink.old) (K.faults sink.new)
-        → (result ≡ Outcome.OutOfMemory) ⊎ ((result ≡ outcome_for found)
-        ⊎ ((packet : ℕ) × (result ≡ Outcome.Unjudged packet))) }
+        → (result ≡ Outcome.OutOfMemory) ⊎ (result ≡ outcome_for found) }
     ensures each_capture_judged { command_of (map string_bytes words.now) ≡ Some Check
         → (text : List ℕ) → S.remaining source.old ≡ Some text
         → length text ≤ text_limit → bad_line_in (capture_in text) ≡ None

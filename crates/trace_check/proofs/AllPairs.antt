@@ -9,14 +9,12 @@ use Rattle.requester_machine.specs.Setup.{ReqSetup}
 use Rattle.script_text.specs.declared.why.Why as declared
 use Rattle.spdm_basis.specs.declared.OutOfMemory.{OutOfMemory}
 use Rattle.spdm_basis.specs.declared.PacketFault.{PacketFault}
-use Rattle.capture_ends.specs.declared.onward.Onward.{Onward}
-use Rattle.capture_ends.specs.declared.onward.Onward.TheVariants as onward
 use Rattle.capture_laws.specs.Judged.{AreApart}
 use Rattle.capture_laws.specs.Order.{is_known, order_why, ordered_why}
 use Rattle.capture_laws.specs.ReasonsEach.{IsOneOf}
 use Rattle.capture_laws.specs.Rows.{StandsForRows}
 use Rattle.trace_check.proofs.Refusals.{order_refused}
-use Rattle.trace_check.specs.Checker.{AreKept, IsChecker, IsLarge, IsTold, has_eid}
+use Rattle.trace_check.specs.Checker.{AreKept, IsChecker, IsTold, has_eid}
 use Rattle.trace_check.specs.JudgedPair.{IsRefused, IsTaken, StandsFor}
 use Rattle.trace_check.specs.Limits.{IsAnswering}
 use Rattle.trace_check.specs.declared.checker.Checker.{Checker}
@@ -118,10 +116,10 @@ one_of w q eid end known = subst (λ (n : ℕ). find (λ (x : ReqSetup). x.eid =
 -- ---- What is told of a packet.
 
 -- What is told of it by its requester.
-pub told_by : (large : Type 0) (w : Configuration) (q : ReqSetup) (older : List (List ℕ)) (packet : List ℕ) (rows : List Row) (x : Result Onward declared.Why) (pair : JudgedPair) (new : Checker)
-    → IsTaken large w q older packet rows x pair new.table → (large → IsLarge w older packet) → new.own.number ≡ w.responder.eid → IsAnswering new.answering w.responder
+pub told_by : (w : Configuration) (q : ReqSetup) (older : List (List ℕ)) (packet : List ℕ) (rows : List Row) (x : Result Unit declared.Why) (pair : JudgedPair) (new : Checker)
+    → IsTaken w q older packet rows x pair new.table → new.own.number ≡ w.responder.eid → IsAnswering new.answering w.responder
     → ((behind : List Row) → StandsFor pair w q (packet ∷ older) behind → OthersStay w q older packet rows behind → AreKept new.pairs.items w (packet ∷ older) behind w.requesters) → IsTold w older packet x new
-told_by large w q older packet rows (Ok onward.Kept) pair new taken of own answering change =
+told_by w q older packet rows (Ok u) pair new taken own answering change =
     let more : length older + 1 ≡ length (packet ∷ older) = omega arith in record {
       own = own;
       answering = answering;
@@ -130,15 +128,14 @@ told_by large w q older packet rows (Ok onward.Kept) pair new taken of own answe
       pairs = change taken.behind taken.stands taken.others;
       entries = subst (λ (n : ℕ). StandsForRows new.table w n taken.behind) more taken.entries;
     }
-told_by large w q older packet rows (Ok onward.Large) pair new taken of own answering change = of taken
-told_by large w q older packet rows (Err why) pair new taken of own answering change = taken
+told_by w q older packet rows (Err why) pair new taken own answering change = taken
 
 -- The same, where memory may be wanted.
-pub given_by : (large : Type 0) (w : Configuration) (q : ReqSetup) (older : List (List ℕ)) (packet : List ℕ) (rows : List Row) (x : Result (Result Onward declared.Why) OutOfMemory) (pair : JudgedPair) (new : Checker)
-    → IfOk x (λ told. IsTaken large w q older packet rows told pair new.table) → (large → IsLarge w older packet) → new.own.number ≡ w.responder.eid → IsAnswering new.answering w.responder
+pub given_by : (w : Configuration) (q : ReqSetup) (older : List (List ℕ)) (packet : List ℕ) (rows : List Row) (x : Result (Result Unit declared.Why) OutOfMemory) (pair : JudgedPair) (new : Checker)
+    → IfOk x (λ told. IsTaken w q older packet rows told pair new.table) → new.own.number ≡ w.responder.eid → IsAnswering new.answering w.responder
     → ((behind : List Row) → StandsFor pair w q (packet ∷ older) behind → OthersStay w q older packet rows behind → AreKept new.pairs.items w (packet ∷ older) behind w.requesters) → IfOk x (λ told. IsTold w older packet told new)
-given_by large w q older packet rows (Ok told) pair new taken of own answering change = told_by large w q older packet rows told pair new taken of own answering change
-given_by large w q older packet rows (Err fault) pair new taken of own answering change = tt
+given_by w q older packet rows (Ok told) pair new taken own answering change = told_by w q older packet rows told pair new taken own answering change
+given_by w q older packet rows (Err fault) pair new taken own answering change = tt
 
 -- The order of the packets refuses it.
 pub refused_by : (w : Configuration) (older : List (List ℕ)) (seen : Checker) (packet : List ℕ) (r : Result PacketFields PacketFault) (why : Why) → IsChecker seen w older → parsed packet ≡ r → ordered_why w.responder.eid w.requesters older r ≡ Some why

@@ -1,6 +1,6 @@
 -- What a packet for a requester comes to: it goes on, it is a part of a large answer, or it is refused.
 use Rattle.std.proofs.Common.{◌≡◌, ◌==◌, ◌&&◌, ◌+◌, ◌∙◌, ℕ, List, ◌∷◌, length, refl, sym, ap, subst, Bool, true, false, Some, Result, Ok, Err, inl, inr, arith}
-use Rattle.std.specs.Prelude.{IfOk}
+use Rattle.std.specs.Prelude.{IfOk, OnOk}
 use Rattle.mctp_framing.specs.Cutting.{RouteFields}
 use Rattle.mctp_framing.specs.Gathering.{Gathered, gathered}
 use Rattle.mctp_framing.specs.Gathering.Gathered.{Dropped, More, Whole}
@@ -14,8 +14,6 @@ use Rattle.spdm_basis.specs.declared.OutOfMemory.{OutOfMemory}
 use Rattle.spdm_basis.specs.declared.PacketFault.{PacketFault}
 use Rattle.spdm_machine.specs.Packets.{fields_in, gathered_from}
 use Rattle.capture_ends.specs.Conversation.{IsAnswer, WalksShow}
-use Rattle.capture_ends.specs.declared.onward.Onward.{Onward}
-use Rattle.capture_ends.specs.declared.onward.Onward.TheVariants as onward
 use Rattle.capture_laws.proofs.Found.{IsOfOne}
 use Rattle.capture_laws.proofs.Kept.{answered_gathers, answered_kept}
 use Rattle.capture_laws.proofs.KeptAnswers.{goes_to}
@@ -28,14 +26,16 @@ use Rattle.capture_laws.specs.Rows.{StandsForRows}
 use Rattle.capture_laws.specs.Walks.{StepsBy, StepsTo}
 use Rattle.capture_laws.specs.declared.verdict.Seen.{Seen}
 use Rattle.fetched_ends.proofs.EndsStay.{awaiting_ends}
+use Rattle.fetched_ends.proofs.MarksStay.{awaiting_marked}
 use Rattle.fetched_ends.specs.JudgedEnds as judged_ends
-use Rattle.fetched_ends.specs.JudgedEnds.{StandsBehind}
-use Rattle.fetched_ends.specs.declared.judged_ends.JudgedEnds.{JudgedEnds}
+use Rattle.fetched_ends.specs.MarkedEnds as marked_ends
+use Rattle.fetched_ends.specs.MarkedEnds.{StandsBehind}
+use Rattle.fetched_ends.specs.declared.marked.MarkedEnds.{MarkedEnds}
 use Rattle.trace_check.proofs.Refusals.{answer_refused, order_refused}
 use Rattle.trace_check.proofs.Requests.{others_stand, rests}
 use Rattle.trace_check.proofs.Walked.{known_is}
 use Rattle.trace_check.specs.Bodies.{IsAnswerJudged}
-use Rattle.trace_check.specs.JudgedPair.{ComesBehind, GoesOn, IsRefused, IsTaken, RepliesLarge, StandsFor, pair_of}
+use Rattle.trace_check.specs.JudgedPair.{ComesBehind, GoesOn, IsRefused, IsTaken, StandsFor, pair_of}
 use Rattle.trace_check.specs.declared.judged_pair.JudgedPair.{JudgedPair}
 use Rattle.world_machine.specs.Capture.{RepliesBy}
 use Rattle.world_machine.specs.SessionTable.{Row, rows_between}
@@ -62,16 +62,16 @@ module _ (w : Configuration) (q : ReqSetup) (older : List (List ℕ)) (rows : Li
   pub answer_goes : (new : JudgedPair) (table : List Seen) → StandsBehind new.ends table w q older rows packet → IsPair (pair_of new) own q.eid (packet ∷ older)
       → new.hint ≡ seen.hint → new.psk ≡ seen.psk → GoesOn new table w q older packet rows
   answer_goes new table there order hint psk = record {
-    behind = rows_between there.before there.after rows;
-    shows = shown w q older packet p there.before there.after rows before.sound.apart before.known before.parses (inr is) there.came there.goes before.shows;
+    behind = rows_between there.0.before there.0.after rows;
+    shows = shown w q older packet p there.0.before there.0.after rows before.sound.apart before.known before.parses (inr is) there.0.came there.0.goes before.shows;
     stands = record {
       order = order;
-      talk = there.stands;
+      talk = (there.0.stands, there.1);
       hint = hint ∙ stands.hint;
       psk = psk ∙ stands.psk;
     };
-    others = others_stand w q older rows packet p before of_one there.before there.after (walks_setup w q (packet ∷ older) there.after there.goes);
-    entries = there.entries;
+    others = others_stand w q older rows packet p before of_one there.0.before there.0.after (walks_setup w q (packet ∷ older) there.0.after there.0.goes);
+    entries = there.0.entries;
   }
 
   -- It is out of order.
@@ -93,43 +93,44 @@ module _ (w : Configuration) (q : ReqSetup) (older : List (List ℕ)) (rows : Li
     unfolding StepsTo
     answer_waits gives round same entries =
         let more : g ≡ More = sym (answered_gathers (pair_of seen) own q.eid older p More stands.order gives) in
-        let talk : judged_ends.StandsFor new.ends w q older rows = subst (λ (x : JudgedEnds). judged_ends.StandsFor x w q older rows) (sym same) stands.talk in
+        let talk : marked_ends.StandsFor new.ends w q older rows = subst (λ (x : MarkedEnds). marked_ends.StandsFor x w q older rows) (sym same) stands.talk in
         let at = rests new.ends w q older rows talk in
         let d = at.0 in
         let replies : RepliesBy w d g d = subst (λ (x : Gathered). RepliesBy w d x d) (sym more) refl in
         let step : StepsBy w q.eid older d d (parsed packet) = subst (λ (x : Result PacketFields PacketFault). StepsBy w q.eid older d d x) (sym before.parses) (of_it w older q.eid p d d false ends replies) in
-        let waits = awaiting_ends new.ends w q older packet p rows before.sound.responder.beat before.parses (inr (no_request, is, more)) talk in
-        answer_goes new table (record {
-          before = d;
-          came = at.1.walk;
-          after = d;
-          goes = (d, at.1.walk, step);
-          stands = subst (λ (x : List Row). judged_ends.StandsFor new.ends w q (packet ∷ older) x) (sym at.1.same) waits;
-          entries = subst (StandsForRows table w (length older + 1)) (sym at.1.same) (more_packets table w (length older) (length older + 1) rows (omega arith) entries);
-        }) (pair_behind More gives round) hint psk
+        let waits = awaiting_marked awaiting_ends new.ends w q older packet p rows before.sound.responder.beat before.parses (inr (no_request, is, more)) talk in
+        answer_goes new table ((
+          record {
+            before = d;
+            came = at.1.walk;
+            after = d;
+            goes = (d, at.1.walk, step);
+            stands = subst (λ (x : List Row). judged_ends.StandsFor new.ends.ends w q (packet ∷ older) x) (sym at.1.same) waits.0;
+            entries = subst (StandsForRows table w (length older + 1)) (sym at.1.same) (more_packets table w (length older) (length older + 1) rows (omega arith) entries);
+          },
+          waits.1,
+        )) (pair_behind More gives round) hint psk
 
     -- It completes an answer.
-    pub answer_told : (route : RouteFields) (answer : List ℕ) (result : Result Onward declared.Why) → Whole route answer ≡ gathered seen.answers.receiver (fields_in older) p
-        → (result ≡ Ok onward.Kept → new.round ≡ round_answered seen.round) → IsAnswerJudged w q older rows packet route answer result new.ends table → IsTaken (RepliesLarge w q older g) w q older packet rows result new table
+    pub answer_told : (route : RouteFields) (answer : List ℕ) (result : Result Unit declared.Why) → Whole route answer ≡ gathered seen.answers.receiver (fields_in older) p
+        → OnOk result (new.round ≡ round_answered seen.round) → IsAnswerJudged w q older rows packet route answer result new.ends table → IsTaken w q older packet rows result new table
     answer_told route answer result gives round judged = by_result result round judged
       where
         whole : Whole route answer ≡ g
         whole = answered_gathers (pair_of seen) own q.eid older p (Whole route answer) stands.order gives
 
-        by_result : (x : Result Onward declared.Why) → (x ≡ Ok onward.Kept → new.round ≡ round_answered seen.round) → IsAnswerJudged w q older rows packet route answer x new.ends table
-            → IsTaken (RepliesLarge w q older g) w q older packet rows x new table
-        by_result (Ok onward.Kept) turn (inl c) = answer_goes new table c (pair_behind (Whole route answer) gives (turn refl)) hint psk
-        by_result (Ok onward.Large) turn (inl c) = (route, answer, sym whole, c)
+        by_result : (x : Result Unit declared.Why) → OnOk x (new.round ≡ round_answered seen.round) → IsAnswerJudged w q older rows packet route answer x new.ends table
+            → IsTaken w q older packet rows x new table
+        by_result (Ok u) turn (inl c) = answer_goes new table c (pair_behind (Whole route answer) gives turn) hint psk
         by_result (Err why) turn (inl c) = answer_refused w q older rows packet p before (why_of why) c.0 is (Whole route answer) whole c.1
-        by_result (Ok onward.Kept) turn (inr c) = absurd c
-        by_result (Ok onward.Large) turn (inr c) = absurd c
+        by_result (Ok u) turn (inr c) = absurd c
         by_result (Err why) turn (inr c) = answer_wrong why (subst (λ (x : Gathered). answered_why (round_of own q.eid older) x ≡ Some (why_of why)) whole c)
 
     -- The same, where memory may be wanted.
-    pub answer_given : (route : RouteFields) (answer : List ℕ) (result : Result (Result Onward declared.Why) OutOfMemory) → Whole route answer ≡ gathered seen.answers.receiver (fields_in older) p
-        → (result ≡ Ok (Ok onward.Kept) → new.round ≡ round_answered seen.round) → IfOk result (λ told. IsAnswerJudged w q older rows packet route answer told new.ends table)
-        → IfOk result (λ told. IsTaken (RepliesLarge w q older g) w q older packet rows told new table)
-    answer_given route answer (Ok told) gives round judged = answer_told route answer told gives (λ is. round (ap Ok is)) judged
+    pub answer_given : (route : RouteFields) (answer : List ℕ) (result : Result (Result Unit declared.Why) OutOfMemory) → Whole route answer ≡ gathered seen.answers.receiver (fields_in older) p
+        → IfOk result (λ told. OnOk told (new.round ≡ round_answered seen.round)) → IfOk result (λ told. IsAnswerJudged w q older rows packet route answer told new.ends table)
+        → IfOk result (λ told. IsTaken w q older packet rows told new table)
+    answer_given route answer (Ok told) gives round judged = answer_told route answer told gives round judged
     answer_given route answer (Err fault) gives round judged = tt
 
   -- The answer, as it was gathered.

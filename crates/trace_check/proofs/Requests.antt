@@ -1,4 +1,5 @@
 -- What a packet of a requester comes to: it goes on, or it is refused.
+use Rattle.std.specs.Prelude.{OnOk}
 use Rattle.std.proofs.Common.{◌≡◌, ◌≢◌, ◌+◌, ◌∙◌, ℕ, List, ◌∷◌, length, refl, sym, ap, subst, true, Option, Some, None, Result, Ok, Err, inl, inr, arith}
 use Rattle.mctp_framing.specs.Cutting.{RouteFields}
 use Rattle.mctp_framing.specs.Gathering.{Gathered, gathered}
@@ -15,8 +16,6 @@ use Rattle.capture_ends.proofs.WalkRows.{places_for}
 use Rattle.capture_ends.specs.Conversation as conversations
 use Rattle.capture_ends.specs.Conversation.{IsRequest, WalksShow, meanwhile}
 use Rattle.capture_ends.specs.declared.conversation.Conversation.{Conversation}
-use Rattle.capture_ends.specs.declared.onward.Onward.{Onward}
-use Rattle.capture_ends.specs.declared.onward.Onward.TheVariants as onward
 use Rattle.capture_ends.specs.declared.party.Party.{Party}
 use Rattle.capture_laws.proofs.Found.{IsOfOne}
 use Rattle.capture_laws.proofs.IdleRows.{idle_rows_stay}
@@ -35,9 +34,12 @@ use Rattle.capture_laws.specs.Walks.{StepsBy, StepsTo, Walks}
 use Rattle.capture_laws.specs.declared.verdict.Seen.{Seen}
 use Rattle.fetched_ends.proofs.EndsKept.{beside_of}
 use Rattle.fetched_ends.proofs.EndsStay.{awaiting_ends, other_ends}
+use Rattle.fetched_ends.proofs.MarksStay.{awaiting_marked, other_marked}
+use Rattle.fetched_ends.specs.JudgedEnds.{StandsAs}
 use Rattle.fetched_ends.specs.JudgedEnds as judged_ends
-use Rattle.fetched_ends.specs.JudgedEnds.{StandsAs, StandsBehind}
-use Rattle.fetched_ends.specs.declared.judged_ends.JudgedEnds.{JudgedEnds}
+use Rattle.fetched_ends.specs.MarkedEnds as marked_ends
+use Rattle.fetched_ends.specs.MarkedEnds.{StandsBehind}
+use Rattle.fetched_ends.specs.declared.marked.MarkedEnds.{MarkedEnds}
 use Rattle.fetched_ends.specs.declared.fetch.Fetch.{Fetch}
 use Rattle.large_answers.specs.Fetching as fetching
 use Rattle.large_requests.specs.Sending.{dialogue_of}
@@ -61,7 +63,7 @@ module _ (w : Configuration) (q : ReqSetup) (older : List (List ℕ)) (rows : Li
       let none = of other.eid apart in
       let far : other.eid ≢ next.setup.eid = λ same. apart (same ∙ ap (λ (x : ReqSetup). x.eid) its) in record {
         order = stays_pair (pair_of seen) w.responder.eid other.eid older packet p before.parses away none.0 none.1 s.order;
-        talk = other_ends other_places_stay seen.ends w other older packet p d next rows far before.parses none.0 none.1 s.talk;
+        talk = other_marked (other_ends other_places_stay) seen.ends w other older packet p d next rows far before.parses none.0 none.1 s.talk;
         hint = s.hint;
         psk = s.psk;
       }
@@ -108,8 +110,8 @@ rests_by talk (Some fetched) w q older rows stands =
       },
     )
 
-pub rests : (seen : JudgedEnds) (w : Configuration) (q : ReqSetup) (older : List (List ℕ)) (rows : List Row) → judged_ends.StandsFor seen w q older rows → (d : Dialogue) × RestsAt w q older rows d
-rests seen w q older rows stands = rests_by seen.talk seen.fetched w q older rows stands
+pub rests : (seen : MarkedEnds) (w : Configuration) (q : ReqSetup) (older : List (List ℕ)) (rows : List Row) → marked_ends.StandsFor seen w q older rows → (d : Dialogue) × RestsAt w q older rows d
+rests seen w q older rows stands = rests_by seen.ends.talk seen.ends.fetched w q older rows stands.0
 
 -- ---- A packet of this requester.
 
@@ -131,16 +133,16 @@ module _ (w : Configuration) (q : ReqSetup) (older : List (List ℕ)) (rows : Li
   pub request_goes : (new : JudgedPair) (table : List Seen) → StandsBehind new.ends table w q older rows packet → IsPair (pair_of new) own q.eid (packet ∷ older)
       → new.hint ≡ seen.hint → new.psk ≡ seen.psk → GoesOn new table w q older packet rows
   request_goes new table there order hint psk = record {
-    behind = rows_between there.before there.after rows;
-    shows = shown w q older packet p there.before there.after rows before.sound.apart before.known before.parses (inl is) there.came there.goes before.shows;
+    behind = rows_between there.0.before there.0.after rows;
+    shows = shown w q older packet p there.0.before there.0.after rows before.sound.apart before.known before.parses (inl is) there.0.came there.0.goes before.shows;
     stands = record {
       order = order;
-      talk = there.stands;
+      talk = (there.0.stands, there.1);
       hint = hint ∙ stands.hint;
       psk = psk ∙ stands.psk;
     };
-    others = others_stand w q older rows packet p before of_one there.before there.after (walks_setup w q (packet ∷ older) there.after there.goes);
-    entries = there.entries;
+    others = others_stand w q older rows packet p before of_one there.0.before there.0.after (walks_setup w q (packet ∷ older) there.0.after there.0.goes);
+    entries = there.0.entries;
   }
 
   -- It is out of order.
@@ -165,36 +167,37 @@ module _ (w : Configuration) (q : ReqSetup) (older : List (List ℕ)) (rows : Li
     unfolding StepsTo
     request_waits gives round same entries =
         let more : g ≡ More = sym (asked_gathers (pair_of seen) own q.eid older p More stands.order gives) in
-        let talk : judged_ends.StandsFor new.ends w q older rows = subst (λ (x : JudgedEnds). judged_ends.StandsFor x w q older rows) (sym same) stands.talk in
+        let talk : marked_ends.StandsFor new.ends w q older rows = subst (λ (x : MarkedEnds). marked_ends.StandsFor x w q older rows) (sym same) stands.talk in
         let at = rests new.ends w q older rows talk in
         let d = at.0 in
         let asks : AsksBy d g d = subst (λ (x : Gathered). AsksBy d x d) (sym more) refl in
         let step : StepsBy w q.eid older d d (parsed packet) = subst (λ (x : Result PacketFields PacketFault). StepsBy w q.eid older d d x) (sym before.parses) (of_it w older q.eid p d d true ends asks) in
-        let waits = awaiting_ends new.ends w q older packet p rows before.sound.responder.beat before.parses (inl (is, more)) talk in
-        request_goes new table (record {
-          before = d;
-          came = at.1.walk;
-          after = d;
-          goes = (d, at.1.walk, step);
-          stands = subst (λ (x : List Row). judged_ends.StandsFor new.ends w q (packet ∷ older) x) (sym at.1.same) waits;
-          entries = subst (StandsForRows table w (length older + 1)) (sym at.1.same) (more_packets table w (length older) (length older + 1) rows (omega arith) entries);
-        }) (pair_behind More gives round) hint psk
+        let waits = awaiting_marked awaiting_ends new.ends w q older packet p rows before.sound.responder.beat before.parses (inl (is, more)) talk in
+        request_goes new table ((
+          record {
+            before = d;
+            came = at.1.walk;
+            after = d;
+            goes = (d, at.1.walk, step);
+            stands = subst (λ (x : List Row). judged_ends.StandsFor new.ends.ends w q (packet ∷ older) x) (sym at.1.same) waits.0;
+            entries = subst (StandsForRows table w (length older + 1)) (sym at.1.same) (more_packets table w (length older) (length older + 1) rows (omega arith) entries);
+          },
+          waits.1,
+        )) (pair_behind More gives round) hint psk
 
     -- It completes a request.
-    pub request_told : (route : RouteFields) (body : List ℕ) (result : Result Onward declared.Why) → Whole route body ≡ gathered seen.requests.receiver (fields_in older) p
-        → (result ≡ Ok onward.Kept → new.round ≡ round_by_request seen.round (Whole route body)) → IsRequestJudged w q older rows packet route body result new.ends table → IsTaken ⊥ w q older packet rows result new table
+    pub request_told : (route : RouteFields) (body : List ℕ) (result : Result Unit declared.Why) → Whole route body ≡ gathered seen.requests.receiver (fields_in older) p
+        → OnOk result (new.round ≡ round_by_request seen.round (Whole route body)) → IsRequestJudged w q older rows packet route body result new.ends table → IsTaken w q older packet rows result new table
     request_told route body result gives round judged = by_result result round judged
       where
         whole : Whole route body ≡ g
         whole = asked_gathers (pair_of seen) own q.eid older p (Whole route body) stands.order gives
 
-        by_result : (x : Result Onward declared.Why) → (x ≡ Ok onward.Kept → new.round ≡ round_by_request seen.round (Whole route body)) → IsRequestJudged w q older rows packet route body x new.ends table
-            → IsTaken ⊥ w q older packet rows x new table
-        by_result (Ok onward.Kept) turn (inl c) = request_goes new table c (pair_behind (Whole route body) gives (turn refl)) hint psk
-        by_result (Ok onward.Large) turn (inl c) = c
+        by_result : (x : Result Unit declared.Why) → OnOk x (new.round ≡ round_by_request seen.round (Whole route body)) → IsRequestJudged w q older rows packet route body x new.ends table
+            → IsTaken w q older packet rows x new table
+        by_result (Ok u) turn (inl c) = request_goes new table c (pair_behind (Whole route body) gives turn) hint psk
         by_result (Err why) turn (inl c) = request_refused w q older rows packet p before (why_of why) c.0 is (Whole route body) whole c.1
-        by_result (Ok onward.Kept) turn (inr c) = absurd c
-        by_result (Ok onward.Large) turn (inr c) = absurd c
+        by_result (Ok u) turn (inr c) = absurd c
         by_result (Err why) turn (inr c) = request_wrong why (subst (λ (x : Gathered). asked_why (round_of own q.eid older) x ≡ Some (why_of why)) whole c)
 
   -- The request, as it was gathered.

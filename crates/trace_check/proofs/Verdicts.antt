@@ -4,8 +4,7 @@ use Rattle.std.proofs.lemmas.List.{get_or_default, length-reverse, length-take-l
 use Rattle.std.specs.Prelude.{slice_index_or}
 use Rattle.capture_laws.proofs.RowsKept.{shown_is_table}
 use Rattle.capture_laws.specs.Verdict.{seen_of}
-use Rattle.trace_check.specs.Checker.{IsChecker, IsLarge}
-use Rattle.trace_check.specs.Checking.{IsLargeAt}
+use Rattle.trace_check.specs.Checker.{IsChecker}
 use Rattle.trace_check.specs.JudgedPair.{IsRefused}
 use Rattle.trace_check.specs.declared.checker.Checker.{Checker}
 use Rattle.world_machine.proofs.Captures.{leads_too}
@@ -57,13 +56,4 @@ module _ (w : Configuration) (packets : List (List ℕ)) (i number : ℕ) (packe
       at = λ c. refused.0 c.0 (subst (λ (l : List (List ℕ)). Leads w l c.0) (ap (λ (n : ℕ). reverse (take n packets)) count ∙ one_more packets i packet few at) c.1);
     };
     reason = subst (λ (n : ℕ). IsReason w (reverse (take n packets)) (slice_index_or packets n []) why) (sym less) (subst (λ (x : List ℕ). IsReason w (reverse (take i packets)) x why) it_is refused.1);
-  }
-
-  -- It is a part of a large message.
-  pub large_at : IsLarge w (reverse (take i packets)) packet → IsLargeAt w packets number
-  large_at large = record {
-    least = omega (arith, count);
-    most = omega (arith, count, few);
-    before = before;
-    large = subst (λ (n : ℕ). IsLarge w (reverse (take n packets)) (slice_index_or packets n [])) (sym less) (subst (λ (x : List ℕ). IsLarge w (reverse (take i packets)) x) it_is large);
   }

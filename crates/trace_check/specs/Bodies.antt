@@ -5,14 +5,12 @@ use Rattle.mctp_framing.specs.Gathering.Gathered.{Whole}
 use Rattle.requester_machine.specs.Setup.{ReqSetup}
 use Rattle.script_text.specs.declared.why.Why as declared
 use Rattle.capture_ends.specs.Conversation.{NoneGoesOn}
-use Rattle.capture_ends.specs.declared.onward.Onward.{Onward}
-use Rattle.capture_ends.specs.declared.onward.Onward.TheVariants as onward
 use Rattle.capture_laws.specs.Judged.{why_of}
 use Rattle.capture_laws.specs.Order.{answered_why, asked_why, round_of}
 use Rattle.capture_laws.specs.ReasonsEach.{IsAskedReason}
 use Rattle.capture_laws.specs.declared.verdict.Seen.{Seen}
-use Rattle.fetched_ends.specs.JudgedEnds.{IsJudgedAnswer, StandsBehind}
-use Rattle.fetched_ends.specs.declared.judged_ends.JudgedEnds.{JudgedEnds}
+use Rattle.fetched_ends.specs.MarkedEnds.{IsJudgedAnswer, StandsBehind}
+use Rattle.fetched_ends.specs.declared.marked.MarkedEnds.{MarkedEnds}
 use Rattle.world_machine.specs.Difference.{Why}
 use Rattle.world_machine.specs.SessionTable.{Row}
 use Rattle.world_machine.specs.Setup.{Configuration}
@@ -25,32 +23,31 @@ told_of (Some why) = Some (why_of why)
 -- ---- A request.
 
 -- The order refuses it for this reason.
-abbrev pub IsAskedWrong : Configuration → ReqSetup → List (List ℕ) → RouteFields → (body : List ℕ) → Result Onward declared.Why → Type 0
+abbrev pub IsAskedWrong : Configuration → ReqSetup → List (List ℕ) → RouteFields → (body : List ℕ) → Result Unit declared.Why → Type 0
 IsAskedWrong w q older route body (Ok on) = ⊥
 IsAskedWrong w q older route body (Err why) = asked_why (round_of w.responder.eid q.eid older) (Whole route body) ≡ Some (why_of why)
 
--- It is in order: it goes on in a walk; or no walk goes on with it, and then why. Requests are never left unjudged.
+-- It is in order: it goes on in a walk; or no walk goes on with it, and then why.
 abbrev pub IsRequestTold : Configuration → ReqSetup → List (List ℕ) → List Row → (packet : List ℕ) → RouteFields → (body : List ℕ)
-    → Result Onward declared.Why → (new : JudgedEnds) → (table : List Seen) → Type 0
-IsRequestTold w q older rows packet route body (Ok onward.Kept) new table = StandsBehind new table w q older rows packet
-IsRequestTold w q older rows packet route body (Ok onward.Large) new table = ⊥
+    → Result Unit declared.Why → (new : MarkedEnds) → (table : List Seen) → Type 0
+IsRequestTold w q older rows packet route body (Ok u) new table = StandsBehind new table w q older rows packet
 IsRequestTold w q older rows packet route body (Err why) new table =
     NoneGoesOn w q older packet × IsAskedReason w q older (Whole route body) (why_of why)
 
 -- It is told so, or it is out of order, and this is the reason.
 abbrev pub IsRequestJudged : Configuration → ReqSetup → List (List ℕ) → List Row → (packet : List ℕ) → RouteFields → (body : List ℕ)
-    → Result Onward declared.Why → (new : JudgedEnds) → (table : List Seen) → Type 0
+    → Result Unit declared.Why → (new : MarkedEnds) → (table : List Seen) → Type 0
 IsRequestJudged w q older rows packet route body result new table =
     IsRequestTold w q older rows packet route body result new table ⊎ IsAskedWrong w q older route body result
 
 -- ---- An answer.
 
-abbrev pub IsAnsweredWrong : Configuration → ReqSetup → List (List ℕ) → RouteFields → (answer : List ℕ) → Result Onward declared.Why → Type 0
+abbrev pub IsAnsweredWrong : Configuration → ReqSetup → List (List ℕ) → RouteFields → (answer : List ℕ) → Result Unit declared.Why → Type 0
 IsAnsweredWrong w q older route answer (Ok on) = ⊥
 IsAnsweredWrong w q older route answer (Err why) = answered_why (round_of w.responder.eid q.eid older) (Whole route answer) ≡ Some (why_of why)
 
--- The same of an answer, which may be a part of a large one too.
+-- The same of an answer.
 abbrev pub IsAnswerJudged : Configuration → ReqSetup → List (List ℕ) → List Row → (packet : List ℕ) → RouteFields → (answer : List ℕ)
-    → Result Onward declared.Why → (new : JudgedEnds) → (table : List Seen) → Type 0
+    → Result Unit declared.Why → (new : MarkedEnds) → (table : List Seen) → Type 0
 IsAnswerJudged w q older rows packet route answer result new table =
     IsJudgedAnswer w q older rows packet route answer result new table ⊎ IsAnsweredWrong w q older route answer result

@@ -4,14 +4,12 @@ use Rattle.mctp_framing.specs.Packet.{PacketFields, parsed}
 use Rattle.requester_machine.specs.Setup.{ReqSetup}
 use Rattle.script_text.specs.declared.why.Why as declared
 use Rattle.spdm_machine.specs.Packets.{gathered_from}
-use Rattle.capture_ends.specs.declared.onward.Onward.{Onward}
-use Rattle.capture_ends.specs.declared.onward.Onward.TheVariants as onward
 use Rattle.capture_laws.specs.Judged.{why_of}
 use Rattle.capture_laws.specs.KeptRows.{Show}
 use Rattle.capture_laws.specs.Order.{is_answer}
 use Rattle.capture_laws.specs.ReasonsEach.{IsOneOf}
 use Rattle.capture_laws.specs.Rows.{StandsForRows}
-use Rattle.trace_check.specs.JudgedPair.{IsRefused, RepliesLarge, StandsFor}
+use Rattle.trace_check.specs.JudgedPair.{IsRefused, StandsFor}
 use Rattle.trace_check.specs.Limits.{IsAnswering}
 use Rattle.trace_check.specs.declared.checker.Checker.{Checker}
 use Rattle.trace_check.specs.declared.judged_pair.JudgedPair.{JudgedPair}
@@ -41,14 +39,7 @@ pub record IsChecker (seen : Checker) (w : Configuration) (older : List (List �
 
 -- ---- What is told of a packet.
 
--- It goes to a requester that is set up, and is a part of a large answer.
-abbrev pub IsLarge : Configuration → List (List ℕ) → (packet : List ℕ) → Type 0
-IsLarge w older packet =
-    (q : ReqSetup) × (p : PacketFields) × IsOneOf w q × (parsed packet ≡ Ok p)
-    × (is_answer w.responder.eid q.eid p ≡ true) × RepliesLarge w q older (gathered_from q.eid w.responder.eid older p)
-
--- It conforms behind those before it; or it is a part of a large answer; or it does not conform, and then why.
-abbrev pub IsTold : Configuration → List (List ℕ) → (packet : List ℕ) → Result Onward declared.Why → (new : Checker) → Type 0
-IsTold w older packet (Ok onward.Kept) new = IsChecker new w (packet ∷ older)
-IsTold w older packet (Ok onward.Large) new = IsLarge w older packet
+-- It conforms behind those before it; or it does not conform, and then why.
+abbrev pub IsTold : Configuration → List (List ℕ) → (packet : List ℕ) → Result Unit declared.Why → (new : Checker) → Type 0
+IsTold w older packet (Ok u) new = IsChecker new w (packet ∷ older)
 IsTold w older packet (Err why) new = IsRefused w older packet (why_of why)

@@ -1,22 +1,16 @@
 -- One requester of a capture and the responder, as the program gathers and judges what goes between them: what it stands
 -- for after some packets, and what it tells of the next one. This project's own.
 use Rattle.std.specs.Prelude.{◌≡◌, ◌≢◌, ◌<◌, ◌+◌, ◌-◌, ◌^◌, ℕ, List, ◌∷◌, length, Result, Ok, Err}
-use Rattle.mctp_framing.specs.Cutting.{RouteFields}
-use Rattle.mctp_framing.specs.Gathering.{Gathered}
-use Rattle.mctp_framing.specs.Gathering.Gathered.{Whole}
 use Rattle.mctp_framing.specs.Packet.{PacketFields, parsed}
 use Rattle.requester_machine.specs.Setup.{ReqSetup}
 use Rattle.script_text.specs.declared.why.Why as declared
-use Rattle.capture_ends.specs.declared.onward.Onward.{Onward}
-use Rattle.capture_ends.specs.declared.onward.Onward.TheVariants as onward
 use Rattle.capture_laws.specs.Judged.{IsPair, why_of}
 use Rattle.capture_laws.specs.KeptRows.{Show}
 use Rattle.capture_laws.specs.ReasonsEach.{IsOneOf}
 use Rattle.capture_laws.specs.Rows.{StandsForRows}
 use Rattle.capture_laws.specs.declared.pair.Pair.{Pair}
 use Rattle.capture_laws.specs.declared.verdict.Seen.{Seen}
-use Rattle.fetched_ends.specs.JudgedEnds as judged_ends
-use Rattle.fetched_ends.specs.JudgedEnds.{IsPart}
+use Rattle.fetched_ends.specs.MarkedEnds as marked_ends
 use Rattle.trace_check.specs.Limits.{AreSound}
 use Rattle.trace_check.specs.declared.judged_pair.JudgedPair.{JudgedPair}
 use Rattle.world_machine.specs.Capture.{Leads}
@@ -36,7 +30,7 @@ pair_of seen = record { eid = seen.eid; requests = seen.requests; answers = seen
 -- requester.
 pub record StandsFor (seen : JudgedPair) (w : Configuration) (q : ReqSetup) (older : List (List ℕ)) (rows : List Row) : Type 0 where
   pub order : IsPair (pair_of seen) w.responder.eid q.eid older
-  pub talk : judged_ends.StandsFor seen.ends w q older rows
+  pub talk : marked_ends.StandsFor seen.ends w q older rows
   pub hint : seen.hint ≡ q.hint
   pub psk : seen.psk ≡ q.psk
 
@@ -65,17 +59,10 @@ pub record GoesOn (new : JudgedPair) (table : List Seen) (w : Configuration) (q 
 abbrev pub IsRefused : Configuration → List (List ℕ) → (packet : List ℕ) → Why → Type 0
 IsRefused w older packet why = ((after : List Dialogue) → Leads w (packet ∷ older) after → ⊥) × IsReason w older packet why
 
--- ---- Parts of large answers that are not judged.
-
--- What a requester gets is a part of a large answer.
-abbrev pub RepliesLarge : Configuration → ReqSetup → List (List ℕ) → Gathered → Type 0
-RepliesLarge w q older g = (route : RouteFields) × (answer : List ℕ) × (g ≡ Whole route answer) × IsPart w q older route.tag answer
-
 -- ---- What is told of it.
 
--- It goes on, or is such a part; or it is refused, and then why.
-abbrev pub IsTaken : (large : Type 0) → Configuration → ReqSetup → List (List ℕ) → (packet : List ℕ) → List Row
-    → Result Onward declared.Why → (new : JudgedPair) → (table : List Seen) → Type 0
-IsTaken large w q older packet rows (Ok onward.Kept) new table = GoesOn new table w q older packet rows
-IsTaken large w q older packet rows (Ok onward.Large) new table = large
-IsTaken large w q older packet rows (Err why) new table = IsRefused w older packet (why_of why)
+-- It goes on; or it is refused, and then why.
+abbrev pub IsTaken : Configuration → ReqSetup → List (List ℕ) → (packet : List ℕ) → List Row
+    → Result Unit declared.Why → (new : JudgedPair) → (table : List Seen) → Type 0
+IsTaken w q older packet rows (Ok u) new table = GoesOn new table w q older packet rows
+IsTaken w q older packet rows (Err why) new table = IsRefused w older packet (why_of why)

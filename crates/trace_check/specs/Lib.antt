@@ -2,4 +2,3 @@ pub mod Limits
 pub mod Bodies
 pub mod JudgedPair
 pub mod Checker
-pub mod Checking

@@ -1,11 +1,10 @@
-ghost use Rattle.std.specs.Prelude.{◌≡◌, ◌≤◌, ◌<◌, ◌-◌, ◌^◌, ℕ, List, Ok, IfOk, length};
+ghost use Rattle.std.specs.Prelude.{◌≡◌, ◌≤◌, ◌<◌, ◌-◌, ◌^◌, ℕ, List, IfOk, OnOk, None, length};
 ghost use Rattle.capture_ends.specs.Conversation.{IsAnswer, IsRequest};
-ghost use Rattle.capture_ends.specs.declared.onward.Onward.TheVariants as onward;
 ghost use Rattle.capture_laws.specs.Judged.{waiting_in};
 ghost use Rattle.capture_laws.specs.Order.{round_answered, round_by_request, round_of};
 ghost use Rattle.capture_laws.specs.Rows.{StandsForRows};
 ghost use Rattle.connection.specs.Setup.{IsSetUp};
-ghost use Rattle.fetched_ends.specs.JudgedEnds as judged_ends;
+ghost use Rattle.fetched_ends.specs.MarkedEnds as marked_ends;
 ghost use Rattle.mctp_framing.specs.Cutting.{route_of};
 ghost use Rattle.mctp_framing.specs.Gathering.Gathered.{Whole};
 ghost use Rattle.requester_machine.specs.Setup.{ReqSetup};
@@ -15,10 +14,9 @@ ghost use Rattle.world_machine.specs.SessionTable.{Row};
 ghost use Rattle.world_machine.specs.Setup.{Configuration, known_of};
 
 use crate::ordering::{answered_why, asked_why};
-use capture_ends::Onward;
 use capture_laws::{Round, SessionTable};
 use connection::Setup;
-use fetched_ends::JudgedEnds;
+use fetched_ends::MarkedEnds;
 use mctp_framing::Route;
 use script_text::Why;
 use spdm_basis::OutOfMemory;
@@ -27,22 +25,21 @@ use spdm_basis::OutOfMemory;
 // then why.
 pub(crate) fn takes_request(
     round: &mut Round,
-    ends: &mut JudgedEnds,
+    ends: &mut MarkedEnds,
     table: &mut SessionTable,
     route: Route,
     body: &[u8],
-) -> Result<Onward, Why>
+) -> Result<(), Why>
     ensures told { (w : Configuration) (q : ReqSetup) (older : List (List ℕ)) (rows : List Row)
         (packet : List ℕ) → IsRequest w q older packet (route_of route) body.now
         → length older < 2 ^ 64 - 2 → length body.now ≤ 4161
         → round.old ≡ round_of w.responder.eid q.eid older
-        → judged_ends.StandsFor ends.old w q older rows
+        → marked_ends.StandsFor ends.old w q older rows
         → StandsForRows table.old w (length older) rows
         → IsRequestJudged w q older rows packet (route_of route) body.now result ends.new
         table.new }
     ensures round { waiting_in round.old < 2 ^ 64 - 1 → length body.now ≤ 4161
-        → result ≡ Ok onward.Kept
-        → round.new ≡ round_by_request round.old (Whole (route_of route) body.now) }
+        → OnOk result (round.new ≡ round_by_request round.old (Whole (route_of route) body.now)) }
 {
     if let Some(why) = asked_why(round, route, body) {
         return Err(why);
@@ -50,43 +47,42 @@ pub(crate) fn takes_request(
     match ends.asks(table, round, route.tag, body) {
         Ok(()) => {
             round.ask(route.tag, body);
-            Ok(Onward::Kept)
+            Ok(())
         }
         Err(why) => Err(why),
     }
 }
 
-// An answer of at most 4,161 bytes came whole: it goes on, and so does the round, or it is a part of
-// a large answer, or it is refused and then why. An `Err` comes for want of memory.
+// An answer of at most 4,161 bytes came whole: it goes on, and so does the round, or it is refused and
+// then why. An `Err` comes for want of memory.
 pub(crate) fn takes_answer(
     round: &mut Round,
-    ends: &mut JudgedEnds,
+    ends: &mut MarkedEnds,
     table: &mut SessionTable,
     setup: &Setup<'_>,
     route: Route,
     answer: &[u8],
-) -> Result<Result<Onward, Why>, OutOfMemory>
+) -> Result<Result<(), Why>, OutOfMemory>
     requires { length answer.now ≤ 4161 }
     ensures told { (w : Configuration) (q : ReqSetup) (older : List (List ℕ)) (rows : List Row)
         (packet : List ℕ) → IsAnswer w q older packet (route_of route) answer.now
         → length older < 2 ^ 64 - 2 → w.responder.beat < 256
         → round.old ≡ round_of w.responder.eid q.eid older
         → IsSetUp setup.now (towards w.responder (known_of q))
-        → judged_ends.StandsFor ends.old w q older rows
+        → marked_ends.StandsFor ends.old w q older rows
         → StandsForRows table.old w (length older) rows
         → IfOk result (λ told. IsAnswerJudged w q older rows packet (route_of route) answer.now told
         ends.new table.new) }
-    ensures round { result ≡ Ok (Ok onward.Kept) → round.new ≡ round_answered round.old }
+    ensures round { IfOk result (λ told. OnOk told (round.new ≡ round_answered round.old)) }
 {
     if let Some(why) = answered_why(round, route, answer) {
         return Ok(Err(why));
     }
     match ends.replies(table, setup, round, answer)? {
-        Ok(Onward::Kept) => {
+        Ok(()) => {
             round.answer();
-            Ok(Ok(Onward::Kept))
+            Ok(Ok(()))
         }
-        Ok(Onward::Large) => Ok(Ok(Onward::Large)),
         Err(why) => Ok(Err(why)),
     }
 }

@@ -5,7 +5,6 @@ ghost use Rattle.trace_check.specs.Limits.{AreSound, IsAnswering};
 ghost use Rattle.world_machine.specs.Setup.{Configuration};
 
 use crate::{Answering, JudgedPair};
-use capture_ends::Onward;
 use capture_laws::SessionTable;
 use mctp_framing::{Packet, PacketView};
 use script_text::{ReqPart, ScriptConfig, Why};
@@ -85,10 +84,9 @@ impl Checker {
         self.pairs.iter().position(|pair| pair.eid.number() == eid)
     }
 
-    /// The next packet of the capture: it conforms behind those before it, or it is a part of a large
-    /// answer, or it does not conform, and then why. Nothing is said of what is kept then. An `Err` is
-    /// want of memory.
-    pub fn take(&mut self, packet: &[u8]) -> Result<Result<Onward, Why>, OutOfMemory>
+    /// The next packet of the capture: it conforms behind those before it, or it does not conform, and
+    /// then why. Nothing is said of what is kept then. An `Err` is want of memory.
+    pub fn take(&mut self, packet: &[u8]) -> Result<Result<(), Why>, OutOfMemory>
         ensures { (w : Configuration) (older : List (List ℕ)) → AreSound w
             → IsChecker self.old w older → length older < 2 ^ 64 - 2
             → IfOk result (λ told. IsTold w older packet.now told self.new) }
@@ -100,7 +98,7 @@ impl Checker {
     }
 
     // The next packet, with these fields.
-    fn take_view(&mut self, view: PacketView<'_>) -> Result<Result<Onward, Why>, OutOfMemory>
+    fn take_view(&mut self, view: PacketView<'_>) -> Result<Result<(), Why>, OutOfMemory>
         requires sequence { view.sequence < 4 }
         requires tag { view.tag < 8 }
         ensures { (w : Configuration) (older : List (List ℕ)) (packet : List ℕ) → AreSound w
@@ -118,7 +116,7 @@ impl Checker {
     }
 
     // A packet for the responder.
-    fn take_request(&mut self, view: PacketView<'_>) -> Result<Onward, Why>
+    fn take_request(&mut self, view: PacketView<'_>) -> Result<(), Why>
         requires sequence { view.sequence < 4 }
         requires tag { view.tag < 8 }
         requires own { view.to ≡ self.old.own.number }
@@ -136,7 +134,7 @@ impl Checker {
     }
 
     // A packet of the responder, for another end.
-    fn take_answer(&mut self, view: PacketView<'_>) -> Result<Result<Onward, Why>, OutOfMemory>
+    fn take_answer(&mut self, view: PacketView<'_>) -> Result<Result<(), Why>, OutOfMemory>
         requires sequence { view.sequence < 4 }
         requires tag { view.tag < 8 }
         requires own { view.from ≡ self.old.own.number }

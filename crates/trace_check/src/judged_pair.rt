@@ -5,9 +5,9 @@ ghost use Rattle.requester_machine.specs.UnderWay.{HasSizes};
 
 use crate::Answering;
 use crate::bodies::{takes_answer, takes_request};
-use capture_ends::{Asker, Onward, Party, walks_show};
+use capture_ends::{Asker, Party, walks_show};
 use capture_laws::{Round, SessionTable};
-use fetched_ends::JudgedEnds;
+use fetched_ends::MarkedEnds;
 use mctp_framing::{Assembler, Fed, PacketView};
 use script_text::{ReqPart, Why};
 use spdm_basis::{Bytes, Eid, OutOfMemory, Psk};
@@ -25,7 +25,7 @@ pub struct JudgedPair {
     pub(crate) requests: Assembler,
     pub(crate) answers: Assembler,
     pub(crate) round: Round,
-    pub(crate) ends: JudgedEnds,
+    pub(crate) ends: MarkedEnds,
     pub(crate) hint: Bytes,
     pub(crate) psk: Psk,
     pub(crate) ghost limit: { answers.receiver.limit ≡ 4161 },
@@ -59,8 +59,7 @@ impl JudgedPair {
     ghost use Rattle.configured_ends.specs.Configured.{requester_in};
     ghost use Rattle.mctp_framing.specs.Packet.{view_of};
     ghost use Rattle.requester_machine.specs.Setup.{ReqSetup};
-    ghost use Rattle.spdm_machine.specs.Packets.{gathered_from};
-    ghost use Rattle.trace_check.specs.JudgedPair.{ComesBehind, IsTaken, RepliesLarge, StandsFor};
+    ghost use Rattle.trace_check.specs.JudgedPair.{ComesBehind, IsTaken, StandsFor};
     ghost use Rattle.trace_check.specs.Limits.{HasLimits, IsAnswering, IsSound};
     ghost use Rattle.world_machine.specs.SessionTable.{Row, number_from};
     ghost use Rattle.world_machine.specs.Setup.{Configuration};
@@ -88,7 +87,7 @@ impl JudgedPair {
             requests: Assembler::new(alloc, own, q.eid, BODY_LIMIT)?,
             answers: Assembler::new(alloc, q.eid, own, BODY_LIMIT)?,
             round: Round::new(),
-            ends: JudgedEnds::new(party),
+            ends: MarkedEnds::new(party),
             hint,
             psk,
         })
@@ -99,21 +98,21 @@ impl JudgedPair {
         &mut self,
         table: &mut SessionTable,
         view: PacketView<'_>,
-    ) -> Result<Onward, Why>
+    ) -> Result<(), Why>
         requires sequence { view.sequence < 4 }
         requires tag { view.tag < 8 }
         ensures { (w : Configuration) (q : ReqSetup) (older : List (List ℕ)) (rows : List Row)
             (packet : List ℕ) → ComesBehind w q older rows packet (view_of view.entry)
             → is_request w.responder.eid q.eid (view_of view.entry) ≡ true
             → StandsFor self.old w q older rows → StandsForRows table.old w (length older) rows
-            → IsTaken ⊥ w q older packet rows result self.new table.new }
+            → IsTaken w q older packet rows result self.new table.new }
     {
         walks_show();
         match self.requests.take(view) {
             Fed::Whole(route, body) => {
                 takes_request(&mut self.round, &mut self.ends, table, route, body)
             }
-            Fed::More => Ok(Onward::Kept),
+            Fed::More => Ok(()),
             Fed::Dropped(_) => Err(Why::BadPacket),
         }
     }
@@ -125,7 +124,7 @@ impl JudgedPair {
         table: &mut SessionTable,
         answering: &Answering,
         view: PacketView<'_>,
-    ) -> Result<Result<Onward, Why>, OutOfMemory>
+    ) -> Result<Result<(), Why>, OutOfMemory>
         requires sequence { view.sequence < 4 }
         requires tag { view.tag < 8 }
         ensures { (w : Configuration) (q : ReqSetup) (older : List (List ℕ)) (rows : List Row)
@@ -133,9 +132,7 @@ impl JudgedPair {
             → is_answer w.responder.eid q.eid (view_of view.entry) ≡ true
             → IsAnswering answering.now w.responder
             → StandsFor self.old w q older rows → StandsForRows table.old w (length older) rows
-            → IfOk result (λ told. IsTaken (RepliesLarge w q older
-            (gathered_from q.eid w.responder.eid older (view_of view.entry)))
-            w q older packet rows told self.new table.new) }
+            → IfOk result (λ told. IsTaken w q older packet rows told self.new table.new) }
     {
         walks_show();
         let setup = answering.towards(self.hint.as_slice(), &self.psk);
@@ -148,7 +145,7 @@ impl JudgedPair {
                 route,
                 answer,
             ),
-            Fed::More => Ok(Ok(Onward::Kept)),
+            Fed::More => Ok(Ok(())),
             Fed::Dropped(_) => Ok(Err(Why::BadPacket)),
         }
     }

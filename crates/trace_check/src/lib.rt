@@ -1,6 +1,6 @@
 //! Whether a capture is one that its ends could have made: what `check` tells, over all packets.
 //!
-//! Read first: `IsChecked` in `specs/Checking.antt`, what is told of a capture. The call is `check`.
+//! Read first: `IsTold` in `specs/Checker.antt`, what is told of a packet. The call is `check`.
 #![tactic(auto)]
 
 mod answering;
@@ -12,5 +12,5 @@ mod ordering;
 
 pub use answering::Answering;
 pub use checker::Checker;
-pub use checking::{Checked, check};
+pub use checking::check;
 pub use judged_pair::JudgedPair;

@@ -4,31 +4,22 @@ use Rattle.mctp_framing.specs.Cutting.{route_of}
 use Rattle.mctp_framing.specs.Gathering.Gathered.{Whole}
 use Rattle.script_text.specs.declared.why.Why as declared
 use Rattle.spdm_basis.specs.declared.OutOfMemory.{OutOfMemory}
-use Rattle.fetched_ends.specs.JudgedEnds.{IsJudgedAnswer}
-use Rattle.capture_ends.specs.declared.onward.Onward.{Onward}
+use Rattle.fetched_ends.specs.MarkedEnds.{IsJudgedAnswer}
 use Rattle.capture_laws.specs.Order.{answered_why}
 use Rattle.trace_check.proofs.bodies.takes_answer.Goals as goal
 
-pub returns-in-Ok-Kept-clause-told : goal.returns-in-Ok-Kept-clause-told
-returns-in-Ok-Kept-clause-told c = λ w q older rows packet is few byte now set_up stands entries.
+pub returns-in-Ok-clause-told : goal.returns-in-Ok-clause-told
+returns-in-Ok-clause-told c = λ w q older rows packet is few byte now set_up stands entries.
     let answer = c.args.answer.now in
     let none : answered_why c.args.round.now (Whole (route_of c.args.route) answer) ≡ None = sym c.in_default.ensures in
-    let told = subst (λ (x : Result (Result Onward declared.Why) OutOfMemory). IfOk x (λ y. IsJudgedAnswer w q older rows packet (route_of c.args.route) answer y c.replies.new.self c.replies.new.table)) c.in_ok-replies.was
+    let told = subst (λ (x : Result (Result Unit declared.Why) OutOfMemory). IfOk x (λ y. IsJudgedAnswer w q older rows packet (route_of c.args.route) answer y c.replies.new.self c.replies.new.table)) c.in_ok-replies.was
     (c.replies.ensures.told w q older rows packet (route_of c.args.route) is few byte now set_up none stands entries) in
-    inl (subst (λ (x : Result Onward declared.Why). IsJudgedAnswer w q older rows packet (route_of c.args.route) answer x c.replies.new.self c.replies.new.table) (c.in-Ok-Kept.is ∙ ap Ok c.in-Ok-Kept.field-0-is) told)
-
-pub returns-in-Ok-Large-clause-told : goal.returns-in-Ok-Large-clause-told
-returns-in-Ok-Large-clause-told c = λ w q older rows packet is few byte now set_up stands entries.
-    let answer = c.args.answer.now in
-    let none : answered_why c.args.round.now (Whole (route_of c.args.route) answer) ≡ None = sym c.in_default.ensures in
-    let told = subst (λ (x : Result (Result Onward declared.Why) OutOfMemory). IfOk x (λ y. IsJudgedAnswer w q older rows packet (route_of c.args.route) answer y c.replies.new.self c.replies.new.table)) c.in_ok-replies.was
-    (c.replies.ensures.told w q older rows packet (route_of c.args.route) is few byte now set_up none stands entries) in
-    inl (subst (λ (x : Result Onward declared.Why). IsJudgedAnswer w q older rows packet (route_of c.args.route) answer x c.replies.new.self c.replies.new.table) (c.in-Ok-Large.is ∙ ap Ok c.in-Ok-Large.field-0-is) told)
+    inl (subst (λ (x : Result Unit declared.Why). IsJudgedAnswer w q older rows packet (route_of c.args.route) answer x c.replies.new.self c.replies.new.table) c.in-Ok.is told)
 
 pub returns-in-Err-clause-told : goal.returns-in-Err-clause-told
 returns-in-Err-clause-told c = λ w q older rows packet is few byte now set_up stands entries.
     let answer = c.args.answer.now in
     let none : answered_why c.args.round.now (Whole (route_of c.args.route) answer) ≡ None = sym c.in_default.ensures in
-    let told = subst (λ (x : Result (Result Onward declared.Why) OutOfMemory). IfOk x (λ y. IsJudgedAnswer w q older rows packet (route_of c.args.route) answer y c.replies.new.self c.replies.new.table)) c.in_ok-replies.was
+    let told = subst (λ (x : Result (Result Unit declared.Why) OutOfMemory). IfOk x (λ y. IsJudgedAnswer w q older rows packet (route_of c.args.route) answer y c.replies.new.self c.replies.new.table)) c.in_ok-replies.was
     (c.replies.ensures.told w q older rows packet (route_of c.args.route) is few byte now set_up none stands entries) in
-    inl (subst (λ (x : Result Onward declared.Why). IsJudgedAnswer w q older rows packet (route_of c.args.route) answer x c.replies.new.self c.replies.new.table) c.in-Err.is told)
+    inl (subst (λ (x : Result Unit declared.Why). IsJudgedAnswer w q older rows packet (route_of c.args.route) answer x c.replies.new.self c.replies.new.table) c.in-Err.is told)

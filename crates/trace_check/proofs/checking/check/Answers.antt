@@ -1,13 +1,12 @@
 use Rattle.std.proofs.Common.{◌≡◌, ◌<◌, ◌≤◌, ◌+◌, ◌∙◌, ◌∷◌, ℕ, List, Result, Ok, arith, ap, sym, subst, length, map, reverse, take, get_or}
 use Rattle.configured_ends.specs.Configured.{configuration_in}
 use Rattle.script_text.specs.declared.why.Why as declared
-use Rattle.capture_ends.specs.declared.onward.Onward.{Onward}
 use Rattle.capture_laws.specs.Judged.{why_of}
 use Rattle.capture_laws.specs.Verdict.{seen_of}
 use Rattle.capture_laws.specs.declared.verdict.Seen.{Seen}
-use Rattle.trace_check.proofs.Verdicts.{conforming, differs, large_at, one_more, short, take_all}
+use Rattle.trace_check.proofs.Verdicts.{conforming, differs, one_more, short, take_all}
 use Rattle.trace_check.proofs.checking.check.Goals as goal
-use Rattle.trace_check.specs.Checker.{IsChecker, IsLarge, IsTold}
+use Rattle.trace_check.specs.Checker.{IsChecker, IsTold}
 use Rattle.trace_check.specs.JudgedPair.{IsRefused}
 use Rattle.world_machine.specs.SessionTable.{HasTable}
 use Rattle.world_machine.specs.Setup.{Configuration}
@@ -25,31 +24,13 @@ loop-packet-preserved c = record {
       let older : List (List ℕ) = reverse (take i packets) in
       let is = c.loop-packet.invariant.kept sound most in
       let told : IsTold w older c.as_slice.result.now c.in_ok-take.field-0 c.take.new.self = c.in_ok-take.ensures w older sound is (short packets i few most) in
-      let kept : IsChecker c.take.new.self w (c.as_slice.result.now ∷ older) = subst (λ (x : Result Onward declared.Why). IsTold w older c.as_slice.result.now x c.take.new.self) (c.in-Ok-Kept.is ∙ ap Ok c.in-Ok-Kept.field-0-is) told in
+      let kept : IsChecker c.take.new.self w (c.as_slice.result.now ∷ older) = subst (λ (x : Result Unit declared.Why). IsTold w older c.as_slice.result.now x c.take.new.self) c.in-Ok.is told in
       subst (IsChecker c.take.new.self w) (ap (λ (x : List ℕ). x ∷ older) c.as_slice.ensures ∙ sym (one_more packets i packet few at)) kept;
   counted = λ few.
       let counted = c.loop-packet.invariant.counted (omega (arith, few)) in
       let next = c.saturating_add-number.ensures in
       omega (arith, next, counted, few);
 }
-
-pub returns-in-Ok-Large : goal.returns-in-Ok-Large
-returns-in-Ok-Large c = λ sound most.
-    let w : Configuration = configuration_in c.args.capture.now.config in
-    let packets = c.args.capture.now.packets in
-    let i : ℕ = c.loop-packet.packet-index in
-    let items = c.as_slice-packet-items.ensures in
-    let packet : List ℕ = c.packet-item.result in
-    let few : i < length packets = subst (λ (l : List (List ℕ)). i < length l) items c.loop-packet-test.true in
-    let at : packet ≡ get_or packets i packet = c.packet-item.is ∙ ap (λ (l : List (List ℕ)). get_or l i packet) items in
-    let older : List (List ℕ) = reverse (take i packets) in
-    let is = c.loop-packet.invariant.kept sound most in
-    let told : IsTold w older c.as_slice.result.now c.in_ok-take.field-0 c.take.new.self = c.in_ok-take.ensures w older sound is (short packets i few most) in
-    let counted = c.loop-packet.invariant.counted (omega (arith, few, most)) in
-    let next = c.saturating_add-number.ensures in
-    let count : c.saturating_add-number.result ≡ i + 1 = omega (arith, next, counted, few, most) in
-    let large : IsLarge w older c.as_slice.result.now = subst (λ (x : Result Onward declared.Why). IsTold w older c.as_slice.result.now x c.take.new.self) (c.in-Ok-Large.is ∙ ap Ok c.in-Ok-Large.field-0-is) told in
-    large_at w packets i c.saturating_add-number.result packet c.loop-packet.checker few at count is (subst (IsLarge w older) c.as_slice.ensures large)
 
 pub returns-in-Err : goal.returns-in-Err
 returns-in-Err c = λ sound most.
@@ -66,7 +47,7 @@ returns-in-Err c = λ sound most.
     let counted = c.loop-packet.invariant.counted (omega (arith, few, most)) in
     let next = c.saturating_add-number.ensures in
     let count : c.saturating_add-number.result ≡ i + 1 = omega (arith, next, counted, few, most) in
-    let refused : IsRefused w older c.as_slice.result.now (why_of c.in-Err.why) = subst (λ (x : Result Onward declared.Why). IsTold w older c.as_slice.result.now x c.take.new.self) c.in-Err.is told in
+    let refused : IsRefused w older c.as_slice.result.now (why_of c.in-Err.why) = subst (λ (x : Result Unit declared.Why). IsTold w older c.as_slice.result.now x c.take.new.self) c.in-Err.is told in
     differs w packets i c.saturating_add-number.result packet c.loop-packet.checker few at count is (why_of c.in-Err.why) (subst (λ (x : List ℕ). IsRefused w older x (why_of c.in-Err.why)) c.as_slice.ensures refused)
 
 pub returns : goal.returns

@@ -7,7 +7,7 @@ use Rattle.capture_laws.specs.Order.{is_answer}
 use Rattle.trace_check.proofs.AllPairs.{given_by, hit, none_known, one_of, refused_by}
 use Rattle.trace_check.proofs.checker.Checker.take_answer.Goals as goal
 use Rattle.trace_check.specs.Checker.{AreKept}
-use Rattle.trace_check.specs.JudgedPair.{RepliesLarge, StandsFor}
+use Rattle.trace_check.specs.JudgedPair.{StandsFor}
 use Rattle.trace_check.specs.declared.judged_pair.JudgedPair.{JudgedPair}
 use Rattle.world_machine.specs.Difference.Why.{UnknownEnd}
 
@@ -28,9 +28,9 @@ returns-in-Some-get_mut c = λ w older packet sound is few parses.
     let known = one_of w found.q p.to found.end found.known in
     let answers : is_answer own found.q.eid p ≡ true = subst (λ (n : ℕ). is_answer own n p ≡ true) (sym found.end) (is_its_answer own p to from) in
     let new : JudgedPair = c.take_answer.new.self in
-    given_by (RepliesLarge w found.q older (gathered_from found.q.eid own older p)) w found.q older packet is.rows c.take_answer.result new _
+    given_by w found.q older packet is.rows c.take_answer.result new _
     (c.take_answer.ensures w found.q older is.rows packet (record { sound = sound; known = known; few = few; shows = is.shows; parses = parses }) answers is.answering pair is.entries)
-    (λ large. (found.q, p, known, parses, answers, large)) is.own is.answering
+    is.own is.answering
     (λ behind stands stay. subst (λ (n : ℕ). AreKept (slice_set items n new) w (packet ∷ older) behind w.requesters) (sym there) (found.change packet behind new stands stay))
 
 pub returns-in-None : goal.returns-in-None

@@ -26,9 +26,9 @@ returns-in-Some-get_mut c = λ w older packet sound is few parses.
     let known = one_of w found.q p.from found.end found.known in
     let asks : is_request own found.q.eid p ≡ true = subst (λ (n : ℕ). is_request own n p ≡ true) (sym found.end) (is_its_request own p to) in
     let new : JudgedPair = c.take_request.new.self in
-    told_by ⊥ w found.q older packet is.rows c.take_request.result new _
+    told_by w found.q older packet is.rows c.take_request.result new _
     (c.take_request.ensures w found.q older is.rows packet (record { sound = sound; known = known; few = few; shows = is.shows; parses = parses }) asks pair is.entries)
-    (λ large. absurd large) is.own is.answering
+    is.own is.answering
     (λ behind stands stay. subst (λ (n : ℕ). AreKept (slice_set items n new) w (packet ∷ older) behind w.requesters) (sym there) (found.change packet behind new stands stay))
 
 pub returns-in-None : goal.returns-in-None
