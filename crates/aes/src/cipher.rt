@@ -62,6 +62,17 @@ impl Aes {
         state.last_round(&keys[self.rounds]).block()
     }
 
+    /// The same key once more, with its round keys.
+    pub fn copied(&self) -> Aes
+        ensures { result ≡ self.now }
+    {
+        Aes {
+            key: self.key.clone().unwrap(),
+            keys: self.keys.clone().unwrap(),
+            rounds: self.rounds,
+        }
+    }
+
     /// The block that `block` is enciphered to (FIPS 197, section 5.1). Both are the numbers that their 16
     /// bytes read as, the highest first.
     pub fn encrypt_number(&self, block: u128) -> u128

@@ -31,6 +31,15 @@ impl Aes128Gcm {
         }
     }
 
+    /// The same key once more, with what is computed of it.
+    pub fn copied(&self) -> Aes128Gcm
+        ensures { result ≡ self.now }
+    {
+        Aes128Gcm {
+            key: self.key.copied(),
+        }
+    }
+
     /// Encrypts a text in place and gives the tag of the text and the associated data (SP 800-38D, section
     /// 7.1). Both have at most 65,535 bytes. An IV serves once under a key.
     pub fn seal(&self, iv: &[u8; 12], aad: &[u8], text: &mut [u8]) -> [u8; 16]
@@ -127,6 +136,15 @@ impl Aes256Gcm {
     {
         Aes256Gcm {
             key: GcmKey::new(key),
+        }
+    }
+
+    /// The same key once more, with what is computed of it.
+    pub fn copied(&self) -> Aes256Gcm
+        ensures { result ≡ self.now }
+    {
+        Aes256Gcm {
+            key: self.key.copied(),
         }
     }
 

@@ -47,6 +47,16 @@ impl GcmKey {
         GcmKey { aes, hash }
     }
 
+    // The same key once more, with what is computed of it.
+    pub fn copied(&self) -> GcmKey
+        ensures { result ≡ self.now }
+    {
+        GcmKey {
+            aes: self.aes.copied(),
+            hash: self.hash.copied(),
+        }
+    }
+
     // The tag of associated data and an encrypted text, where `mask` is the block of the key stream with the
     // counter 1.
     fn tag(&self, mask: u128, aad: &[u8], text: &[u8]) -> [u8; 16]

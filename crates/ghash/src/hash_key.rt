@@ -36,6 +36,16 @@ impl HashKey {
         }
     }
 
+    /// The same hash key once more, with its table.
+    pub fn copied(&self) -> HashKey
+        ensures { result ≡ self.now }
+    {
+        HashKey {
+            h: self.h,
+            table: self.table,
+        }
+    }
+
     /// The product of a block with the key.
     pub fn times(&self, a: u128) -> u128
         ensures { result ≡ product a self.now }

@@ -39,6 +39,16 @@ impl RecordCipher {
         }
     }
 
+    // The same cipher once more.
+    pub fn copied(&self) -> RecordCipher
+        ensures { cipher_key result ≡ cipher_key self.now }
+    {
+        match self {
+            RecordCipher::Short(cipher) => RecordCipher::Short(cipher.copied()),
+            RecordCipher::Long(cipher) => RecordCipher::Long(cipher.copied()),
+        }
+    }
+
     // Encrypts a text in place, and gives its tag.
     pub fn seal(&self, iv: &[u8; 12], aad: &[u8], text: &mut [u8]) -> [u8; 16]
         requires aad { length aad.now ≤ 65535 }

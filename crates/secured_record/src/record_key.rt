@@ -45,11 +45,14 @@ impl RecordKey {
         RecordKey { direction, cipher }
     }
 
-    /// The same key once more, with its cipher set up anew.
+    /// The same key once more, with its cipher.
     pub fn copied(&self) -> RecordKey
         ensures { result ≡ self.now }
     {
-        RecordKey::new(self.direction.copied())
+        RecordKey {
+            direction: self.direction.copied(),
+            cipher: self.cipher.copied(),
+        }
     }
 
     /// The key that follows by a key update (DSP0274, "KEY_UPDATE"), with the next epoch. The
