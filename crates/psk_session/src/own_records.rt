@@ -29,9 +29,28 @@ fn open_own(
     open_record(key, id, number, sealed, out)
 }
 
+// Whether the record that was sent with this number has at most 16 bytes of padding.
+fn is_padded_little(
+    key: &RecordKey,
+    id: SessionId,
+    number: u16,
+    sent: &[u8],
+    pair: &mut InnerPair,
+) -> bool
+    requires { length sent.now ≤ 4160 }
+    ensures { (psk : List ℕ) (s : Steps) (inner pad : List ℕ) → SealsFor key.now id psk s
+        → number ≡ request_next s → sent.now ≡ sealed_next psk s inner pad
+        → TellsPadded psk s inner sent.now result }
+{
+    if key.open(id, number, sent, &mut pair.asked).is_err() {
+        return false;
+    }
+    sent.len() <= pair.asked.as_slice().len() + MOST_AROUND
+}
+
 // Whether bytes are the record that was sent with this number, but for its padding, which has at
-// most 16 bytes.
-fn is_padded_anew(
+// most 16 bytes: both are opened.
+fn is_padded_other(
     key: &RecordKey,
     id: SessionId,
     number: u16,
@@ -53,6 +72,27 @@ fn is_padded_anew(
     }
     same_bytes(pair.came.as_slice(), pair.asked.as_slice())
         && sealed.len() <= pair.came.as_slice().len() + MOST_AROUND
+}
+
+// The same, where the record that was sent is opened alone if the bytes are that record.
+fn is_padded_anew(
+    key: &RecordKey,
+    id: SessionId,
+    number: u16,
+    sent: &[u8],
+    sealed: &[u8],
+    pair: &mut InnerPair,
+) -> bool
+    requires { length sent.now ≤ 4160 }
+    ensures told { (psk : List ℕ) (s : Steps) (inner pad : List ℕ) → SealsFor key.now id psk s
+        → number ≡ request_next s → sent.now ≡ sealed_next psk s inner pad
+        → TellsPadded psk s inner sealed.now result }
+    ensures fits { result ≡ true → length sealed.now ≤ 4160 }
+{
+    if same_bytes(sealed, sent) {
+        return is_padded_little(key, id, number, sent, pair);
+    }
+    is_padded_other(key, id, number, sent, sealed, pair)
 }
 
 // The record that a session sealed itself, for one who judges it.
