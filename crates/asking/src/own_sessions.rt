@@ -1,5 +1,4 @@
 ghost use Rattle.std.specs.Prelude.{◌≡◌, take};
-ghost use Rattle.asking.specs.OwnRecords.{first_of};
 
 use crate::Sessions;
 use psk_session::InnerPair;
@@ -11,22 +10,6 @@ fn id_in_front(sealed: &[u8]) -> &[u8]
     ensures { result.now ≡ take 4 sealed.now }
 {
     sealed.split_at(sealed.len().min(4)).0
-}
-
-// The first of four ids that holds.
-fn first_of(first: bool, second: bool, third: bool, fourth: bool) -> Option<u16>
-    ensures { result ≡ first_of first second third fourth }
-{
-    if first {
-        return Some(1);
-    }
-    if second {
-        return Some(2);
-    }
-    if third {
-        return Some(3);
-    }
-    if fourth { Some(4) } else { None }
 }
 
 // What a requester sealed itself, for one who judges it.
@@ -65,12 +48,16 @@ impl Sessions {
         ensures { (q : ReqSetup) (h : History) → StandsFor self.now q h → length h < 2 ^ 64 - 1
             → result ≡ id_named h sealed.now }
     {
-        first_of(
-            self.names(1, sealed),
-            self.names(2, sealed),
-            self.names(3, sealed),
-            self.names(4, sealed),
-        )
+        if self.names(1, sealed) {
+            return Some(1);
+        }
+        if self.names(2, sealed) {
+            return Some(2);
+        }
+        if self.names(3, sealed) {
+            return Some(3);
+        }
+        if self.names(4, sealed) { Some(4) } else { None }
     }
 
     // Opens a record as the next one that the session of this ReqSessionID would send.

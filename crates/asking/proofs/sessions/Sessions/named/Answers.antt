@@ -1,7 +1,30 @@
-use Rattle.std.proofs.Common.{◌∙◌}
+use Rattle.std.proofs.Common.{◌∙◌, Bool, ℕ, false, refl, sym, true}
 use Rattle.asking.proofs.OwnSlots.{first_as}
 use Rattle.asking.proofs.sessions.Sessions.named.Goals as goal
+use Rattle.requester_machine.specs.Named.{names}
+use Rattle.requester_machine.specs.Session.{session_of}
 
-pub returns : goal.returns
-returns c = λ q h stands short.
-    c.first_of.ensures ∙ first_as c.names.result c.names-2.result c.names-3.result c.names-4.result _ _ _ _ (c.names.ensures q h stands short) (c.names-2.ensures q h stands short) (c.names-3.ensures q h stands short) (c.names-4.ensures q h stands short)
+pub returns-then-names : goal.returns-then-names
+returns-then-names c = λ q h stands short.
+    let n = λ (i : ℕ). names c.args.sealed.now (session_of i h) in
+    first_as true (n 2) (n 3) (n 4) (n 1) (n 2) (n 3) (n 4) (sym c.if-names.true ∙ c.names.ensures q h stands short) refl refl refl
+
+pub returns-then-names-2 : goal.returns-then-names-2
+returns-then-names-2 c = λ q h stands short.
+    let n = λ (i : ℕ). names c.args.sealed.now (session_of i h) in
+    first_as false true (n 3) (n 4) (n 1) (n 2) (n 3) (n 4) (sym c.if-names.false ∙ c.names.ensures q h stands short) (sym c.if-names-2.true ∙ c.names-2.ensures q h stands short) refl refl
+
+pub returns-then-names-3 : goal.returns-then-names-3
+returns-then-names-3 c = λ q h stands short.
+    let n = λ (i : ℕ). names c.args.sealed.now (session_of i h) in
+    first_as false false true (n 4) (n 1) (n 2) (n 3) (n 4) (sym c.if-names.false ∙ c.names.ensures q h stands short) (sym c.if-names-2.false ∙ c.names-2.ensures q h stands short) (sym c.if-names-3.true ∙ c.names-3.ensures q h stands short) refl
+
+pub returns-then-names-4 : goal.returns-then-names-4
+returns-then-names-4 c = λ q h stands short.
+    let n = λ (i : ℕ). names c.args.sealed.now (session_of i h) in
+    first_as false false false true (n 1) (n 2) (n 3) (n 4) (sym c.if-names.false ∙ c.names.ensures q h stands short) (sym c.if-names-2.false ∙ c.names-2.ensures q h stands short) (sym c.if-names-3.false ∙ c.names-3.ensures q h stands short) (sym c.if-names-4.true ∙ c.names-4.ensures q h stands short)
+
+pub returns-else-names-4 : goal.returns-else-names-4
+returns-else-names-4 c = λ q h stands short.
+    let n = λ (i : ℕ). names c.args.sealed.now (session_of i h) in
+    first_as false false false false (n 1) (n 2) (n 3) (n 4) (sym c.if-names.false ∙ c.names.ensures q h stands short) (sym c.if-names-2.false ∙ c.names-2.ensures q h stands short) (sym c.if-names-3.false ∙ c.names-3.ensures q h stands short) (sym c.if-names-4.false ∙ c.names-4.ensures q h stands short)
