@@ -19,6 +19,7 @@ use Rattle.spdm_grammar.specs.declared.choice.Choice.{Choice}
 use Rattle.spdm_grammar.specs.declared.session_view.SessionView.{SessionView}
 use Rattle.spdm_machine.specs.Keys.{record_fault}
 use Rattle.capture_ends.specs.AnswerKeys.{IsComingKey, IsKeyOfTurn, is_taken_in, session_named, will_take}
+use Rattle.capture_ends.specs.Opening.{IsByKey}
 use Rattle.world_machine.specs.Opening.{any_free, opens_again, opens_ended, opens_in_session, opens_next, opens_to, turn_in}
 
 -- Whether bytes open under a key is told so.
@@ -30,6 +31,11 @@ OpensBy key sealed b = (choice : Choice) (p : Purpose) (number : ℕ) (id : List
 pub reply_opens : (r : RspSetup) (s : Events) (t : Turn) (sealed : List ℕ) (key : AnswerKey) (b : Bool) → IsKeyOfReply key r.psk s t → OpensBy key sealed b → b ≡ opens_to r s t sealed
 unfolding opens_to
 reply_opens r s t sealed key b its opens = opens (session_terms s).choice (reply_purpose r.psk s t) (reply_number s t) (id_bytes s) its
+
+-- What is told of the key of such an answer, where it opens so.
+pub reply_key : (r : RspSetup) (s : Events) (t : Turn) (sealed : List ℕ) (key : AnswerKey) (is : Bool) → IsKeyOfReply key r.psk s t → opens_to r s t sealed ≡ is → IsByKey (Some key) sealed is
+unfolding opens_to
+reply_key r s t sealed key is its same = ((session_terms s).choice, reply_purpose r.psk s t, reply_number s t, id_bytes s, its, sym same)
 
 pub kept_opens : (r : RspSetup) (s : Events) (t : Turn) (sealed : List ℕ) (kept : Option AnswerKey) (key : AnswerKey) (b : Bool) → kept ≡ Some key → IsKeyOfTurn r s t kept → OpensBy key sealed b → b ≡ opens_to r s t sealed
 kept_opens r s t sealed kept key b is its opens = reply_opens r s t sealed key b (subst (IsKeyOfTurn r s t) is its) opens

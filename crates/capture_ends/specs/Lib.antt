@@ -6,6 +6,7 @@ pub mod RefusedRequest
 pub mod Answerer
 pub mod ShownBy
 pub mod AnswerKeys
+pub mod Opening
 pub mod HeardKept
 pub mod Party
 pub mod PartyReplies

@@ -15,6 +15,7 @@ ghost use Rattle.world_machine.specs.Opening.{opens_next};
 
 use crate::bodies::is_clear;
 use crate::coming::Coming;
+use crate::opening::Opening;
 use connection::{Connection, record_id};
 use responder_session::AnswerKey;
 use session_keys::{behind_type, byte_at, same_bytes};
@@ -35,8 +36,8 @@ pub struct AnswerKeys {
     ended: Option<AnswerKey>,
 }
 
-// Whether a record opens under a key. What `room` holds before and after does not matter.
-fn opens_by(key: &AnswerKey, sealed: &[u8], room: &mut RecordFrame) -> bool
+/// Whether a record opens under a key. What `room` holds before and after does not matter.
+pub(crate) fn opens_by(key: &AnswerKey, sealed: &[u8], room: &mut RecordFrame) -> bool
     ensures { (choice : Choice) (p : Purpose) (number : ℕ) (id : List ℕ)
         → IsAnswerKey key.now choice p number id
         → result ≡ is_none (record_fault choice p number id sealed.now) }
@@ -129,19 +130,20 @@ pub(crate) fn prepare(connection: &Connection, body: &[u8], coming: &mut Coming)
 }
 
 impl AnswerKeys {
-    ghost use Rattle.std.specs.Prelude.{◌≡◌, ◌≢◌, ◌≤◌, ◌<◌, ◌-◌, ◌^◌, ◌==◌, ℕ, List, [], None, Some, true, is_some, drop, slice_index, MatchOption};
+    ghost use Rattle.std.specs.Prelude.{◌≡◌, ◌≢◌, ◌≤◌, ◌<◌, ◌-◌, ◌^◌, ◌==◌, ◌||◌, ℕ, List, [], None, Some, true, is_some, drop, slice_index, MatchOption};
     ghost use Rattle.connection.specs.Connected as connected;
     ghost use Rattle.responder_machine.specs.Answer.{Free};
     ghost use Rattle.responder_machine.specs.BoundLaws.{messages_of};
     ghost use Rattle.responder_machine.specs.History.{History, ended_of};
     ghost use Rattle.responder_machine.specs.May.{on_body, with_dropped};
-    ghost use Rattle.responder_machine.specs.Responder.{after};
+    ghost use Rattle.responder_machine.specs.Responder.{after, repeats};
     ghost use Rattle.responder_machine.specs.Session.{Events, id_in_record, last_of, session_of};
     ghost use Rattle.responder_machine.specs.Setup.{RspSetup};
     ghost use Rattle.spdm_machine.specs.Bodies.{record_body};
     ghost use Rattle.spdm_machine.specs.Keys.{Draw};
     ghost use Rattle.capture_ends.specs.AnswerKeys.{IsComing, IsComingKey, IsEndedKey, IsLastKey, StandFor, last_key};
-    ghost use Rattle.world_machine.specs.Opening.{opens_again, opens_answering, opens_ended, opens_in_session};
+    ghost use Rattle.capture_ends.specs.Opening.{IsOpening};
+    ghost use Rattle.world_machine.specs.Opening.{opens_again, opens_answering, opens_ended, opens_in_session, opens_next};
 
     /// Where no answer was given yet.
     pub fn new() -> AnswerKeys
@@ -187,7 +189,26 @@ impl AnswerKeys {
         }
     }
 
-    // Whether a record opens as an answer to another one with its session id, of which this is had.
+    // Whether a record opens as the answer to one that came again, or as the next one of its session.
+    fn opens_repeated(
+        &self,
+        connection: &Connection,
+        request: &[u8],
+        sealed: &[u8],
+        room: &mut RecordFrame,
+    ) -> bool
+        ensures { (r : RspSetup) (h : History) → connected.StandsFor connection.now r h
+            → messages_of h < 2 ^ 64 - 1 → StandFor self.now r h
+            → repeats (last_of (session_of (id_in_record request.now) h)) request.now ≡ true
+            → result ≡ (opens_again r (session_of (id_in_record request.now) h) sealed.now
+            || opens_next r (session_of (id_in_record request.now) h) sealed.now) }
+    {
+        self.opens_again(record_id(request).rsp, sealed, room)
+            || opens_next(connection, request, sealed, room)
+    }
+
+    // Whether a record opens as an answer to another one with its session id, of which this is had; where that is
+    // taken, its key tells.
     fn opens_in_session(
         &self,
         connection: &Connection,
@@ -195,29 +216,34 @@ impl AnswerKeys {
         coming: &Coming,
         sealed: &[u8],
         room: &mut RecordFrame,
-    ) -> bool
+    ) -> Opening
         ensures { (r : RspSetup) (h : History) → connected.StandsFor connection.now r h
             → messages_of h < 2 ^ 64 - 1 → StandFor self.now r h
             → IsComing coming.now r h (record_body request.now)
-            → result ≡ opens_in_session r h (session_of (id_in_record request.now) h) request.now
-            sealed.now }
+            → IsOpening coming.now sealed.now result
+            (opens_in_session r h (session_of (id_in_record request.now) h) request.now sealed.now) }
     {
         if connection.repeats_ended(request) {
-            return self.opens_ended(sealed, room);
+            let opens = self.opens_ended(sealed, room);
+            return Opening::Told(opens);
         }
         if connection.repeats_last(request) {
-            return self.opens_again(record_id(request).rsp, sealed, room)
-                || opens_next(connection, request, sealed, room);
+            let opens = self.opens_repeated(connection, request, sealed, room);
+            return Opening::Told(opens);
         }
         match &coming.key {
-            Some(key) => opens_by(key, sealed, room),
-            None => opens_next(connection, request, sealed, room),
+            Some(_) => Opening::ByKey,
+            None => {
+                let opens = opens_next(connection, request, sealed, room);
+                Opening::Told(opens)
+            }
         }
     }
 
     /// Whether a record that is no right answer to a body, a clear one or another record, opens at least;
-    /// this is had of the body. What `room` holds before and after does not matter. Fewer than 2^64 - 1
-    /// messages came.
+    /// this is had of the body. Where that is a record that is taken, and has the same session id, the key of
+    /// its answer tells, and is not asked. What `room` holds before and after does not matter. Fewer than
+    /// 2^64 - 1 messages came.
     pub(crate) fn opens(
         &self,
         connection: &Connection,
@@ -225,18 +251,20 @@ impl AnswerKeys {
         coming: &Coming,
         sealed: &[u8],
         room: &mut RecordFrame,
-    ) -> bool
+    ) -> Opening
         ensures { (r : RspSetup) (h : History) → connected.StandsFor connection.now r h
             → messages_of h < 2 ^ 64 - 1 → StandFor self.now r h → IsComing coming.now r h body.now
-            → result ≡ opens_answering r h (slice_index body.now 0 == 5) (drop 1 body.now)
-            sealed.now }
+            → IsOpening coming.now sealed.now result
+            (opens_answering r h (slice_index body.now 0 == 5) (drop 1 body.now) sealed.now) }
     {
         if is_clear(body) {
-            return opens_next(connection, sealed, sealed, room);
+            let opens = opens_next(connection, sealed, sealed, room);
+            return Opening::Told(opens);
         }
         let request = behind_type(body);
         if !same_bytes(first_bytes(request), first_bytes(sealed)) {
-            return opens_next(connection, sealed, sealed, room);
+            let opens = opens_next(connection, sealed, sealed, room);
+            return Opening::Told(opens);
         }
         self.opens_in_session(connection, request, coming, sealed, room)
     }

@@ -1,15 +1,18 @@
-ghost use Rattle.std.specs.Prelude.{◌≡◌, ◌<◌, ◌-◌, ◌^◌, Some};
+ghost use Rattle.std.specs.Prelude.{◌≡◌, ◌<◌, ◌-◌, ◌^◌, Some, if◌then◌else◌};
 ghost use Rattle.connection.specs.Connected as connected;
 ghost use Rattle.responder_machine.specs.BoundLaws.{messages_of};
 ghost use Rattle.responder_machine.specs.Setup.{RspSetup};
 ghost use Rattle.capture_ends.specs.AnswerKeys.{IsComing, StandFor};
+ghost use Rattle.capture_ends.specs.Opening.{IsReason};
 ghost use Rattle.capture_laws.specs.Judged.{why_of};
 ghost use Rattle.world_machine.specs.Difference.{reply_why};
+ghost use Rattle.world_machine.specs.Difference.Why.{BadRecord, BadReply};
 ghost use Rattle.world_machine.specs.Rounds.{Dialogue, Round};
 
 use crate::answer_keys::{coming_key, prepare};
 use crate::bodies::is_clear;
 use crate::coming::Coming;
+use crate::opening::{Opening, opens_so};
 use crate::{AnswerKeys, Answerer};
 use connection::Connection;
 use responder_session::AnswerKey;
@@ -17,31 +20,44 @@ use script_text::Why;
 use session_keys::behind_type;
 use spdm_basis::RecordFrame;
 
-// Why an answer that is in turn is refused, but for wrong verify data: it is in the clear or a record
-// that opens, or it does not open. The body is the request that it answers, which was not handed in
-// yet, and of which this is had. What `room` holds before and after does not matter. Fewer than 2^64 - 1
-// messages came.
-fn reply_why(
+// Whether an answer that is in turn is in the clear, or a record that opens, as far as it is told before it is
+// judged. The body is the request that it answers, which was not handed in yet, and of which this is had. What
+// `room` holds before and after does not matter. Fewer than 2^64 - 1 messages came.
+fn opening_of(
     keys: &AnswerKeys,
     connection: &Connection,
     body: &[u8],
     coming: &Coming,
     answer: &[u8],
     room: &mut RecordFrame,
-) -> Why
+) -> Opening
     ensures { (r : RspSetup) (d : Dialogue) (round : Round)
         → connected.StandsFor connection.now r d.responder → messages_of d.responder < 2 ^ 64 - 1
         → StandFor keys.now r d.responder → round.body ≡ body.now
         → IsComing coming.now r d.responder body.now
-        → why_of result ≡ reply_why r d answer.now (Some round) }
+        → IsReason r d round coming.now answer.now result }
 {
     if is_clear(answer) {
-        return Why::BadReply;
+        return Opening::Told(true);
     }
-    if keys.opens(connection, body, coming, behind_type(answer), room) {
-        return Why::BadReply;
-    }
-    Why::BadRecord
+    keys.opens(connection, body, coming, behind_type(answer), room)
+}
+
+// Why an answer is refused that is in the clear or opens, or neither.
+fn why_by(opens: bool) -> Why
+    ensures { why_of result ≡ (if opens then BadReply else BadRecord) }
+{
+    if opens { Why::BadReply } else { Why::BadRecord }
+}
+
+/// Why an answer is refused of which this was told, with what is had of its request. What `room` holds before and
+/// after does not matter.
+pub(crate) fn why_so(told: Opening, coming: &Coming, answer: &[u8], room: &mut RecordFrame) -> Why
+    ensures { (r : RspSetup) (d : Dialogue) (round : Round)
+        → IsReason r d round coming.now answer.now told
+        → why_of result ≡ reply_why r d answer.now (Some round) }
+{
+    why_by(opens_so(told, coming, behind_type(answer), room))
 }
 
 impl Answerer {
@@ -51,6 +67,7 @@ impl Answerer {
     ghost use Rattle.responder_machine.specs.Setup.{RspSetup};
     ghost use Rattle.capture_ends.specs.AnswerKeys.{IsComing, IsComingKey, StandFor};
     ghost use Rattle.capture_ends.specs.Answerer.{IsAnswerer};
+    ghost use Rattle.capture_ends.specs.Opening.{IsReason};
     ghost use Rattle.capture_laws.specs.Judged.{why_of};
     ghost use Rattle.world_machine.specs.Difference.{reply_why};
     ghost use Rattle.world_machine.specs.Rounds.{Dialogue, Round};
@@ -63,23 +80,23 @@ impl Answerer {
         prepare(&self.connection, body, coming);
     }
 
-    /// Why an answer to this body, of which this is had, is refused, but for wrong verify data: had before
-    /// it is judged. Fewer than 2^64 - 1 messages came.
-    pub(crate) fn reply_why_with(
+    /// Why an answer to this body, of which this is had, is refused, but for wrong verify data, as far as it is told
+    /// before it is judged: a record is not opened with the key that is had. Fewer than 2^64 - 1 messages came.
+    pub(crate) fn opening_with(
         &mut self,
         keys: &AnswerKeys,
         body: &[u8],
         coming: &Coming,
         answer: &[u8],
-    ) -> Why
+    ) -> Opening
         ensures told { (r : RspSetup) (d : Dialogue) (round : Round)
             → IsAnswerer self.old r d.responder → messages_of d.responder < 2 ^ 64 - 1
             → StandFor keys.now r d.responder → round.body ≡ body.now
             → IsComing coming.now r d.responder body.now
-            → why_of result ≡ reply_why r d answer.now (Some round) }
+            → IsReason r d round coming.now answer.now result }
         ensures same { self.new.connection ≡ self.old.connection }
     {
-        reply_why(
+        opening_of(
             keys,
             &self.connection,
             body,
@@ -89,7 +106,8 @@ impl Answerer {
         )
     }
 
-    /// The same, where nothing is had of the body yet.
+    /// Why an answer to this body is refused, but for wrong verify data: had before it is judged, where nothing is had
+    /// of the body yet. Fewer than 2^64 - 1 messages came.
     pub fn reply_why(&mut self, keys: &AnswerKeys, body: &[u8], answer: &[u8]) -> Why
         ensures told { (r : RspSetup) (d : Dialogue) (round : Round)
             → IsAnswerer self.old r d.responder → messages_of d.responder < 2 ^ 64 - 1
@@ -99,7 +117,8 @@ impl Answerer {
     {
         let mut coming = Coming::new();
         self.prepare(body, &mut coming);
-        self.reply_why_with(keys, body, &coming, answer)
+        let told = self.opening_with(keys, body, &coming, answer);
+        why_so(told, &coming, answer, &mut self.record)
     }
 
     /// The key of the answer to this body, had before it is judged. Fewer than 2^64 - 1 messages

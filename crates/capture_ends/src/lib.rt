@@ -34,6 +34,7 @@ mod large_carried;
 mod large_ended;
 mod large_told;
 mod onward;
+mod opening;
 mod owed_messages;
 mod party;
 mod party_laws;

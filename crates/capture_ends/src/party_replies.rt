@@ -1,3 +1,4 @@
+use crate::answer_reasons::why_so;
 use crate::{Given, Heard, Judged, Onward, Party};
 use capture_laws::{Change, Round, SessionTable};
 use connection::Setup;
@@ -65,9 +66,9 @@ impl Party {
     {
         let body = round.body();
         self.answerer.prepare(body, &mut self.coming);
-        let why = self
+        let told = self
             .answerer
-            .reply_why_with(&self.keys, body, &self.coming, answer);
+            .opening_with(&self.keys, body, &self.coming, answer);
         let begun = self.answerer.begun(round.tag(), body, answer);
         let taken = self.answerer.taken(body, answer);
         match self.answerer.judges_with(
@@ -79,11 +80,13 @@ impl Party {
             &mut self.text,
         ) {
             Judged::Given(Given::Whole) => {
-                let key = self.coming.take_key();
-                let heard = self.go_on(round, key, answer, false);
+                let heard = self.asker.hears(round.tag(), answer, false);
                 if heard.fetches {
+                    let why = why_so(told, &self.coming, answer, &mut self.text);
                     return Ok(Ok(Onward::Asked(why)));
                 }
+                let key = self.coming.take_key();
+                self.keys.follow(&self.answerer.connection, body, key);
                 let change = self.change(begun, heard.accepted, taken);
                 table.take(&mut self.places, self.number, &change)?;
                 Ok(Ok(Onward::Kept))
@@ -91,7 +94,7 @@ impl Party {
             Judged::Given(Given::Large) => Ok(Ok(Onward::Large)),
             Judged::Given(Given::Last) => Ok(Ok(Onward::Large)),
             Judged::Apart => Ok(Err(Why::BadVerify)),
-            Judged::Refused => Ok(Err(why)),
+            Judged::Refused => Ok(Err(why_so(told, &self.coming, answer, &mut self.text))),
         }
     }
 

@@ -1,14 +1,14 @@
 use Rattle.std.proofs.Common.{◌≡◌, ◌+◌, ◌-◌, ◌^◌, ◌<◌, ◌∙◌, sym, ap, subst, length, arith, List, ℕ, true, false, inl, inr, Option, Result}
 use Rattle.std.specs.Prelude.{OnOk}
-use Rattle.capture_laws.specs.KeptChanges.{begun_shown, taken_shown}
+use Rattle.capture_laws.specs.KeptChanges.{accepted_from, begun_shown, taken_shown}
 use Rattle.capture_laws.specs.Keeping.{restored}
-use Rattle.capture_laws.specs.Order.{body_in, tag_in}
+use Rattle.capture_laws.specs.Order.{tag_in}
 use Rattle.capture_laws.specs.RepliesShown.{responder_for}
 use Rattle.capture_laws.specs.Rows as rows_of
-use Rattle.capture_laws.specs.declared.places.Places.{Places}
 use Rattle.connection.specs.Connected as connected
 use Rattle.connection.specs.declared.connected.Connection.{Connection}
 use Rattle.requester_machine.specs.Setup.{ReqSetup}
+use Rattle.responder_machine.specs.Answer.{Free}
 use Rattle.responder_machine.specs.May.{on_body, with_dropped}
 use Rattle.responder_machine.specs.Responder.{after}
 use Rattle.responder_session.specs.declared.answer_key.AnswerKey.{AnswerKey}
@@ -17,16 +17,17 @@ use Rattle.capture_ends.proofs.InTurn.{answers_in_turn}
 use Rattle.capture_ends.proofs.CarriedBy.{keeps_carries}
 use Rattle.capture_ends.proofs.KnownFetches.{kept_asks_none}
 use Rattle.capture_ends.proofs.KeptTyped.{kept_apart, kept_body}
-use Rattle.capture_ends.proofs.PartyReplied.{answers_round, apart_for, asked_upon, behind_whole, body_is, few_messages, goes_whole, is_part, kept_limits, refused_for, round_is, whole_kept}
+use Rattle.capture_ends.proofs.PartyReplied.{answers_round, apart_for, asked_upon, behind_whole, body_is, few_messages, goes_whole, is_part, kept_limits, refused_for, whole_kept}
 use Rattle.capture_ends.proofs.PartyTold.{few_behind, is_change, is_step}
 use Rattle.capture_ends.proofs.party.Party.replies.Goals as goal
-use Rattle.capture_ends.specs.AnswerKeys.{IsComingKey}
+use Rattle.capture_ends.specs.AnswerKeys.{IsComingKey, StandFor}
 use Rattle.capture_ends.specs.Answerer.{IsAnswerer, history_shown}
-use Rattle.capture_ends.specs.HeardKept.{asks_upon}
+use Rattle.capture_ends.specs.Asker.{IsAsker}
+use Rattle.capture_ends.specs.HeardKept.{asks_upon, heard_kept}
 use Rattle.capture_ends.specs.PartyReplies.{IsGiven}
-use Rattle.capture_ends.specs.declared.answerer.Answerer.{Answerer}
 use Rattle.capture_ends.specs.declared.given.Judged.{Judged}
 use Rattle.capture_ends.specs.declared.given.Judged.TheVariants as judged
+use Rattle.capture_ends.specs.declared.party.Party.{Party}
 use Rattle.world_machine.specs.Capture.{IsBody}
 use Rattle.world_machine.specs.Rounds.{no_draw}
 use Rattle.world_machine.specs.SessionTable.{number_from, rows_between}
@@ -43,14 +44,14 @@ returns-then-heard-clause-told c = λ w q older rows k route keeps below byte no
     let body = c.body-body.ensures ∙ body_is w q older k route answer byte limits keeps turn rows seen now in
     let small = few_messages w q older k carries few in
     let coming = c.prepare.ensures r k.responder party.answerer small in
-    let second = subst (λ (x : Connection). connected.StandsFor x r k.responder) (sym c.reply_why_with-why.ensures.same) party.answerer in
+    let second = subst (λ (x : Connection). connected.StandsFor x r k.responder) (sym c.opening_with-told.ensures.same) party.answerer in
     let told = c.judges_with.ensures r (restored k) turn.round set_up second small (answers_round w q older k route answer byte limits keeps turn rows seen now c.tag-2.result c.tag-2.ensures).1 (sym body) (subst IsBody (sym body) (kept_body w q older k turn.round carries turn.answers.0)) (kept_apart w q older k turn.round answer carries) coming in
     let given = subst (λ (x : Judged). IsGiven r (restored k) turn.round answer x c.judges_with.new.self) (c.in-Given-Whole.is ∙ ap judged.Given c.in-Given-Whole.field-0-is) told in
-    let at = round_is w q older k route answer byte limits keeps turn rows seen now in
-    let fetches = c.go_on-heard.ensures.fetches w q older k turn.round carries below turn.answers.0 at party.asker (sym (kept_asks_none w q older k keeps)) in
-    let asks : asks_upon k route.tag answer ≡ true = sym (ap (λ (n : ℕ). asks_upon k n answer) turn.answers.1) ∙ sym fetches ∙ c.if-heard.true in
-    asked_upon w q older k route answer byte limits keeps turn rows c.reply_why_with-why.result given.0 asks
-    (c.reply_why_with-why.ensures.told r (restored k) turn.round party.answerer small party.keys (sym body) coming) c.go_on-heard.new.self c.args.table.now
+    let under = (answers_round w q older k route answer byte limits keeps turn rows seen now c.tag-in-Given-Whole.result c.tag-in-Given-Whole.ensures).1 in
+    let fetches = c.hears-heard.ensures.fetches w q older k turn.round carries below turn.answers.0 under party.asker (sym (kept_asks_none w q older k keeps)) in
+    let asks : asks_upon k route.tag answer ≡ true = ap (λ (n : ℕ). asks_upon k n answer) (sym turn.answers.1 ∙ under) ∙ sym fetches ∙ c.if-heard.true in
+    let why = c.why_so-why.ensures r (restored k) turn.round (c.opening_with-told.ensures.told r (restored k) turn.round party.answerer small party.keys (sym body) coming) in
+    asked_upon w q older k route answer byte limits keeps turn rows c.why_so-why.result given.0 asks why c.args.self.now c.args.table.now
 
 pub returns-in_ok-take-in-Given-Whole-clause-told : goal.returns-in_ok-take-in-Given-Whole-clause-told
 returns-in_ok-take-in-Given-Whole-clause-told c = λ w q older rows k route keeps below byte now set_up none party stands.
@@ -64,42 +65,46 @@ returns-in_ok-take-in-Given-Whole-clause-told c = λ w q older rows k route keep
     let body = c.body-body.ensures ∙ body_is w q older k route answer byte limits keeps turn rows seen now in
     let small = few_messages w q older k carries few in
     let coming = c.prepare.ensures r k.responder party.answerer small in
-    let second = subst (λ (x : Connection). connected.StandsFor x r k.responder) (sym c.reply_why_with-why.ensures.same) party.answerer in
+    let second = subst (λ (x : Connection). connected.StandsFor x r k.responder) (sym c.opening_with-told.ensures.same) party.answerer in
     let told = c.judges_with.ensures r (restored k) turn.round set_up second small (answers_round w q older k route answer byte limits keeps turn rows seen now c.tag-2.result c.tag-2.ensures).1 (sym body) (subst IsBody (sym body) (kept_body w q older k turn.round carries turn.answers.0)) (kept_apart w q older k turn.round answer carries) coming in
     let given = subst (λ (x : Judged). IsGiven r (restored k) turn.round answer x c.judges_with.new.self) (c.in-Given-Whole.is ∙ ap judged.Given c.in-Given-Whole.field-0-is) told in
-    let new = c.go_on-heard.new.self in
-    let same = c.go_on-heard.ensures.answerer in
     let behind = history_shown r k.responder turn.round.tag turn.round.body answer in
-    let answerer = subst (λ (x : Answerer). IsAnswerer x r behind) (sym same) given.1 in
-    let key = subst (λ (b : List ℕ). IsComingKey r k.responder b c.take_key-key.result) c.body-body.ensures
-    (subst (λ (o : Option AnswerKey). IsComingKey r k.responder c.body-body.result.now o) (sym c.take_key-key.ensures) coming.key) in
-    let at = round_is w q older k route answer byte limits keeps turn rows seen now in
-    let last = record new { places = c.take.new.places } in
-    let are = behind_whole w q older k route answer byte limits keeps turn rows seen now last answerer
-    (λ h. c.go_on-heard.ensures.asker w q older k h turn.round carries below turn.answers.0 at party.asker)
-    (λ ids f there. c.go_on-heard.ensures.keys r k.responder ids f no_draw party.keys key
-    (subst (λ (x : Answerer). IsAnswerer x r (after (with_dropped k.responder ids) (on_body r (with_dropped k.responder ids) (tag_in seen) (body_in seen) f no_draw))) same there)) in
+    let key = subst (λ (o : Option AnswerKey). IsComingKey r k.responder c.body-body.result.now o) (sym c.take_key-key.ensures) coming.key in
+    let under = (answers_round w q older k route answer byte limits keeps turn rows seen now c.tag-in-Given-Whole.result c.tag-in-Given-Whole.ensures).1 in
+    let last : Party = record c.args.self.now {
+      asker = c.hears-heard.new.self;
+      answerer = c.judges_with.new.self;
+      keys = c.follow.new.self;
+      places = c.take.new.places;
+      coming = c.take_key-key.new.self;
+      text = c.judges_with.new.text;
+    } in
+    let after_by = λ (ids : List ℕ) (f : Free) (b : List ℕ). after (with_dropped k.responder ids) (on_body r (with_dropped k.responder ids) (tag_in seen) b f no_draw) in
+    let are = behind_whole w q older k route answer byte limits keeps turn rows seen now last given.1
+    (λ h. subst (λ (n : ℕ). IsAsker c.hears-heard.new.self q (heard_kept k h n turn.round answer)) (sym under)
+    (c.hears-heard.ensures.kept w q older k h turn.round carries below turn.answers.0 under party.asker))
+    (λ ids f there. subst (λ (b : List ℕ). StandFor c.follow.new.self r (after_by ids f b)) c.body-body.ensures
+    (c.follow.ensures r k.responder ids (tag_in seen) f no_draw party.keys key
+    (subst (λ (b : List ℕ). IsAnswerer c.judges_with.new.self r (after_by ids f b)) (sym c.body-body.ensures) there))) in
     let next = whole_kept w q older k route answer byte limits keeps turn rows in
     let tag = sym (answers_round w q older k route answer byte limits keeps turn rows seen now c.tag.result c.tag.ensures).1 in
     let h = k.responder in
     let change = is_change w q older k route answer byte limits keeps turn rows given.0 c.change-change.result
     (c.change-change.ensures.begun ∙ c.begun-begun.ensures.shown r h second ∙ ap (λ (n : ℕ). begun_shown h n c.body-body.result.now answer) tag ∙ ap (λ (b : List ℕ). begun_shown h turn.round.tag b answer) body)
-    (c.change-change.ensures.accepted ∙ c.go_on-heard.ensures.accepted w q older k turn.round carries few turn.answers.0 at party.asker)
+    (c.change-change.ensures.accepted ∙ c.hears-heard.ensures.accepted w q older k turn.round carries few turn.answers.0 under party.asker ∙ ap (λ (n : ℕ). accepted_from k n answer) (sym under))
     (c.change-change.ensures.taken ∙ c.taken-taken.ensures r h second ∙ ap (λ (b : List ℕ). taken_shown h b answer) body)
     c.change-change.ensures.asked
-    (c.change-change.ensures.views r behind answerer (few_behind w q older k route answer byte limits keeps turn rows given.0 few)) in
-    let fetches = c.go_on-heard.ensures.fetches w q older k turn.round carries below turn.answers.0 at party.asker (sym (kept_asks_none w q older k keeps)) in
-    let idle : asks_upon k route.tag answer ≡ false = sym (ap (λ (n : ℕ). asks_upon k n answer) turn.answers.1) ∙ sym fetches ∙ c.if-heard.false in
+    (c.change-change.ensures.views r behind given.1 (few_behind w q older k route answer byte limits keeps turn rows given.0 few)) in
+    let fetches = c.hears-heard.ensures.fetches w q older k turn.round carries below turn.answers.0 under party.asker (sym (kept_asks_none w q older k keeps)) in
+    let idle : asks_upon k route.tag answer ≡ false = ap (λ (n : ℕ). asks_upon k n answer) (sym turn.answers.1 ∙ under) ∙ sym fetches ∙ c.if-heard.false in
     let step = is_step w q older k route answer byte limits keeps turn rows given.0 idle in
-    let number = c.go_on-heard.ensures.number ∙ party.number in
-    let there = number ∙ ap (λ (s : ReqSetup). number_from 1 s.eid w.requesters) (sym party.asker.setup) in
-    let places = subst (λ (x : Places). rows_of.StandFor x (restored k) rows) (sym c.go_on-heard.ensures.places) party.places in
+    let there = party.number ∙ ap (λ (s : ReqSetup). number_from 1 s.eid w.requesters) (sym party.asker.setup) in
     let it = c.in_ok-take-in-Given-Whole.was in
     let table = subst (λ (x : Result Unit OutOfMemory). OnOk x (rows_of.StandsForRows c.take.new.self w (length older + 1) (rows_between (restored k) (restored next) rows))) it
-    (c.take.ensures.table w (length older) (restored k) (restored next) rows change step few there stands places) in
+    (c.take.ensures.table w (length older) (restored k) (restored next) rows change step few there stands party.places) in
     let stand = subst (λ (x : Result Unit OutOfMemory). OnOk x (rows_of.StandFor c.take.new.places (restored next) (rows_between (restored k) (restored next) rows))) it
-    (c.take.ensures.places w (length older) (restored k) (restored next) rows change step stands places) in
-    goes_whole w q older k route answer byte limits keeps turn rows last c.take.new.self given.0 idle are number (record { stand = stand; stands = table })
+    (c.take.ensures.places w (length older) (restored k) (restored next) rows change step stands party.places) in
+    goes_whole w q older k route answer byte limits keeps turn rows last c.take.new.self given.0 idle are party.number (record { stand = stand; stands = table })
 
 pub returns-in-Given-Large-clause-told : goal.returns-in-Given-Large-clause-told
 returns-in-Given-Large-clause-told c = λ w q older rows k route keeps below byte now set_up none party stands.
@@ -113,7 +118,7 @@ returns-in-Given-Large-clause-told c = λ w q older rows k route keeps below byt
     let body = c.body-body.ensures ∙ body_is w q older k route answer byte limits keeps turn rows seen now in
     let small = few_messages w q older k carries few in
     let coming = c.prepare.ensures r k.responder party.answerer small in
-    let second = subst (λ (x : Connection). connected.StandsFor x r k.responder) (sym c.reply_why_with-why.ensures.same) party.answerer in
+    let second = subst (λ (x : Connection). connected.StandsFor x r k.responder) (sym c.opening_with-told.ensures.same) party.answerer in
     let told = c.judges_with.ensures r (restored k) turn.round set_up second small (answers_round w q older k route answer byte limits keeps turn rows seen now c.tag-2.result c.tag-2.ensures).1 (sym body) (subst IsBody (sym body) (kept_body w q older k turn.round carries turn.answers.0)) (kept_apart w q older k turn.round answer carries) coming in
     let given = subst (λ (x : Judged). IsGiven r (restored k) turn.round answer x c.judges_with.new.self) (c.in-Given-Large.is ∙ ap judged.Given c.in-Given-Large.field-0-is) told in
     is_part w q older k route answer byte limits keeps turn rows c.args.self.now c.args.table.now (inl given)
@@ -130,7 +135,7 @@ returns-in-Given-Last-clause-told c = λ w q older rows k route keeps below byte
     let body = c.body-body.ensures ∙ body_is w q older k route answer byte limits keeps turn rows seen now in
     let small = few_messages w q older k carries few in
     let coming = c.prepare.ensures r k.responder party.answerer small in
-    let second = subst (λ (x : Connection). connected.StandsFor x r k.responder) (sym c.reply_why_with-why.ensures.same) party.answerer in
+    let second = subst (λ (x : Connection). connected.StandsFor x r k.responder) (sym c.opening_with-told.ensures.same) party.answerer in
     let told = c.judges_with.ensures r (restored k) turn.round set_up second small (answers_round w q older k route answer byte limits keeps turn rows seen now c.tag-2.result c.tag-2.ensures).1 (sym body) (subst IsBody (sym body) (kept_body w q older k turn.round carries turn.answers.0)) (kept_apart w q older k turn.round answer carries) coming in
     let given = subst (λ (x : Judged). IsGiven r (restored k) turn.round answer x c.judges_with.new.self) (c.in-Given-Last.is ∙ ap judged.Given c.in-Given-Last.field-0-is) told in
     is_part w q older k route answer byte limits keeps turn rows c.args.self.now c.args.table.now (inr given)
@@ -147,7 +152,7 @@ returns-in-Apart-clause-told c = λ w q older rows k route keeps below byte now 
     let body = c.body-body.ensures ∙ body_is w q older k route answer byte limits keeps turn rows seen now in
     let small = few_messages w q older k carries few in
     let coming = c.prepare.ensures r k.responder party.answerer small in
-    let second = subst (λ (x : Connection). connected.StandsFor x r k.responder) (sym c.reply_why_with-why.ensures.same) party.answerer in
+    let second = subst (λ (x : Connection). connected.StandsFor x r k.responder) (sym c.opening_with-told.ensures.same) party.answerer in
     let told = c.judges_with.ensures r (restored k) turn.round set_up second small (answers_round w q older k route answer byte limits keeps turn rows seen now c.tag-2.result c.tag-2.ensures).1 (sym body) (subst IsBody (sym body) (kept_body w q older k turn.round carries turn.answers.0)) (kept_apart w q older k turn.round answer carries) coming in
     let given = subst (λ (x : Judged). IsGiven r (restored k) turn.round answer x c.judges_with.new.self) c.in-Apart.is told in
     apart_for w q older k route answer byte limits keeps turn rows given.0 given.1 c.args.self.now c.args.table.now
@@ -164,8 +169,8 @@ returns-in-Refused-clause-told c = λ w q older rows k route keeps below byte no
     let body = c.body-body.ensures ∙ body_is w q older k route answer byte limits keeps turn rows seen now in
     let small = few_messages w q older k carries few in
     let coming = c.prepare.ensures r k.responder party.answerer small in
-    let second = subst (λ (x : Connection). connected.StandsFor x r k.responder) (sym c.reply_why_with-why.ensures.same) party.answerer in
+    let second = subst (λ (x : Connection). connected.StandsFor x r k.responder) (sym c.opening_with-told.ensures.same) party.answerer in
     let told = c.judges_with.ensures r (restored k) turn.round set_up second small (answers_round w q older k route answer byte limits keeps turn rows seen now c.tag-2.result c.tag-2.ensures).1 (sym body) (subst IsBody (sym body) (kept_body w q older k turn.round carries turn.answers.0)) (kept_apart w q older k turn.round answer carries) coming in
     let given = subst (λ (x : Judged). IsGiven r (restored k) turn.round answer x c.judges_with.new.self) c.in-Refused.is told in
-    refused_for w q older k route answer byte limits keeps turn rows c.reply_why_with-why.result given.0 given.1
-    (c.reply_why_with-why.ensures.told r (restored k) turn.round party.answerer small party.keys (sym body) coming) c.args.self.now c.args.table.now
+    let why = c.why_so.ensures r (restored k) turn.round (c.opening_with-told.ensures.told r (restored k) turn.round party.answerer small party.keys (sym body) coming) in
+    refused_for w q older k route answer byte limits keeps turn rows c.why_so.result given.0 given.1 why c.args.self.now c.args.table.now
