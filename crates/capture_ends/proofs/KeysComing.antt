@@ -10,7 +10,7 @@ use Rattle.responder_machine.specs.Session.{Events, id_in_record, last_of, sessi
 use Rattle.responder_machine.specs.Setup.{RspSetup}
 use Rattle.responder_session.specs.declared.answer_key.AnswerKey.{AnswerKey}
 use Rattle.spdm_machine.specs.Bodies.{record_body}
-use Rattle.capture_ends.specs.AnswerKeys.{IsComing, IsComingKey, is_taken_in, session_named, will_take}
+use Rattle.capture_ends.specs.AnswerKeys.{IsComing, IsComingKey, asks_for, is_taken_in, session_named, will_take}
 use Rattle.capture_ends.specs.declared.coming.Coming.{Coming}
 use Rattle.world_machine.specs.Opening.{opens_answering, opens_in_session, opens_next}
 
@@ -60,6 +60,20 @@ reply_had seen r h request key is other anew coming f =
 pub none_had : (seen : Coming) (r : RspSetup) (h : History) (request : List ℕ) → seen.key ≡ None → repeats (ended_of h) request ≡ false → repeats (last_of (session_of (id_in_record request) h)) request ≡ false
     → IsComing seen r h (record_body request) → opens_in r (session_of (id_in_record request) h) request ≡ false
 none_had seen r h request is other anew coming = sym (takes_so r h request other anew) ∙ subst (IsComingKey r h (record_body request)) is coming.key
+
+-- ---- What it asks for.
+
+pub asks_had : (seen : Coming) (r : RspSetup) (h : History) (body : List ℕ) (code : ℕ) (key : AnswerKey) → seen.key ≡ Some key → IsComing seen r h body → (slice_index seen.inner 2 == code) ≡ asks_for r h body code
+asks_had seen r h body code key is coming =
+    let inner : List ℕ = opened r.psk (session_named h body) (drop 1 body) in
+    let own = subst (IsComingKey r h body) is coming.key in
+    let same = subst (λ (o : Option AnswerKey). IfSome o (λ x. seen.inner ≡ opened r.psk (session_named h body) (drop 1 body))) is coming.inner in
+    ap (λ (l : List ℕ). slice_index l 2 == code) same ∙ sym (ap (λ (b : Bool). b && (slice_index inner 2 == code)) own.0)
+
+pub none_asks : (seen : Coming) (r : RspSetup) (h : History) (body : List ℕ) (code : ℕ) → seen.key ≡ None → IsComing seen r h body → false ≡ asks_for r h body code
+none_asks seen r h body code is coming =
+    let inner : List ℕ = opened r.psk (session_named h body) (drop 1 body) in
+    sym (ap (λ (b : Bool). b && (slice_index inner 2 == code)) (subst (IsComingKey r h body) is coming.key))
 
 -- ---- Whether an answer opens at all.
 

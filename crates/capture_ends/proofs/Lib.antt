@@ -31,6 +31,7 @@ pub mod InTurn
 pub mod PartyAsked
 pub mod PlainlyAsked
 pub mod PartyReplied
+pub mod PartyPrepared
 pub mod KeysOpen
 pub mod KeysComing
 pub mod AskedIds

@@ -67,6 +67,10 @@ IsComingKey r h body None = will_take r h body ≡ false
 IsComingKey r h body (Some key) =
     (will_take r h body ≡ true) × ((f : Free) → IsKeyOfReply key r.psk (session_named h body) (turn_in r (session_named h body) f (drop 1 body)))
 
+-- It is a record that is taken, and has this code where a request has it.
+abbrev pub asks_for : RspSetup → History → (body : List ℕ) → (code : ℕ) → Bool
+asks_for r h body code = will_take r h body && (slice_index (opened r.psk (session_named h body) (drop 1 body)) 2 == code)
+
 -- This is had of it: that key, and the inner message of a record that is taken.
 pub record IsComing (seen : Coming) (r : RspSetup) (h : History) (body : List ℕ) : Type 0 where
   pub key : IsComingKey r h body seen.key

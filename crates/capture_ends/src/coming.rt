@@ -1,3 +1,4 @@
+use crate::bodies::byte_at;
 use responder_session::AnswerKey;
 use spdm_basis::RecordFrame;
 
@@ -10,7 +11,10 @@ pub struct Coming {
 }
 
 impl Coming {
-    ghost use Rattle.std.specs.Prelude.{◌≡◌, None};
+    ghost use Rattle.std.specs.Prelude.{◌≡◌, ℕ, List, None};
+    ghost use Rattle.responder_machine.specs.History.{History};
+    ghost use Rattle.responder_machine.specs.Setup.{RspSetup};
+    ghost use Rattle.capture_ends.specs.AnswerKeys.{IsComing, asks_for};
 
     /// Of no request.
     pub fn new() -> Coming
@@ -19,6 +23,17 @@ impl Coming {
         Coming {
             key: None,
             inner: RecordFrame::new(),
+        }
+    }
+
+    /// Whether the body of which this is had is a record that is taken, with this code where a request has it.
+    pub fn asks(&self, code: u8) -> bool
+        ensures { (r : RspSetup) (h : History) (body : List ℕ) → IsComing self.now r h body
+            → result ≡ asks_for r h body code }
+    {
+        match &self.key {
+            Some(_) => byte_at(self.inner.as_slice(), 2) == code,
+            None => false,
         }
     }
 

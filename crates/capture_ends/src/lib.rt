@@ -58,6 +58,7 @@ pub use answer_keys::AnswerKeys;
 pub use answerer::Answerer;
 pub use asker::Asker;
 pub use asker_hears::Heard;
+pub use coming::Coming;
 pub use conversation::Conversation;
 pub use conversation_laws::{awaiting_conversations_stay, other_conversations_stay, walks_show};
 pub use given::{Given, Judged};

@@ -26,8 +26,8 @@ pub struct Party {
     pub number: u8,
     /// Where its entries stand in the table of sessions.
     pub places: Places,
-    // Room for what is had of a request while its answer is judged.
-    pub(crate) coming: Coming,
+    /// What is had of the request whose answer is judged. Between two calls it does not matter.
+    pub coming: Coming,
     /// Room for the text of a record. What it holds before and after a call does not matter.
     pub text: RecordFrame,
 }

@@ -21,7 +21,7 @@ impl Party {
     ghost use Rattle.responder_machine.specs.Responder.{after};
     ghost use Rattle.responder_machine.specs.Setup.{RspSetup};
     ghost use Rattle.spdm_machine.specs.Keys.{Draw};
-    ghost use Rattle.capture_ends.specs.AnswerKeys.{IsComingKey, StandFor};
+    ghost use Rattle.capture_ends.specs.AnswerKeys.{IsComing, IsComingKey, StandFor};
     ghost use Rattle.capture_ends.specs.Answerer.{IsAnswerer};
     ghost use Rattle.capture_ends.specs.Asker.{Carries, IsAsker};
     ghost use Rattle.capture_ends.specs.HeardKept.{asks_upon, heard_kept};
@@ -39,6 +39,16 @@ impl Party {
     ghost use Rattle.world_machine.specs.Rounds as rounds;
     ghost use Rattle.world_machine.specs.SessionTable.{Row};
     ghost use Rattle.world_machine.specs.Setup.{Configuration};
+
+    /// Prepares for a body, before an answer to it is judged: what is had of it is kept, and all else stays.
+    /// Fewer than 2^64 - 1 messages came.
+    pub fn prepare(&mut self, body: &[u8])
+        ensures coming { (r : RspSetup) (h : History) → IsAnswerer self.old.answerer r h
+            → messages_of h < 2 ^ 64 - 1 → IsComing self.new.coming r h body.now }
+        ensures same { self.new ≡ record self.old { coming = self.new.coming } }
+    {
+        self.answerer.prepare(body, &mut self.coming);
+    }
 
     /// An answer of at most 4,161 bytes came whole, in order behind this round: it goes on, and the
     /// table of sessions with it; or it is refused, and then why, and the table stays. Nothing is said
@@ -64,8 +74,31 @@ impl Party {
         ensures stays { IfOk result (λ told. (told ≡ Ok onward.Kept → ⊥) → table.new ≡ table.old) }
         ensures memory { OnErr result (IsSome (id_begun (response_of (drop 1 answer.now)))) }
     {
+        self.prepare(round.body());
+        self.replies_prepared(table, setup, round, answer)
+    }
+
+    /// The same, where this round's request was prepared for.
+    pub fn replies_prepared(
+        &mut self,
+        table: &mut SessionTable,
+        setup: &Setup<'_>,
+        round: &Round,
+        answer: &[u8],
+    ) -> Result<Result<Onward, Why>, OutOfMemory>
+        requires { length answer.now ≤ 4161 }
+        ensures told { (w : Configuration) (q : ReqSetup) (older : List (List ℕ)) (rows : List Row)
+            (k : Kept) (route : RouteFields) → Keeps w q older k → length older < 2 ^ 64 - 2
+            → w.responder.beat < 256 → round.now ≡ k.round
+            → IsSetUp setup.now (responder_for w k)
+            → answered_why k.round (Whole route answer.now) ≡ None → IsParty self.old w q k rows
+            → IsComing self.old.coming (responder_for w k) k.responder (body_in round.now)
+            → StandsForRows table.old w (length older) rows
+            → IfOk result (λ told. IsReplied w q older rows k route answer.now told self.new table.new) }
+        ensures stays { IfOk result (λ told. (told ≡ Ok onward.Kept → ⊥) → table.new ≡ table.old) }
+        ensures memory { OnErr result (IsSome (id_begun (response_of (drop 1 answer.now)))) }
+    {
         let body = round.body();
-        self.answerer.prepare(body, &mut self.coming);
         let told = self
             .answerer
             .opening_with(&self.keys, body, &self.coming, answer);

@@ -1,17 +1,18 @@
 -- A record that gets LargeResponse asks for measurements in its session, and gets it in a record.
 use Rattle.std.proofs.Common.{◌≡◌, ◌==◌, ◌&&◌, ◌∙◌, ℕ, List, [], ◌∷◌, refl, sym, ap, subst, drop, Bool, true, false, Some, eq-eqb}
-use Rattle.std.specs.Prelude.{not, slice_index}
+use Rattle.std.specs.Prelude.{slice_index}
 use Rattle.std.proofs.lemmas.Bool.{false≢true}
 use Rattle.std.proofs.lemmas.Option.{same_Some}
 use Rattle.capture_ends.proofs.InTurn.{AnswersInTurn}
+use Rattle.capture_ends.specs.AnswerKeys.{asks_for}
 use Rattle.capture_laws.specs.AnswersShown.{values_shown_by}
 use Rattle.capture_laws.specs.Keeping.{Kept}
 use Rattle.capture_laws.specs.LargeShown.{IsShownLarge}
 use Rattle.capture_laws.specs.RepliesShown.{responder_for}
+use Rattle.fetched_ends.proofs.LargeTaken.{large_taken}
 use Rattle.fetched_ends.proofs.LargeTurns.{is_large_turn}
-use Rattle.fetched_ends.proofs.NeverPrepared.{adds, goes, opens}
+use Rattle.fetched_ends.proofs.NeverPrepared.{adds, goes}
 use Rattle.fetched_ends.specs.BegunIn.{IsLargeInRecord}
-use Rattle.fetched_ends.specs.MeasurementsAsked.{asks_measurements}
 use Rattle.mctp_framing.specs.Cutting.{RouteFields}
 use Rattle.responder_machine.proofs.Codes.{asked-code}
 use Rattle.responder_machine.specs.Answer.{Free}
@@ -45,21 +46,20 @@ module _ (r : RspSetup) (h : History) (tag : ℕ) (body answer : List ℕ) (type
       let turn = is_large_turn r s inner f (goes r h tag body answer type large) in
       eq-eqb (slice_index inner 2) GET_MEASUREMENTS (sym (second inner) ∙ sym (asked-code (session_place s) (drop 1 inner) (GetMeasurements turn.op) turn.asks))
 
-  pub large_asks : asks_measurements r h (drop 1 body) ≡ true
-  large_asks = ap (λ (b : Bool). b && (slice_index inner 2 == GET_MEASUREMENTS)) (opens r h tag body answer type large) ∙ code_is
+  pub large_asks : asks_for r h body GET_MEASUREMENTS ≡ true
+  large_asks = ap (λ (b : Bool). b && (slice_index inner 2 == GET_MEASUREMENTS)) (large_taken r h tag body answer type large) ∙ code_is
 
   pub large_sealed : (slice_index answer 0 == 5) ≡ false
   large_sealed = ap (λ (l : List ℕ). slice_index l 0 == 5) (sym (sym (ap (λ (o : Outcome). body_of o) (adds r h tag body answer type large)) ∙ large.2))
 
 -- One that asks for none gets none.
 pub none_asked : (w : Configuration) (k : Kept) (tag : ℕ) (answer body : List ℕ) → ((round : Round) → k.round ≡ Some round → body ≡ round.body)
-    → (not (slice_index body 0 == 5) && asks_measurements (responder_for w k) k.responder (drop 1 body)) ≡ false → IsLargeInRecord w k tag answer → ⊥
+    → asks_for (responder_for w k) k.responder body GET_MEASUREMENTS ≡ false → IsLargeInRecord w k tag answer → ⊥
 none_asked w k tag answer body at none is =
     let r : RspSetup = responder_for w k in
     let asked : List ℕ = is.0.body in
     false≢true
-    (sym none ∙ ap (λ (l : List ℕ). not (slice_index l 0 == 5) && asks_measurements r k.responder (drop 1 l)) (at is.0 is.1.0)
-    ∙ ap (λ (b : Bool). not b && asks_measurements r k.responder (drop 1 asked)) is.2 ∙ large_asks r k.responder is.0.tag asked answer is.2 is.3)
+    (sym none ∙ ap (λ (l : List ℕ). asks_for r k.responder l GET_MEASUREMENTS) (at is.0 is.1.0) ∙ large_asks r k.responder is.0.tag asked answer is.2 is.3)
 
 module _ (w : Configuration) (k : Kept) (route : RouteFields) (answer : List ℕ) (turn : AnswersInTurn k route answer) where
   -- It is LargeResponse to the record of this round.

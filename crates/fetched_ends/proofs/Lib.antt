@@ -59,6 +59,7 @@ pub mod FetchedAsked
 pub mod EndsAsked
 pub mod FetchedReplied
 pub mod EndsReplied
+pub mod EndsPrepared
 pub mod EndsStay
 pub mod BegunStands
 pub mod BegunUnfetched

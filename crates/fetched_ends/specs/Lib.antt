@@ -12,7 +12,6 @@ pub mod BegunIn
 pub mod BegunHeld
 pub mod JudgedEnds
 pub mod LastHeld
-pub mod MeasurementsAsked
 pub mod RefusedAgain
 pub mod SameChunks
 pub mod Marked

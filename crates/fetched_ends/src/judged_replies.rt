@@ -1,6 +1,5 @@
 ghost use Rattle.std.specs.Prelude.{◌≡◌, ◌==◌, slice_index};
 
-use crate::measurements_asked::asks_measurements;
 use crate::{
     BegunHeld, BegunIn, Fetch, Held, InSession, JudgedEnds, Upon, begins_held, begins_in_session,
     replies_held, replies_in_session,
@@ -9,8 +8,9 @@ use capture_ends::Onward;
 use capture_laws::{Round, SessionTable};
 use connection::Setup;
 use script_text::Why;
-use session_keys::{behind_type, byte_at};
+use session_keys::byte_at;
 use spdm_basis::OutOfMemory;
+use spdm_grammar::names::request_code::GET_MEASUREMENTS;
 
 // The type of a body that is an SPDM message in the clear (DSP0275).
 const CLEAR: u8 = 5;
@@ -24,27 +24,26 @@ pub(crate) fn is_clear(body: &[u8]) -> bool
 
 // The answers that a responder gives.
 impl JudgedEnds {
-    ghost use Rattle.std.specs.Prelude.{◌≡◌, ◌≤◌, ◌<◌, ◌-◌, ◌^◌, ◌==◌, ◌&&◌, ℕ, List, None, IfOk, OnErr, IsSome, drop, length, not, slice_index};
+    ghost use Rattle.std.specs.Prelude.{◌≡◌, ◌≤◌, ◌<◌, ◌-◌, ◌^◌, ℕ, List, None, IfOk, OnErr, IsSome, drop, length};
+    ghost use Rattle.capture_ends.specs.AnswerKeys.{IsComing};
     ghost use Rattle.capture_ends.specs.Conversation as conversations;
     ghost use Rattle.capture_ends.specs.Conversation.{IsAnswer};
     ghost use Rattle.capture_ends.specs.Party.{IsParty};
     ghost use Rattle.capture_laws.specs.DropsShown.{id_begun, response_of};
     ghost use Rattle.capture_laws.specs.Keeping.{Keeps, Kept};
-    ghost use Rattle.capture_laws.specs.Order.{answered_why, round_of};
+    ghost use Rattle.capture_laws.specs.Order.{answered_why, body_in, round_of};
+    ghost use Rattle.capture_laws.specs.RepliesShown.{responder_for};
     ghost use Rattle.capture_laws.specs.Rows.{StandsForRows};
-    ghost use Rattle.connection.specs.Connected as connected;
     ghost use Rattle.connection.specs.Setup.{IsSetUp};
     ghost use Rattle.fetched_ends.specs.BegunIn.{IsLargeInRecord};
     ghost use Rattle.fetched_ends.specs.Held.{IsHeldIn};
     ghost use Rattle.fetched_ends.specs.InSession.{IsFetchedIn};
     ghost use Rattle.fetched_ends.specs.JudgedEnds.{IsJudgedAnswer, MayBegin, StandsFor};
-    ghost use Rattle.fetched_ends.specs.MeasurementsAsked.{asks_measurements};
     ghost use Rattle.large_answers.specs.Fetching.{Fetching, IsFetchingOf};
     ghost use Rattle.mctp_framing.specs.Cutting.{RouteFields};
     ghost use Rattle.mctp_framing.specs.Gathering.Gathered.{Whole};
     ghost use Rattle.requester_machine.specs.Setup.{ReqSetup};
-    ghost use Rattle.responder_machine.specs.History.{History};
-    ghost use Rattle.responder_machine.specs.Setup.{RspSetup, towards};
+    ghost use Rattle.responder_machine.specs.Setup.{towards};
     ghost use Rattle.world_machine.specs.SessionTable.{Row};
     ghost use Rattle.world_machine.specs.Setup.{Configuration, known_of};
 
@@ -162,7 +161,8 @@ impl JudgedEnds {
     }
 
     // An answer came where no large message is under way, and it begins no large one in a session: it may begin one
-    // where its request is in the clear. Any other is told before places are made for a large answer.
+    // where its request is in the clear. Any other is told before places are made for a large answer. The request was
+    // prepared for.
     fn begins_other(
         &mut self,
         table: &mut SessionTable,
@@ -181,13 +181,17 @@ impl JudgedEnds {
             → self.old.talk.large ≡ None → Keeps w q older k
             → (IsLargeInRecord w k route.tag answer.now → ⊥)
             → IsParty self.old.talk.party w q k rows
+            → IsComing self.old.talk.party.coming (responder_for w k) k.responder (body_in round.now)
             → StandsForRows table.old w (length older) rows
             → IfOk result (λ told. IsJudgedAnswer w q older rows packet route answer.now told self.new
             table.new) }
         ensures memory { OnErr result (IsSome (id_begun (response_of (drop 1 answer.now)))) }
     {
         if !is_clear(round.body()) {
-            return self.talk.party.replies(table, setup, round, answer);
+            return self
+                .talk
+                .party
+                .replies_prepared(table, setup, round, answer);
         }
         self.begins_clear(table, setup, round, answer)
     }
@@ -215,7 +219,10 @@ impl JudgedEnds {
         ensures memory { OnErr result (IsSome (id_begun (response_of (drop 1 answer.now)))) }
     {
         match begins_in_session(&mut self.talk.party, table, setup, round, answer)? {
-            BegunIn::Not => self.begins_other(table, setup, round, answer),
+            BegunIn::Not => {
+                self.talk.party.prepare(round.body());
+                self.begins_other(table, setup, round, answer)
+            }
             BegunIn::Fetching(fetched) => {
                 self.fetched = Some(Fetch::InSession(fetched));
                 Ok(Ok(Onward::Kept))
@@ -224,16 +231,8 @@ impl JudgedEnds {
         }
     }
 
-    // Whether a request is a record that asks for measurements in its session.
-    fn asks_in_session(&self, body: &[u8]) -> bool
-        ensures { (r : RspSetup) (h : History) → connected.StandsFor self.now.talk.party.answerer.connection r h
-            → result ≡ (not (slice_index body.now 0 == 5) && asks_measurements r h (drop 1 body.now)) }
-    {
-        let connection = &self.talk.party.answerer.connection;
-        !is_clear(body) && asks_measurements(connection, behind_type(body))
-    }
-
-    // An answer came where no large one is fetched: it may begin one, where no large request is sent.
+    // An answer came where no large one is fetched: it may begin one, where no large request is sent. The request is
+    // opened once, for what it asks for and for the key of its answer.
     fn replies_at_rest(
         &mut self,
         table: &mut SessionTable,
@@ -257,7 +256,8 @@ impl JudgedEnds {
         if self.talk.large.is_some() {
             return self.talk.replies(table, setup, round, answer);
         }
-        if self.asks_in_session(round.body()) {
+        self.talk.party.prepare(round.body());
+        if self.talk.party.coming.asks(GET_MEASUREMENTS) {
             return self.begins_session(table, setup, round, answer);
         }
         self.begins_other(table, setup, round, answer)

@@ -34,7 +34,6 @@ mod marked;
 mod marked_ends;
 mod marking;
 mod marks_laws;
-mod measurements_asked;
 mod refused_laws;
 mod same_chunks;
 mod session_again;

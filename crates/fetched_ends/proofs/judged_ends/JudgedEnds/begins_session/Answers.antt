@@ -4,6 +4,7 @@ use Rattle.mctp_framing.specs.Gathering.Gathered.{Whole}
 use Rattle.requester_machine.specs.Setup.{ReqSetup}
 use Rattle.responder_machine.specs.Setup.{towards}
 use Rattle.spdm_basis.specs.declared.OutOfMemory.{OutOfMemory}
+use Rattle.capture_ends.proofs.PartyPrepared.{same_party}
 use Rattle.capture_ends.proofs.WalkRows.{walk_round}
 use Rattle.capture_ends.specs.Conversation as conversations
 use Rattle.capture_laws.proofs.KeptAnswers.{kept_is_restored}
@@ -14,6 +15,7 @@ use Rattle.capture_laws.specs.Rows.{StandsForRows}
 use Rattle.capture_laws.specs.declared.verdict.Seen.{Seen}
 use Rattle.connection.specs.Setup.{IsSetUp}
 use Rattle.fetched_ends.proofs.EndsLeft.{told_in}
+use Rattle.fetched_ends.proofs.EndsPrepared.{party_prepared}
 use Rattle.fetched_ends.proofs.EndsReplied.{begun_on}
 use Rattle.fetched_ends.proofs.judged_ends.JudgedEnds.begins_session.Goals as goal
 use Rattle.fetched_ends.specs.BegunIn.{IsBegunIn}
@@ -40,7 +42,9 @@ returns-in-Not-clause-told c = λ w q older rows packet route at few byte round 
     (c.begins_in_session.ensures.told w q older rows k route keeps few byte now towards_it right there.2 table) in
     let is = subst (λ (x : BegunIn). IsBegunIn w q older rows k route answer x new c.args.table.now after) c.in-Not.is begun in
     let entries = subst (λ (t : List Seen). StandsForRows t w (length older) rows) (sym is.2) table in
-    c.begins_other.ensures.told w q older rows packet route k at few byte round set_up why rest none keeps is.0 is.1 entries
+    let ready = c.prepare.new.self in
+    let coming = party_prepared w q older k keeps few rows new ready c.args.round.now c.body.result.now c.body.ensures is.1 c.prepare.ensures.coming in
+    c.begins_other.ensures.told w q older rows packet route k at few byte round set_up why rest none keeps is.0 (same_party new ready c.prepare.ensures.same w q k rows is.1) coming entries
 
 pub returns-in-Fetching-clause-told : goal.returns-in-Fetching-clause-told
 returns-in-Fetching-clause-told c = λ w q older rows packet route at few byte round set_up why rest none stands table.
