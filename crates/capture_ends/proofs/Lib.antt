@@ -43,6 +43,7 @@ pub mod AskedBy
 pub mod OpensAsking
 pub mod FinishApart
 pub mod ReasonsKept
+pub mod PlainJudged
 pub mod ClearAsked
 pub mod ClearJudged
 pub mod ClearAnew

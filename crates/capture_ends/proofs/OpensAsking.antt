@@ -112,6 +112,27 @@ none_by false false false false s t u v is = refl
 pub none_named : (h : History) (sealed : List ℕ) → None ≡ id_named h sealed → session_named h sealed ≡ []
 none_named h sealed is = none_by (names sealed (session_of 1 h)) (names sealed (session_of 2 h)) (names sealed (session_of 3 h)) (names sealed (session_of 4 h)) _ _ _ _ is
 
+-- ---- How many numbers were used.
+
+few_if : (b : Bool) (s t : Steps) → request_next s ≤ 65535 → request_next t ≤ 65535 → request_next (if b then s else t) ≤ 65535
+few_if true s t one two = one
+few_if false s t one two = two
+
+few_in : (h : History) → ((i : ℕ) → request_next (session_of i h) ≤ 65535) → (sealed : List ℕ) → request_next (session_named h sealed) ≤ 65535
+few_in h few sealed =
+    few_if (names sealed (session_of 1 h)) (session_of 1 h) _ (few 1)
+    (few_if (names sealed (session_of 2 h)) (session_of 2 h) _ (few 2)
+    (few_if (names sealed (session_of 3 h)) (session_of 3 h) _ (few 3)
+    (few_if (names sealed (session_of 4 h)) (session_of 4 h) [] (few 4) (omega arith))))
+
+-- ---- Where no record is outstanding.
+
+-- Each session has a number left then, so a record opens or it does not, whatever was counted.
+pub idle_opens : (x : Sessions) (q : ReqSetup) (h : History) (sealed : List ℕ) → StandsFor x q h → awaits_record (outstanding h) ≡ false → opens_asking q (session_named h sealed) sealed ≡ opens_own q.psk (session_named h sealed) sealed
+idle_opens x q h sealed stands idle =
+    let few : request_next (session_named h sealed) ≤ 65535 = few_in h (λ i. few_idle (slot_of x i) q.psk i (outstanding h) (session_of i h) idle (stands.slots i) (stands.orders i)) sealed in
+    opens_same q (session_named h sealed) sealed (few_test (request_next (session_named h sealed)) (omega (arith, few)))
+
 -- ---- Where a message is owed.
 
 -- Each session has a number left for one more record then.
@@ -147,13 +168,5 @@ module _ (x : Sessions) (q : ReqSetup) (bare : History) (sent : Sent) (took : To
       by_kind true sealed = few_sealed i sealed
       by_kind false clear = few_clear i clear
 
-  few_if : (b : Bool) (s t : Steps) → request_next s ≤ 65535 → request_next t ≤ 65535 → request_next (if b then s else t) ≤ 65535
-  few_if true s t one two = one
-  few_if false s t one two = two
-
   pub few_named : (sealed : List ℕ) → request_next (session_named bare sealed) ≤ 65535
-  few_named sealed =
-      few_if (names sealed (session_of 1 bare)) (session_of 1 bare) _ (few_at 1)
-      (few_if (names sealed (session_of 2 bare)) (session_of 2 bare) _ (few_at 2)
-      (few_if (names sealed (session_of 3 bare)) (session_of 3 bare) _ (few_at 3)
-      (few_if (names sealed (session_of 4 bare)) (session_of 4 bare) [] (few_at 4) (omega arith))))
+  few_named sealed = few_in bare few_at sealed

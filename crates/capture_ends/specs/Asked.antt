@@ -1,6 +1,6 @@
 -- What the program tells of a body that may begin a round. This project's own.
-use Rattle.std.specs.Prelude.{◌≡◌, ℕ, List, Bool, true, false, Result, Ok, Err}
-use Rattle.requester_machine.specs.History.{History}
+use Rattle.std.specs.Prelude.{◌≡◌, ◌==◌, ℕ, List, Bool, true, false, None, Result, Ok, Err, slice_index}
+use Rattle.requester_machine.specs.History.{History, outstanding}
 use Rattle.requester_machine.specs.Setup.{ReqSetup}
 use Rattle.script_text.specs.declared.why.Why as declared
 use Rattle.capture_ends.specs.Asker.{IsAsker, gone_on}
@@ -20,6 +20,12 @@ IsAskedBy q k body false new = (after : History) → SendsKept k body after → 
 abbrev pub IsRefusedFor : Dialogue → (body : List ℕ) → Why → Type 0
 IsRefusedFor d body BadVerify = asks_apart d body ≡ true
 IsRefusedFor d body why = (asks_apart d body ≡ false) × (request_why d body ≡ why)
+
+-- A body is a record, where nothing is owed and nothing outstanding.
+pub record ComesPlain (k : Kept) (body : List ℕ) : Type 0 where
+  pub secured : (slice_index body 0 == 6) ≡ true
+  pub owed : k.owed ≡ None
+  pub none : outstanding k.requester ≡ None
 
 -- One or the other.
 abbrev pub IsJudged : ReqSetup → Kept → (body : List ℕ) → Result Unit declared.Why → (new : Asker) → Type 0

@@ -1,6 +1,7 @@
-ghost use Rattle.std.specs.Prelude.{◌≡◌, ◌≤◌, ◌<◌, ◌-◌, ◌^◌, ◌&&◌, ℕ, Some, drop, length, nat_lt};
+ghost use Rattle.std.specs.Prelude.{◌≡◌, ◌≤◌, ◌<◌, ◌-◌, ◌^◌, ◌&&◌, ℕ, Some, drop, length, nat_lt, true};
 ghost use Rattle.asking.specs.Joined.{StandsFor};
 ghost use Rattle.asking.specs.Owed.{TookFor};
+ghost use Rattle.asking.specs.OwnRecords.{OpensAs};
 ghost use Rattle.asking.specs.Slot.{shown_of};
 ghost use Rattle.requester_machine.specs.History.{History};
 ghost use Rattle.requester_machine.specs.Message.{Sent, body_of};
@@ -42,9 +43,14 @@ fn has_number(next: u32) -> bool
 }
 
 // Whether a record opens as the next one of the session that it names, whose key has a number left.
+// Where it does, its inner message is in place of what `inner` held.
 pub(crate) fn opens_next(asking: &Asking, inner: &mut RecordFrame, sealed: &[u8]) -> bool
-    ensures { (q : ReqSetup) (h : History) → length h < 2 ^ 64 - 1 → StandsFor asking.now q h
+    ensures told { (q : ReqSetup) (h : History) → length h < 2 ^ 64 - 1
+        → StandsFor asking.now q h
         → result ≡ opens_asking q (session_named h sealed.now) sealed.now }
+    ensures opened { (q : ReqSetup) (h : History) → length h < 2 ^ 64 - 1
+        → StandsFor asking.now q h → result ≡ true
+        → OpensAs q.psk (session_named h sealed.now) sealed.now true inner.new }
 {
     let Some(view) = named_view(asking, sealed) else {
         return false;

@@ -2,15 +2,18 @@ use crate::Asker;
 use crate::bodies::{is_clear, is_secured, rest_of};
 use crate::owed_messages::write_outstanding;
 use crate::request_reasons::{is_finish_apart, opens_before, opens_next};
+use crate::sealed_commands::sends_opened;
 use crate::sending::{connects, connects_instead, sends_command};
 use script_text::Why;
 
 // The requests by which a round begins.
 impl Asker {
-    ghost use Rattle.std.specs.Prelude.{◌≡◌, ◌≤◌, ◌<◌, ◌-◌, ◌^◌, ℕ, List, length};
+    ghost use Rattle.std.specs.Prelude.{◌≡◌, ◌≤◌, ◌<◌, ◌-◌, ◌^◌, ℕ, List, None, length, true};
+    ghost use Rattle.requester_machine.specs.History.{outstanding};
     ghost use Rattle.requester_machine.specs.Named.{session_named};
     ghost use Rattle.requester_machine.specs.Setup.{ReqSetup};
-    ghost use Rattle.capture_ends.specs.Asked.{IsAskedBy, IsJudged, IsRefusedFor};
+    ghost use Rattle.spdm_machine.specs.Bodies.{record_body};
+    ghost use Rattle.capture_ends.specs.Asked.{ComesPlain, IsAskedBy, IsJudged, IsRefusedFor};
     ghost use Rattle.capture_ends.specs.Asker.{Carries, IsAsker};
     ghost use Rattle.capture_ends.specs.LargeAsked.{refused_why};
     ghost use Rattle.capture_laws.specs.Judged.{why_of};
@@ -120,6 +123,49 @@ impl Asker {
         self.why_other(body)
     }
 
+    // Whether a body is a record, where nothing is owed and nothing outstanding.
+    fn comes_plain(&mut self, body: &[u8]) -> bool
+        ensures plain { (w : Configuration) (q : ReqSetup) (older : List (List ℕ)) (k : Kept)
+            → Carries w q older k → length older < 2 ^ 64 - 1 → IsAsker self.old q k
+            → result ≡ true → ComesPlain k body.now }
+        ensures kept { (w : Configuration) (q : ReqSetup) (older : List (List ℕ)) (k : Kept)
+            → Carries w q older k → length older < 2 ^ 64 - 1 → IsAsker self.old q k
+            → IsAsker self.new q k }
+    {
+        if !is_secured(body) {
+            return false;
+        }
+        if self.owes {
+            return false;
+        }
+        !write_outstanding(&mut self.asking, &self.setup, &mut self.room)
+    }
+
+    // Judges a record that comes so, which is opened once: what it opens to tells the command, and
+    // where it does not open, none sends it.
+    fn judge_record(&mut self, sealed: &[u8]) -> Result<(), Why>
+        ensures { (w : Configuration) (q : ReqSetup) (older : List (List ℕ)) (k : Kept)
+            → Carries w q older k → length older < 2 ^ 64 - 1 → length sealed.now ≤ 4160
+            → IsAsker self.old q k → k.owed ≡ None → outstanding k.requester ≡ None
+            → IsJudged q k (record_body sealed.now) result self.new }
+    {
+        if !opens_next(&self.asking, &mut self.inner, sealed) {
+            return Err(Why::BadRecord);
+        }
+        if sends_opened(
+            &mut self.asking,
+            &self.setup,
+            &mut self.room,
+            &self.inner,
+            &mut self.pair,
+            sealed,
+        ) {
+            Ok(())
+        } else {
+            Err(Why::BadRequest)
+        }
+    }
+
     /// Judges a body of at most 4,161 bytes as a request in turn that is no copy: it begins a round
     /// whole, or why it is refused. Where it is refused, nothing is said of what is kept.
     pub fn judge(&mut self, body: &[u8]) -> Result<(), Why>
@@ -127,6 +173,9 @@ impl Asker {
             → Carries w q older k → length older < 2 ^ 64 - 1 → length body.now ≤ 4161
             → IsAsker self.old q k → IsJudged q k body.now result self.new }
     {
+        if self.comes_plain(body) {
+            return self.judge_record(rest_of(body));
+        }
         let why = self.why(body);
         if self.asks(body) { Ok(()) } else { Err(why) }
     }

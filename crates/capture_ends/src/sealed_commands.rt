@@ -1,6 +1,8 @@
 ghost use Rattle.std.specs.Prelude.{◌≡◌, ◌≤◌, ◌<◌, ◌-◌, ◌^◌, None, true, length};
 ghost use Rattle.asking.specs.Joined.{StandsFor, command_of};
+ghost use Rattle.asking.specs.OwnRecords.{OpensAs};
 ghost use Rattle.requester_machine.specs.History.{History, asks_session, outstanding};
+ghost use Rattle.requester_machine.specs.Named.{session_named};
 ghost use Rattle.requester_machine.specs.Setup.{ReqSetup};
 ghost use Rattle.spdm_machine.specs.Bodies.{record_body};
 ghost use Rattle.capture_ends.specs.Asker.{IsKeptSetup};
@@ -98,6 +100,28 @@ fn seals(
     asking.take_padded(sealed, pair)
 }
 
+// Whether some command sends this record, where nothing is outstanding: it opened to this inner message.
+pub(crate) fn sends_opened(
+    asking: &mut Asking,
+    setup: &AskerSetup,
+    room: &mut Body,
+    inner: &RecordFrame,
+    pair: &mut InnerPair,
+    sealed: &[u8],
+) -> bool
+    ensures { (q : ReqSetup) (h : History) → IsKeptSetup setup.now q → length h < 2 ^ 64 - 1
+        → length sealed.now ≤ 4160 → outstanding h ≡ None → StandsFor asking.old q h
+        → OpensAs q.psk (session_named h sealed.now) sealed.now true inner.now
+        → IsSentByCommand q h (record_body sealed.now) result asking.new }
+{
+    let named = asking.named(sealed);
+    let session = session_number(named.unwrap_or(0));
+    match command_in(session, inner.as_slice()) {
+        Some(command) => seals(asking, setup, room, pair, command, sealed),
+        None => false,
+    }
+}
+
 // Whether some command sends this record, where nothing is outstanding: the inner message is opened
 // in place of what `inner` holds.
 pub(crate) fn sends_sealed(
@@ -112,13 +136,8 @@ pub(crate) fn sends_sealed(
         → length sealed.now ≤ 4160 → outstanding h ≡ None → StandsFor asking.old q h
         → IsSentByCommand q h (record_body sealed.now) result asking.new }
 {
-    let named = asking.named(sealed);
     if !asking.open_next(sealed, inner) {
         return false;
     }
-    let session = session_number(named.unwrap_or(0));
-    match command_in(session, inner.as_slice()) {
-        Some(command) => seals(asking, setup, room, pair, command, sealed),
-        None => false,
-    }
+    sends_opened(asking, setup, room, inner, pair, sealed)
 }

@@ -1,10 +1,8 @@
-use Rattle.std.proofs.Common.{Bool, ℕ, List, ap, subst}
-use Rattle.std.specs.Prelude.{None, Some, unwrap_or}
+use Rattle.std.proofs.Common.{Bool, ap, subst}
 use Rattle.asking.specs.OwnRecords.{OpensAs, awaits_record}
 use Rattle.requester_machine.specs.Named.{session_named}
-use Rattle.capture_ends.proofs.SealedJudged.{asks_it, number_as, shut, told, untold}
+use Rattle.capture_ends.proofs.SealedJudged.{shut}
 use Rattle.capture_ends.proofs.sealed_commands.sends_sealed.Goals as goal
-use Rattle.capture_ends.specs.SealedTold.{TellsCommand, command_told}
 
 pub returns-then-not-open_next : goal.returns-then-not-open_next
 returns-then-not-open_next c = λ q h kept short fits none stands.
@@ -12,18 +10,8 @@ returns-then-not-open_next c = λ q h kept short fits none stands.
     shut c.args.asking.now q h c.args.sealed.now stands none fits c.open_next.new.out c.args.asking.now
     (subst (λ (b : Bool). OpensAs q.psk (session_named h c.args.sealed.now) c.args.sealed.now b c.open_next.new.out) c.if-not-open_next.true opens)
 
-pub returns-in-Some : goal.returns-in-Some
-returns-in-Some c = λ q h kept short fits none stands.
-    let sealed = c.args.sealed.now in
-    let opens = subst (λ (b : Bool). OpensAs q.psk (session_named h sealed) sealed b c.open_next.new.out) c.if-not-open_next.false (c.open_next.ensures.resting q h stands short (ap awaits_record none)) in
-    let tells = subst (λ (l : List ℕ). TellsCommand (Some c.in-Some.command) (command_told c.session_number-session.result l)) c.as_slice.ensures.value c.in-Some.ensures in
-    let its = asks_it c.args.asking.now q h sealed stands none fits c.open_next.new.out opens c.named-named.result (c.named-named.ensures q h stands short) c.session_number-session.result (number_as c.session_number-session.result c.unwrap_or.result (unwrap_or c.named-named.result 0) c.unwrap_or.ensures (λ few. c.session_number-session.ensures few)) c.in-Some.command tells in
-    told c.args.asking.now q h sealed stands none fits c.open_next.new.out opens c.named-named.result (c.named-named.ensures q h stands short) c.session_number-session.result (number_as c.session_number-session.result c.unwrap_or.result (unwrap_or c.named-named.result 0) c.unwrap_or.ensures (λ few. c.session_number-session.ensures few)) c.in-Some.command c.seals.result c.seals.new.asking kept.limits tells
-    (c.seals.ensures q h kept short fits stands its)
-
-pub returns-in-None : goal.returns-in-None
-returns-in-None c = λ q h kept short fits none stands.
-    let sealed = c.args.sealed.now in
-    let opens = subst (λ (b : Bool). OpensAs q.psk (session_named h sealed) sealed b c.open_next.new.out) c.if-not-open_next.false (c.open_next.ensures.resting q h stands short (ap awaits_record none)) in
-    let tells = subst (λ (l : List ℕ). TellsCommand None (command_told c.session_number-session.result l)) c.as_slice.ensures.value c.in-None.ensures in
-    untold c.args.asking.now q h sealed stands none fits c.open_next.new.out opens c.named-named.result (c.named-named.ensures q h stands short) c.session_number-session.result (number_as c.session_number-session.result c.unwrap_or.result (unwrap_or c.named-named.result 0) c.unwrap_or.ensures (λ few. c.session_number-session.ensures few)) c.args.asking.now tells
+pub returns : goal.returns
+returns c = λ q h kept short fits none stands.
+    let opens = c.open_next.ensures.resting q h stands short (ap awaits_record none) in
+    c.sends_opened.ensures q h kept short fits none stands
+    (subst (λ (b : Bool). OpensAs q.psk (session_named h c.args.sealed.now) c.args.sealed.now b c.open_next.new.out) c.if-not-open_next.false opens)

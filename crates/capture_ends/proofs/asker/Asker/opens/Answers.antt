@@ -14,4 +14,4 @@ returns-then-self-clause-opens c = λ w q older k keeps few asker.
     c.opens_before.ensures q k.requester some.0 (owed_took w q older k some.0 keeps some.1) (kept_few w q older k keeps few) stands
 
 pub returns-else-self-clause-opens : goal.returns-else-self-clause-opens
-returns-else-self-clause-opens c = λ w q older k keeps few asker. c.opens_next.ensures q k.requester (kept_few w q older k keeps few) (bare_kept q k c.args.self.now asker c.if-self.false)
+returns-else-self-clause-opens c = λ w q older k keeps few asker. c.opens_next.ensures.told q k.requester (kept_few w q older k keeps few) (bare_kept q k c.args.self.now asker c.if-self.false)
