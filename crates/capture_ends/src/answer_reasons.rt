@@ -106,8 +106,8 @@ impl Answerer {
         )
     }
 
-    /// Why an answer to this body is refused, but for wrong verify data: had before it is judged, where nothing is had
-    /// of the body yet. Fewer than 2^64 - 1 messages came.
+    /// Why an answer to this body is refused, but for wrong verify data: had before it is judged, where nothing is
+    /// had of the body yet. Fewer than 2^64 - 1 messages came.
     pub fn reply_why(&mut self, keys: &AnswerKeys, body: &[u8], answer: &[u8]) -> Why
         ensures told { (r : RspSetup) (d : Dialogue) (round : Round)
             → IsAnswerer self.old r d.responder → messages_of d.responder < 2 ^ 64 - 1

@@ -121,11 +121,11 @@ impl Conversation {
         }
     }
 
-    /// An answer of at most 4,161 bytes came whole, in order behind this round: it goes on, and the
-    /// table of sessions with it; or it is a part of a large answer, where no large request is sent; or no
-    /// walk goes on with it, and then why. But for the first, the table stays, and nothing is said of what is kept then. An `Err` comes
-    /// only where PSK_EXCHANGE_RSP began a session and there is no memory for its entry, and says nothing
-    /// of what is kept.
+    /// An answer of at most 4,161 bytes came whole, in order behind this round: it goes on, and the table of
+    /// sessions with it; or it is a part of a large answer, where no large request is sent; or no walk goes on with
+    /// it, and then why. But for the first, the table stays, and nothing is said of what is kept then. An `Err`
+    /// comes only where PSK_EXCHANGE_RSP began a session and there is no memory for its entry, and says nothing of
+    /// what is kept.
     pub fn replies(
         &mut self,
         table: &mut SessionTable,

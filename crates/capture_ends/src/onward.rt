@@ -7,7 +7,8 @@ pub enum Onward {
     Kept,
     /// Into a large message: nothing is said of what is kept then.
     Large,
-    /// An answer may be given by what it shows, and the requester asks for a chunk upon it: a fetch begins by it where it
-    /// is LargeResponse again, and else it is refused, and this is why. Nothing is said of what is kept then.
+    /// An answer may be given by what it shows, and the requester asks for a chunk upon it: a fetch begins by it
+    /// where it is LargeResponse again, and else it is refused, and this is why. Nothing is said of what is kept
+    /// then.
     Asked(Why),
 }

@@ -36,8 +36,8 @@ pub enum BegunAgain {
 }
 
 /// An answer of at most 4,161 bytes came whole, in order behind this round, while nothing is fetched and no large
-/// request is under way: it is told whether it is LargeResponse that comes again in a session, by which a fetch begins
-/// or does not.
+/// request is under way: it is told whether it is LargeResponse that comes again in a session, by which a fetch
+/// begins or does not.
 pub fn begins_again(
     party: &mut Party,
     table: &mut SessionTable,

@@ -61,8 +61,8 @@ fn end_handshake(connection: &mut Connection)
     }
 }
 
-/// A request in the clear came whose large answer was not seen: PSK_EXCHANGE ends the handshake of the session that is in
-/// it, and any other leaves the sessions. Fewer than 2^64 messages came.
+/// A request in the clear came whose large answer was not seen: PSK_EXCHANGE ends the handshake of the session that
+/// is in it, and any other leaves the sessions. Fewer than 2^64 messages came.
 pub(crate) fn leave_handshake(connection: &mut Connection, exchange: bool)
     ensures { (r : RspSetup) (h : History) → StandsFor connection.old r h → messages_of h < 2 ^ 64
         → (left : History) × IsLeftIf exchange h left × StandsFor connection.new r left }

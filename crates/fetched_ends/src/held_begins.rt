@@ -39,8 +39,8 @@ const CLEAR: u8 = 5;
 pub enum BegunHeld {
     /// It is no LargeResponse to a request in the clear by what it shows: nothing was done.
     Not,
-    /// It is LargeResponse, and the requester asks for no chunk upon it: it goes on, and its answer is never seen. The
-    /// request is GET_MEASUREMENTS or PSK_EXCHANGE, whole in one message.
+    /// It is LargeResponse, and the requester asks for no chunk upon it: it goes on, and its answer is never seen.
+    /// The request is GET_MEASUREMENTS or PSK_EXCHANGE, whole in one message.
     Passed,
     /// A large answer is fetched from then on.
     Fetching(Held),

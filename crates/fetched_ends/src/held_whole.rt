@@ -92,9 +92,9 @@ fn drop_shown(connection: &mut Connection, exchange: bool, whole: &[u8])
     }
 }
 
-/// These bytes came as the large answer that is held, under CHUNK_GETs with this handle, of which the last one has this
-/// tag: what its request, PSK_EXCHANGE or not, leads to at the values that they show. Where it leads to them, the connection stands for what
-/// is behind all chunks.
+/// These bytes came as the large answer that is held, under CHUNK_GETs with this handle, of which the last one has
+/// this tag: what its request, PSK_EXCHANGE or not, leads to at the values that they show. Where it leads to them,
+/// the connection stands for what is behind all chunks.
 pub(crate) fn leads_to(
     answerer: &mut Answerer,
     held: &Held,

@@ -1,9 +1,9 @@
 use crate::Fetch;
 use capture_ends::{Conversation, Party};
 
-/// A requester of a capture and the responder towards it, at any place: what is kept of both, and the
-/// large answer that is fetched, if one is. It judges requests and answers whose order is right, and tells the table of sessions of those
-/// that go on. It takes no memory but when it is made.
+/// A requester of a capture and the responder towards it, at any place: what is kept of both, and the large answer
+/// that is fetched, if one is. It judges requests and answers whose order is right, and tells the table of sessions
+/// of those that go on. It takes no memory but when it is made.
 #[derive(Drop)]
 pub struct JudgedEnds {
     /// What is kept of both.

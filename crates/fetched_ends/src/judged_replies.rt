@@ -296,8 +296,9 @@ impl JudgedEnds {
     /// An answer of at most 4,161 bytes came whole, in order behind this round: it goes on, and the
     /// table of sessions with it; or the requester asks for a chunk upon it where nothing is fetched, which is
     /// left unjudged, and why it is refused where no walk goes on with it; or no walk does, and then why. But
-    /// for the first, nothing is said of what is kept then, and of the table. An `Err` comes only where PSK_EXCHANGE_RSP began a session, whole or with its last chunk, and there is no
-    /// memory for its entry, and says nothing of what is kept.
+    /// for the first, nothing is said of what is kept then, and of the table. An `Err` comes only where
+    /// PSK_EXCHANGE_RSP began a session, whole or with its last chunk, and there is no memory for its entry,
+    /// and says nothing of what is kept.
     pub fn replies(
         &mut self,
         table: &mut SessionTable,

@@ -51,8 +51,8 @@ fn asked_operation(message: &[u8], hash_len: usize) -> Option<u8>
     }
 }
 
-// What is kept of the large answer to a message in the session of this RspSessionID, where it is fetched from now on; none
-// where that is no GET_MEASUREMENTS whose answer may go by chunks.
+// What is kept of the large answer to a message in the session of this RspSessionID, where it is fetched from now
+// on; none where that is no GET_MEASUREMENTS whose answer may go by chunks.
 fn kept_in(connection: &Connection, setup: &Setup<'_>, id: u16, message: &[u8]) -> Option<InSession>
     ensures kept { (r : RspSetup) (h : History) → IsSetUp setup.now r → StandsFor connection.now r h
         → IsKeptFor r (session_of id h) id message.now result }
