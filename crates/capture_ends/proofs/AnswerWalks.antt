@@ -5,7 +5,7 @@ use Rattle.mctp_framing.specs.Gathering.{Gathered}
 use Rattle.mctp_framing.specs.Gathering.Gathered.{Whole}
 use Rattle.requester_machine.specs.Setup.{ReqSetup}
 use Rattle.responder_machine.specs.Setup.{towards}
-use Rattle.script_text.specs.declared.why.Why as declared
+use Rattle.spdm_grammar.specs.declared.why.Why as declared
 use Rattle.capture_laws.proofs.AnsweredOn.{replies_from}
 use Rattle.capture_laws.proofs.GoingOn.{none_fetched}
 use Rattle.capture_laws.proofs.KeptAnswers.{kept_is_restored, kept_replies}

@@ -13,8 +13,8 @@ use Rattle.responder_machine.specs.May.{on_body, with_dropped}
 use Rattle.responder_machine.specs.Responder.{after as behind_by}
 use Rattle.responder_machine.specs.Responder.Outcome.{Same}
 use Rattle.responder_machine.specs.Setup.{RspSetup, towards}
-use Rattle.script_text.specs.declared.why.Why as declared
-use Rattle.script_text.specs.declared.why.Why.TheVariants as late
+use Rattle.spdm_grammar.specs.declared.why.Why as declared
+use Rattle.spdm_grammar.specs.declared.why.Why.TheVariants as late
 use Rattle.spdm_basis.specs.declared.PacketFault.{PacketFault}
 use Rattle.spdm_machine.specs.Packets.{body_type}
 use Rattle.capture_laws.proofs.AnswerChanges.{kept_answer_changes}

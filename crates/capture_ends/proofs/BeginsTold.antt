@@ -5,7 +5,7 @@ use Rattle.mctp_framing.specs.Cutting.{RouteFields}
 use Rattle.mctp_framing.specs.Gathering.{Gathered}
 use Rattle.mctp_framing.specs.Gathering.Gathered.{Whole}
 use Rattle.requester_machine.specs.Setup.{ReqSetup}
-use Rattle.script_text.specs.declared.why.Why as declared
+use Rattle.spdm_grammar.specs.declared.why.Why as declared
 use Rattle.capture_ends.proofs.AskedWalks.{asked_reason, kept_behind, none_on, walk_before, walk_behind}
 use Rattle.capture_ends.proofs.InTurn.{AsksInTurn}
 use Rattle.capture_ends.proofs.RequestRows.{IsToldNothing, before, chunk_session, over_before, places_behind, table_behind}

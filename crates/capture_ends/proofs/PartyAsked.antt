@@ -9,7 +9,7 @@ use Rattle.mctp_framing.specs.Gathering.Gathered.{Whole}
 use Rattle.requester_machine.specs.History.{History, outstanding}
 use Rattle.requester_machine.specs.Message.{Sent}
 use Rattle.requester_machine.specs.Setup.{ReqSetup}
-use Rattle.script_text.specs.declared.why.Why as declared
+use Rattle.spdm_grammar.specs.declared.why.Why as declared
 use Rattle.spdm_basis.proofs.Bools.{and_first, and_second}
 use Rattle.capture_ends.proofs.InTurn.{AsksInTurn}
 use Rattle.capture_ends.specs.AnswerKeys.{StandFor as keys_stand}

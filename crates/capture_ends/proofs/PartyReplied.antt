@@ -14,8 +14,8 @@ use Rattle.responder_machine.specs.May.{on_body, with_dropped}
 use Rattle.responder_machine.specs.Responder.{after}
 use Rattle.responder_machine.specs.Responder.Outcome.{Same}
 use Rattle.responder_machine.specs.Setup.{RspSetup}
-use Rattle.script_text.specs.declared.why.Why as declared_why
-use Rattle.script_text.specs.declared.why.Why.TheVariants as declared
+use Rattle.spdm_grammar.specs.declared.why.Why as declared_why
+use Rattle.spdm_grammar.specs.declared.why.Why.TheVariants as declared
 use Rattle.spdm_basis.proofs.Bools.{and_first, and_second}
 use Rattle.spdm_machine.specs.Packets.{body_type}
 use Rattle.capture_laws.proofs.ApartShown.{apart_is_shown}

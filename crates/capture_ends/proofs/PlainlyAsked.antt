@@ -4,7 +4,7 @@ use Rattle.std.proofs.lemmas.Bool.{false≢true}
 use Rattle.mctp_framing.specs.Cutting.{RouteFields}
 use Rattle.mctp_framing.specs.Gathering.Gathered.{Whole}
 use Rattle.requester_machine.specs.Setup.{ReqSetup}
-use Rattle.script_text.specs.declared.why.Why as declared
+use Rattle.spdm_grammar.specs.declared.why.Why as declared
 use Rattle.capture_ends.proofs.BeginsTold.{refused_on, whole_on}
 use Rattle.capture_ends.specs.Asker.{is_first_chunk}
 use Rattle.capture_ends.specs.Conversation.{IsAskedOf, IsBeginning, IsRequest, StandsBehind}

@@ -6,7 +6,7 @@ use Rattle.mctp_framing.specs.Gathering.{Gathered}
 use Rattle.mctp_framing.specs.Gathering.Gathered.{Whole, More}
 use Rattle.mctp_framing.specs.Packet.{PacketFields, parsed}
 use Rattle.requester_machine.specs.Setup.{ReqSetup}
-use Rattle.script_text.specs.declared.why.Why as declared
+use Rattle.spdm_grammar.specs.declared.why.Why as declared
 use Rattle.capture_ends.specs.Party.{IsParty}
 use Rattle.capture_ends.specs.PartyReplies.{IsAskedUpon, IsPartOfLarge}
 use Rattle.capture_laws.specs.Judged.{AreApart, why_of}

@@ -5,7 +5,7 @@ use Rattle.mctp_framing.specs.Cutting.{RouteFields}
 use Rattle.mctp_framing.specs.Gathering.{Gathered}
 use Rattle.mctp_framing.specs.Gathering.Gathered.{Whole}
 use Rattle.requester_machine.specs.Setup.{ReqSetup}
-use Rattle.script_text.specs.declared.why.Why as declared
+use Rattle.spdm_grammar.specs.declared.why.Why as declared
 use Rattle.capture_ends.specs.AnswerKeys as answer_keys
 use Rattle.capture_ends.specs.Answerer.{IsAnswerer}
 use Rattle.capture_ends.specs.Asker.{IsAsker, is_first_chunk}

@@ -5,7 +5,7 @@ use Rattle.mctp_framing.specs.Gathering.{Gathered}
 use Rattle.mctp_framing.specs.Gathering.Gathered.{Whole}
 use Rattle.requester_machine.specs.Setup.{ReqSetup}
 use Rattle.responder_machine.specs.Setup.{RspSetup}
-use Rattle.script_text.specs.declared.why.Why as declared
+use Rattle.spdm_grammar.specs.declared.why.Why as declared
 use Rattle.capture_ends.specs.Answerer.{IsAnswerer, history_shown}
 use Rattle.capture_laws.specs.ApartShown.{IsApartShown}
 use Rattle.capture_ends.specs.ClearAnswers.{EndsLarge}

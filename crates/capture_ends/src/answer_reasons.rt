@@ -16,9 +16,9 @@ use crate::opening::{Opening, opens_so};
 use crate::{AnswerKeys, Answerer};
 use connection::Connection;
 use responder_session::AnswerKey;
-use script_text::Why;
 use session_keys::behind_type;
 use spdm_basis::RecordFrame;
+use spdm_grammar::Why;
 
 // Whether an answer that is in turn is in the clear, or a record that opens, as far as it is told before it is
 // judged. The body is the request that it answers, which was not handed in yet, and of which this is had. What

@@ -2,8 +2,8 @@ use crate::{Conversation, Given, Judged, Onward, Party};
 use capture_laws::{Round, SessionTable, ack_accepts_none, answer_asks_none, walks_step};
 use connection::Setup;
 use large_requests::LargeRequest;
-use script_text::Why;
 use spdm_basis::OutOfMemory;
+use spdm_grammar::Why;
 
 // The answers that a responder gives.
 impl Party {

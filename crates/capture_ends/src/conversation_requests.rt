@@ -3,7 +3,7 @@ use crate::owed_messages::is_first_chunk;
 use crate::{Conversation, Party};
 use capture_laws::{Round, SessionTable, copy_is_request, round_is_request};
 use large_requests::{LargeRequest, Piece};
-use script_text::Why;
+use spdm_grammar::Why;
 
 // The requests that a requester sends.
 impl Party {

@@ -65,4 +65,4 @@ pub use given::{Given, Judged};
 pub use onward::Onward;
 pub use party::Party;
 pub use party_laws::other_parties_stay;
-pub use script_text::Why;
+pub use spdm_grammar::Why;

@@ -1,4 +1,4 @@
-use script_text::Why;
+use spdm_grammar::Why;
 
 /// How a request or an answer goes on from what is kept of a requester and the responder.
 #[derive(Clone, Copy, Debug, PartialEq, Eq)]

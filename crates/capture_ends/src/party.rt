@@ -7,8 +7,8 @@ use crate::owed_messages::is_first_chunk;
 use crate::{AnswerKeys, Answerer, Asker, Onward};
 use capture_laws::{Places, Round, SessionTable};
 use connection::Setup;
-use script_text::Why;
 use spdm_basis::RecordFrame;
+use spdm_grammar::Why;
 
 /// A requester of a capture and the responder towards it, while no large message is under way: what
 /// the two ends hold, and the keys of answers that were given; its number, and where its entries stand

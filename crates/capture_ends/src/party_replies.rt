@@ -3,8 +3,8 @@ use crate::{Given, Heard, Judged, Onward, Party};
 use capture_laws::{Change, Round, SessionTable};
 use connection::Setup;
 use responder_session::AnswerKey;
-use script_text::Why;
 use spdm_basis::OutOfMemory;
+use spdm_grammar::Why;
 
 // The answers that a responder gives.
 impl Party {

@@ -4,7 +4,7 @@ use crate::owed_messages::write_outstanding;
 use crate::request_reasons::{is_finish_apart, opens_before, opens_next};
 use crate::sealed_commands::sends_opened;
 use crate::sending::{connects, connects_instead, sends_command};
-use script_text::Why;
+use spdm_grammar::Why;
 
 // The requests by which a round begins.
 impl Asker {

@@ -5,7 +5,7 @@ use Rattle.mctp_framing.specs.Gathering.{Gathered, Receiver, gathered, group_of,
 use Rattle.mctp_framing.specs.Gathering.Gathered.{Whole, More, Dropped}
 use Rattle.mctp_framing.specs.Lending.{TakesPacket}
 use Rattle.mctp_framing.specs.Packet.{PacketFields, parsed}
-use Rattle.script_text.specs.declared.why.Why as declared
+use Rattle.spdm_grammar.specs.declared.why.Why as declared
 use Rattle.spdm_basis.proofs.Bools.{and_first}
 use Rattle.spdm_basis.specs.declared.PacketFault.{PacketFault}
 use Rattle.spdm_machine.specs.Packets.{fields_in, fields_with, gathered_from}

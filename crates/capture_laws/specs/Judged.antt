@@ -6,8 +6,8 @@ use Rattle.mctp_framing.specs.Gathering.{Gathered, Receiver}
 use Rattle.mctp_framing.specs.Gathering.Gathered.{Whole}
 use Rattle.mctp_framing.specs.Packet.{PacketFields}
 use Rattle.requester_machine.specs.Setup.{ReqSetup}
-use Rattle.script_text.specs.declared.why.Why as declared
-use Rattle.script_text.specs.declared.why.Why.TheVariants as why
+use Rattle.spdm_grammar.specs.declared.why.Why as declared
+use Rattle.spdm_grammar.specs.declared.why.Why.TheVariants as why
 use Rattle.spdm_basis.specs.declared.PacketFault.{PacketFault}
 use Rattle.spdm_machine.specs.Packets.{body_limit, fields_in, gathered_from}
 use Rattle.spdm_basis.specs.declared.eid.Eid.{Eid}

@@ -50,5 +50,5 @@ pub use row_laws::{
     idle_rows_stay, one_changes_rows, one_keeps_places, other_places_stay, rows_are_of_all,
     table_begins, table_is_shown, walks_step,
 };
-pub use script_text::Why;
+pub use spdm_grammar::Why;
 pub use verdict::{Seen, SessionTable, Verdict};

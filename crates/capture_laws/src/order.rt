@@ -3,8 +3,8 @@ ghost use Rattle.capture_laws.specs.Judged.{AreNew};
 
 use crate::{Brought, Pair};
 use mctp_framing::{Packet, PacketView};
-use script_text::Why;
 use spdm_basis::{Eid, OutOfMemory};
+use spdm_grammar::Why;
 use std::alloc::Global;
 
 /// The order of a capture's packets, one after another: which of them are no packets, go between

@@ -9,8 +9,8 @@ ghost use Rattle.world_machine.specs.Difference.{is_other_type};
 
 use crate::{Brought, Round};
 use mctp_framing::{Assembler, Fed, PacketView, Route};
-use script_text::Why;
 use spdm_basis::{Eid, OutOfMemory};
+use spdm_grammar::Why;
 use std::alloc::Global;
 
 // How long a body may be: its type and a record of 4,160 bytes.

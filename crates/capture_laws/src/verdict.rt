@@ -1,8 +1,7 @@
 ghost use Rattle.std.specs.Prelude.{◌≡◌, [], ◌∷◌, ◌++◌, length, OnOk, OnErr};
 
-use script_text::Why;
 use spdm_basis::{HashBytes, OutOfMemory, SessionId};
-use spdm_grammar::Stage;
+use spdm_grammar::{Stage, Why};
 use std::alloc::Global;
 use std::marker::Model;
 

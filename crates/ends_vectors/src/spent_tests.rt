@@ -122,30 +122,43 @@ impl Ends {
         assert_eq!(rt; self.does(command)?, Event::Done(finished));
         Ok(())
     }
+    // Both ends with one session.
+    fn in_session(rt: &(impl AllocGlobal + Abort)) -> Result<Ends, Fail> {
+        let mut ends = Ends::new(rt)?;
+        ends.comes_to(rt, Command::Connect, Finished::Connected)?;
+        ends.comes_to(rt, Command::Open { summary: 0 }, Finished::Opened(ID))?;
+        Ok(ends)
+    }
+
+    // So many application messages, each of which is answered.
+    fn sends(&mut self, rt: &impl Abort, count: u32) -> Result<(), Fail> {
+        for _ in 0..count {
+            self.comes_to(rt, SEND, Finished::Answered(ID))?;
+        }
+        Ok(())
+    }
 }
+
+// KEY_UPDATE of the requester's key alone, and of both keys.
+const UPDATE_KEY: Command<'_> = Command::Update {
+    session: 1,
+    all: false,
+};
+
+const UPDATE_ALL_KEYS: Command<'_> = Command::Update {
+    session: 1,
+    all: true,
+};
 
 // With 65,535 application messages the next number is the last of its key, so that nothing but an update of all keys goes; and
 // behind that all goes on.
 #[test]
 fn spent_key(rt: HostRuntime) -> Result<(), Fail> {
-    let mut ends = Ends::new(&rt)?;
-    ends.comes_to(&rt, Command::Connect, Finished::Connected)?;
-    ends.comes_to(&rt, Command::Open { summary: 0 }, Finished::Opened(ID))?;
-    for _ in 0..65_535 {
-        ends.comes_to(&rt, SEND, Finished::Answered(ID))?;
+    let mut ends = Ends::in_session(&rt)?;
+    ends.sends(&rt, 65_535)?;
+    for command in [SEND, Command::Beat { session: 1 }, UPDATE_KEY] {
+        assert_eq!(rt; ends.fault(command), Some(CommandFault::KeySpent));
     }
-    let spent = Some(CommandFault::KeySpent);
-    assert_eq!(rt; ends.fault(SEND), spent);
-    assert_eq!(rt; ends.fault(Command::Beat { session: 1 }), spent);
-    let alone = Command::Update {
-        session: 1,
-        all: false,
-    };
-    assert_eq!(rt; ends.fault(alone), spent);
-    let all = Command::Update {
-        session: 1,
-        all: true,
-    };
-    ends.comes_to(&rt, all, Finished::Updated(ID))?;
-    ends.comes_to(&rt, SEND, Finished::Answered(ID))
+    ends.comes_to(&rt, UPDATE_ALL_KEYS, Finished::Updated(ID))?;
+    ends.sends(&rt, 1)
 }

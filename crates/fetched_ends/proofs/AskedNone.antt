@@ -36,7 +36,7 @@ use Rattle.fetched_ends.proofs.LargeRecords.{large_sealed}
 use Rattle.fetched_ends.specs.AgainBegins.{IsAgainInRecord}
 use Rattle.fetched_ends.specs.JudgedEnds.{IsJudgedAnswer, IsLeft}
 use Rattle.fetched_ends.specs.declared.judged_ends.JudgedEnds.{JudgedEnds}
-use Rattle.script_text.specs.declared.why.Why as declared
+use Rattle.spdm_grammar.specs.declared.why.Why as declared
 use Rattle.world_machine.proofs.Alike.{Alike}
 use Rattle.world_machine.proofs.AskersAlike.{AskersAlike}
 use Rattle.world_machine.specs.Capture.{RepliesBy}

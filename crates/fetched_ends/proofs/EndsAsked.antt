@@ -3,7 +3,7 @@ use Rattle.std.proofs.Common.{◌≡◌, ◌∙◌, ℕ, List, ◌∷◌, sym, s
 use Rattle.mctp_framing.specs.Cutting.{RouteFields}
 use Rattle.mctp_framing.specs.Gathering.Gathered.{Whole}
 use Rattle.requester_machine.specs.Setup.{ReqSetup}
-use Rattle.script_text.specs.declared.why.Why as declared
+use Rattle.spdm_grammar.specs.declared.why.Why as declared
 use Rattle.capture_ends.proofs.PartyAsked.{asks_same}
 use Rattle.capture_ends.specs.Conversation.{IsRequest}
 use Rattle.capture_ends.specs.Party.{IsAskedBeside}

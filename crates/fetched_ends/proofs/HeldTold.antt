@@ -4,7 +4,7 @@ use Rattle.std.specs.Prelude.{not, slice_index}
 use Rattle.std.proofs.lemmas.Bool.{false≢true}
 use Rattle.mctp_framing.specs.Cutting.{RouteFields}
 use Rattle.mctp_framing.specs.Gathering.Gathered.{Whole}
-use Rattle.script_text.specs.declared.why.Why as declared_why
+use Rattle.spdm_grammar.specs.declared.why.Why as declared_why
 use Rattle.capture_ends.proofs.InTurn.{AnswersInTurn}
 use Rattle.capture_ends.specs.declared.party.Party.{Party}
 use Rattle.capture_laws.specs.Judged.{why_of}

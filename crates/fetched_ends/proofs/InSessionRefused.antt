@@ -22,7 +22,7 @@ use Rattle.responder_machine.specs.History.{History}
 use Rattle.responder_machine.specs.Responder.{Outcome, body_of, on_clear, on_record}
 use Rattle.responder_machine.specs.Responder.Outcome.{Adds}
 use Rattle.responder_machine.specs.Setup.{RspSetup}
-use Rattle.script_text.specs.declared.why.Why as declared
+use Rattle.spdm_grammar.specs.declared.why.Why as declared
 use Rattle.world_machine.specs.CapturedAnswers.{Answers, MayLeadTo}
 use Rattle.world_machine.specs.Difference.{AreRepliesApart, CompletesApart, GoesApart, carries_exchange, is_apart, reply_why}
 use Rattle.world_machine.specs.LargeAnswers.{place_named, with_large}

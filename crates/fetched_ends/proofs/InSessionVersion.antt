@@ -50,7 +50,7 @@ use Rattle.responder_machine.specs.Responder.{Outcome, after, is_repeat, repeats
 use Rattle.responder_machine.specs.Responder.Outcome.{Adds}
 use Rattle.responder_machine.specs.Session.{id_in_record, session_of}
 use Rattle.responder_machine.specs.Setup.{RspSetup}
-use Rattle.script_text.specs.declared.why.Why as declared
+use Rattle.spdm_grammar.specs.declared.why.Why as declared
 use Rattle.spdm_grammar.specs.Message.RequestMessage.{GetVersion}
 use Rattle.spdm_grammar.specs.Requests.{canonical_request}
 use Rattle.spdm_grammar.specs.Responses.{canonical_response}

@@ -58,8 +58,8 @@ use Rattle.responder_machine.specs.Responder.{Outcome, body_of}
 use Rattle.responder_machine.specs.Responder.Outcome.{Adds}
 use Rattle.responder_machine.specs.Setup.{RspSetup}
 use Rattle.responder_machine.specs.Turn.{Turn}
-use Rattle.script_text.specs.declared.why.Why as declared_why
-use Rattle.script_text.specs.declared.why.Why.TheVariants as reasons
+use Rattle.spdm_grammar.specs.declared.why.Why as declared_why
+use Rattle.spdm_grammar.specs.declared.why.Why.TheVariants as reasons
 use Rattle.spdm_basis.proofs.Bools.{and_first, and_second}
 use Rattle.spdm_grammar.specs.Message.RequestMessage.{GetVersion}
 use Rattle.spdm_grammar.specs.Requests.{canonical_request}

@@ -16,7 +16,7 @@ use Rattle.large_answers.specs.Fetching.{Fetching, IsFetchingOf, MayStand, dialo
 use Rattle.large_answers.specs.FetchingLaws.{EndsFetching, GoesFetching, TurnsFetching}
 use Rattle.responder_machine.specs.History.{History}
 use Rattle.responder_machine.specs.Setup.{RspSetup}
-use Rattle.script_text.specs.declared.why.Why as declared
+use Rattle.spdm_grammar.specs.declared.why.Why as declared
 use Rattle.spdm_machine.specs.Packets.{body_type}
 use Rattle.world_machine.proofs.UnseenStands.{UnseenStand}
 use Rattle.world_machine.specs.CapturedAnswers.{Answers, AnswersLarge, AnswersPlainly, Completes}

@@ -53,7 +53,7 @@ use Rattle.responder_machine.specs.Responder.Outcome.{Same, Unopened, Adds}
 use Rattle.responder_machine.specs.Responder.{Outcome, after, body_of, is_repeat}
 use Rattle.responder_machine.specs.Session.{session_of, session_terms}
 use Rattle.responder_machine.specs.Setup.{RspSetup}
-use Rattle.script_text.specs.declared.why.Why as declared
+use Rattle.spdm_grammar.specs.declared.why.Why as declared
 use Rattle.spdm_grammar.specs.Message.RequestMessage.{GetVersion}
 use Rattle.spdm_grammar.specs.Requests.{canonical_request}
 use Rattle.spdm_grammar.specs.declared.session_view.SessionView.{SessionView}

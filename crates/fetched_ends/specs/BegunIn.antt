@@ -19,7 +19,7 @@ use Rattle.fetched_ends.specs.declared.in_session_begins.BegunIn.{BegunIn}
 use Rattle.fetched_ends.specs.declared.in_session_begins.BegunIn.TheVariants as begun
 use Rattle.large_answers.specs.Fetching.{Fetching}
 use Rattle.large_answers.specs.FetchingLaws.{BeginsFetching}
-use Rattle.script_text.specs.declared.why.Why as declared
+use Rattle.spdm_grammar.specs.declared.why.Why as declared
 use Rattle.world_machine.specs.Rounds.{Round}
 use Rattle.world_machine.specs.SessionTable.{Row}
 use Rattle.world_machine.specs.Setup.{Configuration}

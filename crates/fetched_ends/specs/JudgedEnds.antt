@@ -6,7 +6,7 @@ use Rattle.mctp_framing.specs.Gathering.{Gathered}
 use Rattle.mctp_framing.specs.Gathering.Gathered.{Whole, More}
 use Rattle.mctp_framing.specs.Packet.{PacketFields, parsed}
 use Rattle.requester_machine.specs.Setup.{ReqSetup}
-use Rattle.script_text.specs.declared.why.Why as declared
+use Rattle.spdm_grammar.specs.declared.why.Why as declared
 use Rattle.capture_ends.specs.Conversation as conversations
 use Rattle.capture_ends.specs.Conversation.{NoneGoesOn}
 use Rattle.capture_ends.specs.HeardKept.{asks_upon}

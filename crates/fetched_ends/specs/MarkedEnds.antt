@@ -21,7 +21,7 @@ use Rattle.requester_machine.specs.Setup.{ReqSetup}
 use Rattle.responder_machine.specs.History.{History}
 use Rattle.responder_machine.specs.Responder.{repeats}
 use Rattle.responder_machine.specs.Session.{id_in_record, last_of, session_of}
-use Rattle.script_text.specs.declared.why.Why as declared
+use Rattle.spdm_grammar.specs.declared.why.Why as declared
 use Rattle.spdm_machine.specs.Packets.{gathered_from}
 use Rattle.world_machine.specs.Rounds.{Dialogue}
 use Rattle.world_machine.specs.SessionTable.{Row, rows_between}

@@ -36,9 +36,9 @@ use capture_ends::{Answerer, Party};
 use capture_laws::{Round, SessionTable, answer_accepts, last_chunk_changes};
 use connection::Setup;
 use late_answers::Marks;
-use script_text::Why;
 use session_keys::{behind_type, byte_at};
 use spdm_basis::OutOfMemory;
+use spdm_grammar::Why;
 
 // Whether the request of the large answer is PSK_EXCHANGE.
 fn holds_exchange(answerer: &Answerer, held: &Held) -> bool

@@ -26,8 +26,8 @@ use capture_ends::Party;
 use capture_laws::{Round, SessionTable};
 use connection::Setup;
 use fetched_answers::blocks_are_few;
-use script_text::Why;
 use spdm_basis::OutOfMemory;
+use spdm_grammar::Why;
 
 // The type of a body that is an SPDM message in the clear (DSP0275).
 const CLEAR: u8 = 5;

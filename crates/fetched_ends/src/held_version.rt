@@ -32,9 +32,9 @@ use crate::in_session::zeros;
 use capture_ends::Party;
 use capture_laws::{Round, SessionTable, answer_accepts, whole_answer_changes};
 use connection::{Connection, FreeValues, Setup};
-use script_text::Why;
 use session_keys::behind_type;
 use spdm_basis::{Frame, OutOfMemory};
+use spdm_grammar::Why;
 
 // The type of a body that is an SPDM message in the clear (DSP0275).
 const CLEAR: u8 = 5;

@@ -18,9 +18,9 @@ use crate::session_prepared::prepared;
 use capture_ends::{Given, Onward, Party};
 use capture_laws::{Round, SessionTable, answer_accepts, large_answer_changes};
 use connection::Setup;
-use script_text::Why;
 use session_keys::{behind_type, byte_at};
 use spdm_basis::OutOfMemory;
+use spdm_grammar::Why;
 
 // The type of a body that is an SPDM message in the clear (DSP0275).
 const CLEAR: u8 = 5;

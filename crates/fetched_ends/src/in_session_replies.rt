@@ -24,9 +24,9 @@ use capture_ends::Party;
 use capture_laws::{Round, SessionTable};
 use connection::Setup;
 use fetched_answers::put_bytes;
-use script_text::Why;
 use session_keys::byte_at;
 use spdm_basis::{OutOfMemory, RecordFrame};
+use spdm_grammar::Why;
 
 // The type of a body that is an SPDM message in the clear (DSP0275).
 const CLEAR: u8 = 5;

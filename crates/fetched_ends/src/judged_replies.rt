@@ -7,9 +7,9 @@ use crate::{
 use capture_ends::Onward;
 use capture_laws::{Round, SessionTable};
 use connection::Setup;
-use script_text::Why;
 use session_keys::byte_at;
 use spdm_basis::OutOfMemory;
+use spdm_grammar::Why;
 use spdm_grammar::names::request_code::GET_MEASUREMENTS;
 
 // The type of a body that is an SPDM message in the clear (DSP0275).

@@ -1,6 +1,6 @@
 use crate::JudgedEnds;
 use capture_laws::{Round, SessionTable};
-use script_text::Why;
+use spdm_grammar::Why;
 
 // The requests that a requester sends.
 impl JudgedEnds {

@@ -7,9 +7,9 @@ use capture_ends::{Onward, Party};
 use capture_laws::{Round, SessionTable};
 use connection::{Setup, record_id};
 use late_answers::Marks;
-use script_text::Why;
 use session_keys::behind_type;
 use spdm_basis::OutOfMemory;
+use spdm_grammar::Why;
 
 /// A requester of a capture and the responder towards it, at any place, and which sessions were touched since the
 /// newest request in the clear that was taken: by that a fetch that begins late is judged.

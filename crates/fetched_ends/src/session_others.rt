@@ -28,9 +28,9 @@ use capture_laws::{
 };
 use connection::{Connection, Setup};
 use fetched_answers::forget_bytes;
-use script_text::Why;
 use session_keys::behind_type;
 use spdm_basis::OutOfMemory;
+use spdm_grammar::Why;
 
 // Whether a chunk is left to be given behind an answer that gives none.
 fn left_then(left: bool, live: bool, idle: bool, refuses: bool) -> bool

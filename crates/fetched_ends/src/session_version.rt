@@ -19,8 +19,8 @@ use crate::in_session::InSession;
 use capture_ends::{Given, Judged, Party};
 use capture_laws::{Round, SessionTable, answer_accepts, whole_answer_changes};
 use connection::Setup;
-use script_text::Why;
 use spdm_basis::OutOfMemory;
+use spdm_grammar::Why;
 
 /// An answer of at most 4,161 bytes came whole, in order behind a request in the clear, while a large answer is
 /// fetched in a session. That request is GET_VERSION: VERSION ends the fetch, and all sessions, and any other

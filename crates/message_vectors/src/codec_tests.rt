@@ -20,38 +20,54 @@ fn request_fault(bytes: &[u8]) -> Option<Malformed> {
     read_request(bytes, 32).err()
 }
 
+// Requests, each with the place and the part at fault.
+const MALFORMED: [(&[u8], usize, Part); 7] = [
+    (&[0x10, 0x84, 0, 0, 0], 4, Part::Rest),
+    (&[0x12, 0xe9, 4, 0], 2, Part::Field),
+    (&[0x12, 0xe8], 2, Part::End),
+    (&[0x12, 0x84], 1, Part::Field),
+    (&[0x12, 0x04], 1, Part::Field),
+    (&[], 0, Part::End),
+    (&[0x11], 0, Part::Field),
+];
+
 #[test]
 fn malformed_places(rt: HostRuntime) {
-    let at = |at, what| Some(Malformed { at, what });
+    for (bytes, at, what) in MALFORMED {
+        assert!(rt; request_fault(bytes) == Some(Malformed { at, what }));
+    }
+}
+
+#[test]
+fn params_of_get_version_are_any(rt: HostRuntime) {
     assert!(rt;
         matches!(
             read_request(&[0x10, 0x84, 7, 9], 32),
             Ok(Request::GetVersion)
         )
     );
-    assert!(rt; request_fault(&[0x10, 0x84, 0, 0, 0]) == at(4, Part::Rest));
-    assert!(rt; request_fault(&[0x12, 0xe9, 4, 0]) == at(2, Part::Field));
-    assert!(rt; request_fault(&[0x12, 0xe8]) == at(2, Part::End));
-    assert!(rt; request_fault(&[0x12, 0x84]) == at(1, Part::Field));
-    assert!(rt; request_fault(&[0x12, 0x04]) == at(1, Part::Field));
-    assert!(rt; request_fault(&[]) == at(0, Part::End));
-    assert!(rt; request_fault(&[0x11]) == at(0, Part::Field));
 }
 
+// VERSION with one entry, of version 1.2.
+const VERSION: [u8; 8] = [0x10, 0x04, 0, 0, 0, 1, 0, 0x12];
+
 #[test]
-fn version_has_one_entry(rt: HostRuntime) -> Result<(), Fail> {
-    let bytes = [0x10, 0x04, 0, 0, 0, 1, 0, 0x12];
+fn version_is_written(rt: HostRuntime) -> Result<(), Fail> {
     let mut out = Frame::new();
     let message = Response::Version {
         entries: &[0x00, 0x12],
     };
     write_response(&message, 32, false, &mut out)?;
-    assert!(rt; out.as_slice() == bytes.as_slice());
-    match read_response(&bytes, 32, false) {
+    assert!(rt; out.as_slice() == VERSION.as_slice());
+    Ok(())
+}
+
+#[test]
+fn version_has_one_entry(rt: HostRuntime) {
+    match read_response(&VERSION, 32, false) {
         Ok(Response::Version { entries }) => assert!(rt; entries == [0x00, 0x12].as_slice()),
         _ => assert!(rt; false),
     }
-    Ok(())
 }
 
 #[test]
@@ -63,6 +79,10 @@ fn offer_at_every_length(rt: HostRuntime) {
         });
         assert!(rt; request_fault(&OFFER[..n]) == fault);
     }
+}
+
+#[test]
+fn offer_has_its_fields(rt: HostRuntime) {
     match read_request(&OFFER, 32) {
         Ok(Request::NegotiateAlgorithms(offer)) => {
             assert!(rt; offer.hash == 1);
@@ -102,6 +122,10 @@ fn last_chunk(rt: HostRuntime) {
         }
         _ => assert!(rt; false),
     }
+}
+
+#[test]
+fn answer_inside_an_acknowledgement(rt: HostRuntime) {
     let large = [0x12, 0x05, 0, 0, 0x01, 0, 0x12, 0x7f, 0x0f, 0, 0];
     match read_response(&large, 32, false) {
         Ok(Response::ChunkSendAck { response, .. }) => assert!(rt; response == &large[6..]),

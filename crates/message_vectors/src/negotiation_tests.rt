@@ -16,14 +16,6 @@ const RESPONDER: Caps = Caps {
     max: 4096,
 };
 
-fn requester_fault(requester: &Caps) -> Option<CapsFault> {
-    common(requester, &RESPONDER).err()
-}
-
-fn responder_fault(responder: &Caps) -> Option<CapsFault> {
-    common(&REQUESTER, responder).err()
-}
-
 #[test]
 fn first_entry_of_version_12(rt: HostRuntime) {
     assert!(rt; choose_version(&[0x00, 0x10, 0x01, 0x12, 0x00, 0x12]) == Some(0x1201));
@@ -56,58 +48,86 @@ fn limits_of_own_sizes(rt: HostRuntime) {
     assert!(rt; !may(42, 43, false));
 }
 
+// PSK_CAP is 10 in the third row, and the fourth has no MAC_CAP.
+const REQUESTER_FAULTS: [(Caps, CapsFault); 4] = [
+    (
+        Caps {
+            transfer: 41,
+            max: 40,
+            ..REQUESTER
+        },
+        CapsFault::SizeTooSmall,
+    ),
+    (
+        Caps {
+            max: 41,
+            flags: 0,
+            ..REQUESTER
+        },
+        CapsFault::SizesCrossed,
+    ),
+    (
+        Caps {
+            flags: 0x0840,
+            ..REQUESTER
+        },
+        CapsFault::NoPsk,
+    ),
+    (
+        Caps {
+            flags: 0x0440,
+            ..REQUESTER
+        },
+        CapsFault::NoProtection,
+    ),
+];
+
 #[test]
 fn faults_of_a_requester(rt: HostRuntime) {
-    let small = Caps {
-        transfer: 41,
-        max: 40,
-        ..REQUESTER
-    };
-    assert!(rt; requester_fault(&small) == Some(CapsFault::SizeTooSmall));
-    let crossed = Caps {
-        max: 41,
-        flags: 0,
-        ..REQUESTER
-    };
-    assert!(rt; requester_fault(&crossed) == Some(CapsFault::SizesCrossed));
-    // PSK_CAP 10, and no MAC_CAP.
-    let other_psk = Caps {
-        flags: 0x0840,
-        ..REQUESTER
-    };
-    assert!(rt; requester_fault(&other_psk) == Some(CapsFault::NoPsk));
-    let no_mac = Caps {
-        flags: 0x0440,
-        ..REQUESTER
-    };
-    assert!(rt; requester_fault(&no_mac) == Some(CapsFault::NoProtection));
+    for (caps, fault) in &REQUESTER_FAULTS {
+        assert!(rt; common(caps, &RESPONDER).err() == Some(*fault));
+    }
 }
+
+// PSK_CAP is 01 in the third row, and the fourth has no ENCRYPT_CAP.
+const RESPONDER_FAULTS: [(Caps, CapsFault); 4] = [
+    (
+        Caps {
+            transfer: 41,
+            max: 40,
+            ..RESPONDER
+        },
+        CapsFault::SizeTooSmall,
+    ),
+    (
+        Caps {
+            max: 41,
+            flags: 0,
+            ..RESPONDER
+        },
+        CapsFault::SizesCrossed,
+    ),
+    (
+        Caps {
+            flags: 0x0480,
+            ..RESPONDER
+        },
+        CapsFault::NoPsk,
+    ),
+    (
+        Caps {
+            flags: 0x0880,
+            ..RESPONDER
+        },
+        CapsFault::NoProtection,
+    ),
+];
 
 #[test]
 fn faults_of_a_responder(rt: HostRuntime) {
-    let small = Caps {
-        transfer: 41,
-        max: 40,
-        ..RESPONDER
-    };
-    assert!(rt; responder_fault(&small) == Some(CapsFault::SizeTooSmall));
-    let crossed = Caps {
-        max: 41,
-        flags: 0,
-        ..RESPONDER
-    };
-    assert!(rt; responder_fault(&crossed) == Some(CapsFault::SizesCrossed));
-    // PSK_CAP 01, and no ENCRYPT_CAP.
-    let other_psk = Caps {
-        flags: 0x0480,
-        ..RESPONDER
-    };
-    assert!(rt; responder_fault(&other_psk) == Some(CapsFault::NoPsk));
-    let no_encryption = Caps {
-        flags: 0x0880,
-        ..RESPONDER
-    };
-    assert!(rt; responder_fault(&no_encryption) == Some(CapsFault::NoProtection));
+    for (caps, fault) in &RESPONDER_FAULTS {
+        assert!(rt; common(&REQUESTER, caps).err() == Some(*fault));
+    }
 }
 
 fn policy(suites: Suites) -> AlgPolicy {
@@ -118,31 +138,41 @@ fn policy(suites: Suites) -> AlgPolicy {
     }
 }
 
+const SMALL: Choice = Choice {
+    hash: HashAlg::Sha256,
+    aead: AeadAlg::Aes128Gcm,
+    measure: true,
+};
+
+const SMALL_SUITES: Suites = Suites {
+    hash: Pick::Small,
+    aead: Pick::Small,
+};
+
+// The algorithm structures of an offer of these suites, and of the reply to it.
+const SMALL_TABLES: &[u8] = &[2, 0x20, 0, 0, 3, 0x20, 1, 0, 4, 0x20, 0, 0, 5, 0x20, 1, 0];
+
 #[test]
-fn negotiation_completes(rt: HostRuntime) {
-    let suites = Suites {
-        hash: Pick::Small,
-        aead: Pick::Small,
-    };
-    let expected = Choice {
-        hash: HashAlg::Sha256,
-        aead: AeadAlg::Aes128Gcm,
-        measure: true,
-    };
-    let tables = [2, 0x20, 0, 0, 3, 0x20, 1, 0, 4, 0x20, 0, 0, 5, 0x20, 1, 0];
-    let Some(offer) = own_offer(suites, 1024) else {
+fn own_offer_has_its_fields(rt: HostRuntime) {
+    let Some(offer) = own_offer(SMALL_SUITES, 1024) else {
         assert!(rt; false);
         return;
     };
     assert!(rt; offer.measurement == 1 && offer.other == 2 && offer.asym == 0 && offer.hash == 1);
-    assert!(rt; offer.count == 4 && offer.tables == tables.as_slice());
-    assert!(rt; select(&offer, &policy(suites)) == Ok(expected));
-    let reply = Reply::new(&offer, expected);
+    assert!(rt; offer.count == 4 && offer.tables == SMALL_TABLES);
+}
+
+#[test]
+fn reply_to_own_offer_has_its_fields(rt: HostRuntime) {
+    let Some(offer) = own_offer(SMALL_SUITES, 1024) else {
+        assert!(rt; false);
+        return;
+    };
+    let reply = Reply::new(&offer, SMALL);
     let message = reply.message();
     assert!(rt; message.measurement == 1 && message.other == 2 && message.measurement_hash == 2);
     assert!(rt; message.asym == 0 && message.hash == 1);
-    assert!(rt; message.count == 4 && message.tables == tables.as_slice());
-    assert!(rt; agrees(&offer, &message) == Ok(expected));
+    assert!(rt; message.count == 4 && message.tables == SMALL_TABLES);
 }
 
 // What a requester and a responder of these picks choose, and what the requester takes from the reply.
@@ -167,16 +197,8 @@ fn outcome(requester: Pick, responder: Pick) -> (Option<Choice>, Option<Choice>)
 
 #[test]
 fn every_pair_of_picks(rt: HostRuntime) {
-    let small = Some(Choice {
-        hash: HashAlg::Sha256,
-        aead: AeadAlg::Aes128Gcm,
-        measure: true,
-    });
-    let large = Some(Choice {
-        hash: HashAlg::Sha384,
-        aead: AeadAlg::Aes256Gcm,
-        measure: true,
-    });
+    let small = Some(SMALL);
+    let large = Some(LARGE);
     let rows = [
         (Pick::Small, Pick::Small, small),
         (Pick::Small, Pick::Large, None),
@@ -191,6 +213,10 @@ fn every_pair_of_picks(rt: HostRuntime) {
     for (requester, responder, expected) in rows {
         assert!(rt; outcome(requester, responder) == (expected, expected));
     }
+}
+
+#[test]
+fn no_offer_of_the_large_hash_at_51(rt: HostRuntime) {
     let suites = Suites {
         hash: Pick::Large,
         aead: Pick::Large,
@@ -223,20 +249,26 @@ const BOTH: Suites = Suites {
     aead: Pick::Both,
 };
 
+// KeySchedule, an unknown type, AEAD with an external entry, DHE, and a second AEAD.
+const MIXED_TABLES: [u8; 24] = [
+    5, 0x20, 1, 0, 9, 0x20, 7, 7, 3, 0x21, 3, 0, 1, 2, 3, 4, 2, 0x20, 5, 0, 3, 0x20, 1, 0,
+];
+
 #[test]
 fn tables_in_another_order(rt: HostRuntime) {
-    // KeySchedule, an unknown type, AEAD with an external entry, DHE, and a second AEAD.
-    let tables = [
-        5, 0x20, 1, 0, 9, 0x20, 7, 7, 3, 0x21, 3, 0, 1, 2, 3, 4, 2, 0x20, 5, 0, 3, 0x20, 1, 0,
-    ];
-    let offer = offer_of(5, &tables);
+    let offer = offer_of(5, &MIXED_TABLES);
     assert!(rt; select(&offer, &policy(BOTH)) == Ok(LARGE));
     let reply = Reply::new(&offer, LARGE);
+    assert!(rt; agrees(&offer, &reply.message()) == Ok(LARGE));
+}
+
+#[test]
+fn reply_in_the_order_of_the_offer(rt: HostRuntime) {
+    let reply = Reply::new(&offer_of(5, &MIXED_TABLES), LARGE);
     let message = reply.message();
     let answered = [5, 0x20, 1, 0, 3, 0x20, 2, 0, 2, 0x20, 0, 0];
     assert!(rt; message.count == 3 && message.tables == answered.as_slice());
     assert!(rt; message.other == 2 && message.measurement_hash == 4 && message.hash == 2);
-    assert!(rt; agrees(&offer, &message) == Ok(LARGE));
 }
 
 #[test]
@@ -248,50 +280,59 @@ fn offers_without_a_choice(rt: HostRuntime) {
     assert!(rt; select(&offer_of(0, &[]), &policy(BOTH)) == Err(NoChoice));
 }
 
+// An offer of one AEAD, and the reply that takes it with the large hash.
+const TABLES: [u8; 8] = [3, 0x20, 1, 0, 5, 0x20, 1, 0];
+
+const REPLY: AlgReply<'static> = AlgReply {
+    measurement: 0,
+    other: 0,
+    measurement_hash: 0,
+    asym: 0,
+    hash: 2,
+    ext_asym: &[],
+    ext_hash: &[],
+    count: 2,
+    tables: &TABLES,
+};
+
+// Whether that offer and a reply agree.
+fn is_taken(reply: &AlgReply<'_>) -> bool {
+    agrees(&offer_of(2, &TABLES), reply).is_ok()
+}
+
 #[test]
-fn replies_that_are_not_taken(rt: HostRuntime) {
-    let tables = [3, 0x20, 1, 0, 5, 0x20, 1, 0];
-    let offer = offer_of(2, &tables);
+fn reply_that_is_taken(rt: HostRuntime) {
+    assert!(rt; is_taken(&REPLY));
+}
+
+#[test]
+fn reply_of_both_hashes(rt: HostRuntime) {
+    assert!(rt; !is_taken(&AlgReply { hash: 3, ..REPLY }));
+}
+
+#[test]
+fn reply_of_another_measurement_specification(rt: HostRuntime) {
     let reply = AlgReply {
-        measurement: 0,
-        other: 0,
-        measurement_hash: 0,
-        asym: 0,
-        hash: 2,
-        ext_asym: &[],
-        ext_hash: &[],
-        count: 2,
-        tables: &tables,
+        measurement: 2,
+        ..REPLY
     };
-    assert!(rt; agrees(&offer, &reply).is_ok());
-    assert!(rt; agrees(&offer, &AlgReply { hash: 3, ..reply }) == Err(NoChoice));
-    assert!(rt;
-        agrees(
-            &offer,
-            &AlgReply {
-                measurement: 2,
-                ..reply
-            }
-        ) == Err(NoChoice)
-    );
-    let not_offered = [3, 0x20, 2, 0, 5, 0x20, 1, 0];
-    assert!(rt;
-        agrees(
-            &offer,
-            &AlgReply {
-                tables: &not_offered,
-                ..reply
-            }
-        ) == Err(NoChoice)
-    );
-    let other_key_schedule = [3, 0x20, 1, 0, 5, 0x20, 3, 0];
-    assert!(rt;
-        agrees(
-            &offer,
-            &AlgReply {
-                tables: &other_key_schedule,
-                ..reply
-            }
-        ) == Err(NoChoice)
-    );
+    assert!(rt; !is_taken(&reply));
+}
+
+#[test]
+fn reply_of_an_aead_that_was_not_offered(rt: HostRuntime) {
+    let reply = AlgReply {
+        tables: &[3, 0x20, 2, 0, 5, 0x20, 1, 0],
+        ..REPLY
+    };
+    assert!(rt; !is_taken(&reply));
+}
+
+#[test]
+fn reply_of_another_key_schedule(rt: HostRuntime) {
+    let reply = AlgReply {
+        tables: &[3, 0x20, 1, 0, 5, 0x20, 3, 0],
+        ..REPLY
+    };
+    assert!(rt; !is_taken(&reply));
 }

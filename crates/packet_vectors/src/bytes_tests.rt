@@ -5,14 +5,40 @@ use spdm_basis::{
 use std::test::Fail;
 
 #[test]
-fn memory_alone_refuses(rt: HostRuntime) -> Result<(), Fail> {
+fn a_copy_holds_its_bytes(rt: HostRuntime) -> Result<(), Fail> {
     let copy = Bytes::copy(rt.alloc(), b"abc")?;
     assert_eq!(rt; copy.as_slice(), b"abc".as_slice());
+    Ok(())
+}
 
+#[test]
+fn a_source_is_read_to_its_end(rt: HostRuntime) -> Result<(), Fail> {
     let mut source = MemSource::new(rt.alloc(), b"abc", &[])?;
     let all = read_all(rt.alloc(), &mut source, 3)?;
     assert_eq!(rt; all.as_slice(), b"abc".as_slice());
+    Ok(())
+}
 
+#[test]
+fn a_longer_text_is_not_read(rt: HostRuntime) -> Result<(), Fail> {
+    let mut source = MemSource::new(rt.alloc(), b"abcd", &[])?;
+    let answer = read_all(rt.alloc(), &mut source, 3).err();
+    assert_eq!(rt; answer, Some(InFault::TooLong));
+    Ok(())
+}
+
+#[test]
+fn a_failed_read_takes_nothing(rt: HostRuntime) -> Result<(), Fail> {
+    let mut source = MemSource::new(rt.alloc(), b"abcd", &[0])?;
+    let answer = read_all(rt.alloc(), &mut source, 3).err();
+    assert_eq!(rt; answer, Some(InFault::ReadFault));
+    let all = read_all(rt.alloc(), &mut source, 4)?;
+    assert_eq!(rt; all.as_slice(), b"abcd".as_slice());
+    Ok(())
+}
+
+#[test]
+fn a_sink_holds_what_was_written(rt: HostRuntime) -> Result<(), Fail> {
     let mut sink = MemSink::new(rt.alloc(), 3, &[])?;
     assert!(rt; sink.as_slice().is_empty());
     write_all(&mut sink, b"abc")?;
@@ -21,21 +47,15 @@ fn memory_alone_refuses(rt: HostRuntime) -> Result<(), Fail> {
 }
 
 #[test]
-fn read_and_write_faults(rt: HostRuntime) -> Result<(), Fail> {
-    let mut source = MemSource::new(rt.alloc(), b"abcd", &[])?;
-    let answer = read_all(rt.alloc(), &mut source, 3).err();
-    assert_eq!(rt; answer, Some(InFault::TooLong));
-
-    let mut source = MemSource::new(rt.alloc(), b"abcd", &[0])?;
-    let answer = read_all(rt.alloc(), &mut source, 3).err();
-    assert_eq!(rt; answer, Some(InFault::ReadFault));
-    let all = read_all(rt.alloc(), &mut source, 4)?;
-    assert_eq!(rt; all.as_slice(), b"abcd".as_slice());
-
+fn a_failed_write_leaves_nothing(rt: HostRuntime) -> Result<(), Fail> {
     let mut sink = MemSink::new(rt.alloc(), 4, &[0])?;
     assert_eq!(rt; write_all(&mut sink, b"abcd"), Err(OutFault::WriteFault));
     assert!(rt; sink.as_slice().is_empty());
+    Ok(())
+}
 
+#[test]
+fn a_full_sink_keeps_what_it_took(rt: HostRuntime) -> Result<(), Fail> {
     let mut sink = MemSink::new(rt.alloc(), 3, &[])?;
     assert_eq!(rt; write_all(&mut sink, b"abcd"), Err(OutFault::WriteFault));
     assert_eq!(rt; sink.as_slice(), b"abc".as_slice());
@@ -43,10 +63,14 @@ fn read_and_write_faults(rt: HostRuntime) -> Result<(), Fail> {
 }
 
 #[test]
-fn end_points_and_keys_at_their_borders(rt: HostRuntime) {
+fn end_points_at_their_borders(rt: HostRuntime) {
     for (number, is_end_point) in [(0, false), (7, false), (8, true), (254, true), (255, false)] {
         assert_eq!(rt; Eid::new(number).is_some(), is_end_point, "at {number}");
     }
+}
+
+#[test]
+fn keys_at_their_borders(rt: HostRuntime) {
     assert!(rt; Psk::new(&[]).is_none());
     assert!(rt; Psk::new(&[9]).is_some_and(|psk| psk.as_slice() == [9].as_slice()));
     assert!(rt; Psk::new(&[9; 64]).is_some_and(|psk| psk.as_slice() == [9; 64].as_slice()));

@@ -4,6 +4,7 @@ use frame_stream::{
 };
 use mctp_framing::PacketList;
 use spdm_basis::{InFault, MemSink, MemSource, OutFault, Source};
+use std::alloc::Global;
 use std::test::Fail;
 
 const SERVED: Kinds = Kinds {
@@ -16,16 +17,28 @@ const DRIVEN: Kinds = Kinds {
     commands: true,
 };
 
+// A configuration of seven bytes, and a stream behind it.
+const INPUT: &[u8; 17] = b"ab\nend\n0123456789";
+
 #[test]
-fn a_text_has_at_most_so_many_bytes(rt: HostRuntime) -> Result<(), Fail> {
-    let input = b"ab\nend\n0123456789";
-    let mut source = MemSource::new(rt.alloc(), input, &[])?;
+fn a_text_ends_behind_its_last_line(rt: HostRuntime) -> Result<(), Fail> {
+    let mut source = MemSource::new(rt.alloc(), INPUT, &[])?;
     let read = read_text(rt.alloc(), &mut source, 7)?;
     assert_eq!(rt; read.text.as_slice(), b"ab\nend\n".as_slice());
-    let mut source = MemSource::new(rt.alloc(), input, &[])?;
+    Ok(())
+}
+
+#[test]
+fn a_text_has_at_most_so_many_bytes(rt: HostRuntime) -> Result<(), Fail> {
+    let mut source = MemSource::new(rt.alloc(), INPUT, &[])?;
     let answer = read_text(rt.alloc(), &mut source, 6).err();
     assert_eq!(rt; answer, Some(InFault::TooLong));
-    let mut source = MemSource::new(rt.alloc(), input, &[0])?;
+    Ok(())
+}
+
+#[test]
+fn reading_a_text_fails(rt: HostRuntime) -> Result<(), Fail> {
+    let mut source = MemSource::new(rt.alloc(), INPUT, &[0])?;
     let answer = read_text(rt.alloc(), &mut source, 7).err();
     assert_eq!(rt; answer, Some(InFault::ReadFault));
     Ok(())
@@ -81,43 +94,58 @@ fn reading_fails(rt: HostRuntime) -> Result<(), Fail> {
 
 #[test]
 fn frames_are_written(rt: HostRuntime) -> Result<(), Fail> {
-    let mut sink = MemSink::new(rt.alloc(), 12, &[])?;
+    let mut sink = MemSink::new(rt.alloc(), 10, &[])?;
     write_packet_frame(&mut sink, &[9, 8])?;
     write_line_frame(&mut sink, b"ok")?;
     assert_eq!(rt;
         sink.as_slice(),
         [1, 2, 0, 9, 8, 4, 2, 0, b'o', b'k'].as_slice()
     );
+    Ok(())
+}
+
+#[test]
+fn a_frame_is_cut_where_no_room_is_left(rt: HostRuntime) -> Result<(), Fail> {
+    let mut sink = MemSink::new(rt.alloc(), 2, &[])?;
     assert_eq!(rt;
         write_packet_frame(&mut sink, &[1]),
         Err(OutFault::WriteFault)
     );
-    assert_eq!(rt;
-        sink.as_slice(),
-        [1, 2, 0, 9, 8, 4, 2, 0, b'o', b'k', 1, 1].as_slice()
-    );
+    assert_eq!(rt; sink.as_slice(), [1, 1].as_slice());
+    Ok(())
+}
+
+// The packets 09 08, and no bytes.
+fn two_packets(alloc: Global) -> Result<PacketList, Fail> {
+    let mut packets = PacketList::new(alloc)?;
+    packets.push(&[9, 8]);
+    packets.push(&[]);
+    Ok(packets)
+}
+
+#[test]
+fn no_packets_are_no_frames(rt: HostRuntime) -> Result<(), Fail> {
+    let mut sink = MemSink::new(rt.alloc(), 12, &[])?;
+    write_packet_frames(&mut sink, &PacketList::new(rt.alloc())?)?;
+    assert_eq!(rt; sink.as_slice(), [].as_slice());
     Ok(())
 }
 
 #[test]
 fn packets_are_written(rt: HostRuntime) -> Result<(), Fail> {
-    let mut packets = PacketList::new(rt.alloc())?;
     let mut sink = MemSink::new(rt.alloc(), 12, &[])?;
-    write_packet_frames(&mut sink, &packets)?;
-    assert_eq!(rt; sink.as_slice(), [].as_slice());
-    packets.push(&[9, 8]);
-    packets.push(&[]);
-    packets.push(&[7]);
-    write_packet_frames(&mut sink, &packets)?;
+    write_packet_frames(&mut sink, &two_packets(rt.alloc())?)?;
+    assert_eq!(rt; sink.as_slice(), [1, 2, 0, 9, 8, 1, 0, 0].as_slice());
+    Ok(())
+}
+
+#[test]
+fn packets_are_written_as_far_as_room_goes(rt: HostRuntime) -> Result<(), Fail> {
+    let mut sink = MemSink::new(rt.alloc(), 7, &[])?;
     assert_eq!(rt;
-        sink.as_slice(),
-        [1, 2, 0, 9, 8, 1, 0, 0, 1, 1, 0, 7].as_slice()
-    );
-    let mut short = MemSink::new(rt.alloc(), 7, &[])?;
-    assert_eq!(rt;
-        write_packet_frames(&mut short, &packets),
+        write_packet_frames(&mut sink, &two_packets(rt.alloc())?),
         Err(OutFault::WriteFault)
     );
-    assert_eq!(rt; short.as_slice(), [1, 2, 0, 9, 8, 1, 0].as_slice());
+    assert_eq!(rt; sink.as_slice(), [1, 2, 0, 9, 8, 1, 0].as_slice());
     Ok(())
 }

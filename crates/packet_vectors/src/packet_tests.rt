@@ -1,4 +1,4 @@
-ghost use Rattle.std.specs.Prelude.{◌<◌};
+ghost use Rattle.std.specs.Prelude.{◌<◌, ◌≤◌, length};
 
 use mctp_framing::{
     Assembler, DropCause, Fed, Packet, PacketFault, PacketList, PacketView, Route, cut,
@@ -34,32 +34,33 @@ fn body_of_three_packets(rt: HostRuntime) -> Result<(), Fail> {
     Ok(())
 }
 
+// GET_VERSION in a packet.
+const GET_VERSION: &[u8] = &[0x01, 0x08, 0x09, 0xc8, 0x05, 0x10, 0x84, 0x00, 0x00];
+
 #[test]
 fn get_version_is_parsed(rt: HostRuntime) -> Result<(), Fail> {
-    let bytes = [0x01, 0x08, 0x09, 0xc8, 0x05, 0x10, 0x84, 0x00, 0x00];
-    let view = Packet::parse(&bytes).ok().ok_or("no packet")?;
-    assert_eq!(rt; view.to, 8);
-    assert_eq!(rt; view.from, 9);
+    let view = Packet::parse(GET_VERSION).ok().ok_or("no packet")?;
+    assert!(rt; view.to == 8 && view.from == 9);
     assert!(rt; view.start && view.end && view.owner);
-    assert_eq!(rt; view.sequence, 0);
-    assert_eq!(rt; view.tag, 0);
-    assert_eq!(rt; view.payload, [0x05, 0x10, 0x84, 0x00, 0x00].as_slice());
+    assert!(rt; view.sequence == 0 && view.tag == 0);
+    assert!(rt; view.payload == &GET_VERSION[4..]);
     Ok(())
 }
 
+// Packets, each with its fault.
+const FAULTS: [(&[u8], Option<PacketFault>); 5] = [
+    (&[], Some(PacketFault::Short)),
+    (&[2, 8, 9], Some(PacketFault::Short)),
+    (&[0, 8, 9, 0xc8], Some(PacketFault::WrongVersion)),
+    (&[0x12, 8, 9, 0xc8], Some(PacketFault::WrongVersion)),
+    (&[0xf1, 8, 9, 0xc8], None),
+];
+
 #[test]
 fn short_and_wrong_version(rt: HostRuntime) {
-    assert_eq!(rt; Packet::parse(&[]).err(), Some(PacketFault::Short));
-    assert_eq!(rt; Packet::parse(&[2, 8, 9]).err(), Some(PacketFault::Short));
-    assert_eq!(rt;
-        Packet::parse(&[0, 8, 9, 0xc8]).err(),
-        Some(PacketFault::WrongVersion)
-    );
-    assert_eq!(rt;
-        Packet::parse(&[0x12, 8, 9, 0xc8]).err(),
-        Some(PacketFault::WrongVersion)
-    );
-    assert_eq!(rt; Packet::parse(&[0xf1, 8, 9, 0xc8]).err(), None);
+    for (bytes, fault) in FAULTS {
+        assert_eq!(rt; Packet::parse(bytes).err(), fault);
+    }
 }
 
 // What a packet led to; of a whole body its length.
@@ -155,37 +156,63 @@ fn packets_are_answered_by_the_rules(rt: HostRuntime) -> Result<(), Fail> {
     Ok(())
 }
 
+// The packets of a body.
+fn list_of(alloc: Global, body: &[u8]) -> Result<PacketList, Fail>
+    requires filled { 0 < length body.now }
+    requires fits { length body.now ≤ 4161 }
+{
+    let mut list = PacketList::new(alloc)?;
+    list.fill(body, 64, request().ok_or("no route")?);
+    Ok(list)
+}
+
+// What a packet of the list leads to.
+fn told_of(assembler: &mut Assembler, list: &PacketList, index: usize) -> Result<Told, Fail> {
+    let bytes = list.get(index).ok_or("no packet")?;
+    let view = Packet::parse(bytes).ok().ok_or("no packet")?;
+    Ok(tell(assembler.take(view)))
+}
+
 #[test]
 fn three_packets_are_gathered(rt: HostRuntime) -> Result<(), Fail> {
-    let route = request().ok_or("no route")?;
-    let body = [5u8; 130];
-    let mut assembler = assembler(rt.alloc(), 130).ok_or("no memory")?;
-    let mut list = PacketList::new(rt.alloc())?;
-    list.fill(&body, 64, route);
+    let list = list_of(rt.alloc(), &[5; 130])?;
     assert_eq!(rt; list.len(), 3);
-    let cases = [
-        (0, Fed::More),
-        (1, Fed::More),
-        (2, Fed::Whole(route, body.as_slice())),
-        (0, Fed::More),
-        (2, Fed::Dropped(DropCause::WrongSequence)),
-    ];
-    for (index, told) in cases {
-        let bytes = list.get(index).ok_or("no packet")?;
-        let view = Packet::parse(bytes).ok().ok_or("no packet")?;
-        assert_eq!(rt; assembler.take(view), told);
+    let mut assembler = assembler(rt.alloc(), 130).ok_or("no memory")?;
+    for (index, told) in [
+        (0, Told::More),
+        (1, Told::More),
+        (2, Told::Whole(130)),
+        (0, Told::More),
+        (2, Told::Dropped(DropCause::WrongSequence)),
+    ] {
+        assert_eq!(rt; told_of(&mut assembler, &list, index)?, told);
+    }
+    Ok(())
+}
+
+#[test]
+fn bytes_are_gathered_in_their_order(rt: HostRuntime) -> Result<(), Fail> {
+    let mut assembler = assembler(rt.alloc(), 5).ok_or("no memory")?;
+    let _ = assembler.take(packet("S", 0, 0, &[1, 2, 3]));
+    match assembler.take(packet("E", 1, 0, &[4, 5])) {
+        Fed::Whole(_, body) => assert_eq!(rt; body, [1, 2, 3, 4, 5].as_slice()),
+        _ => assert!(rt; false),
     }
     Ok(())
 }
 
 #[test]
 fn largest_body_fits_into_a_list(rt: HostRuntime) -> Result<(), Fail> {
-    let body = [6u8; 4161];
-    let mut list = PacketList::new(rt.alloc())?;
-    list.fill(&body, 64, request().ok_or("no route")?);
+    let list = list_of(rt.alloc(), &[6; 4161])?;
     assert_eq!(rt; list.len(), 66);
     assert_eq!(rt; list.get(65), Some([1, 9, 8, 0x5b, 6].as_slice()));
     assert_eq!(rt; list.get(66), None);
+    Ok(())
+}
+
+#[test]
+fn cleared_list_is_empty(rt: HostRuntime) -> Result<(), Fail> {
+    let mut list = list_of(rt.alloc(), &[6; 4161])?;
     list.clear();
     assert!(rt; list.is_empty());
     Ok(())

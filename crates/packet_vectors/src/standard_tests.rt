@@ -43,30 +43,49 @@ impl Write for BrokenWriter {
 }
 
 #[test]
-fn a_reader_is_read_to_its_end_or_its_error(rt: HostRuntime) -> Result<(), Fail> {
+fn a_reader_is_read_to_its_end(rt: HostRuntime) -> Result<(), Fail> {
     let mut source = StdinSource::new(b"abcd".as_slice());
     let all = read_all(rt.alloc(), &mut source, 4)?;
     assert_eq!(rt; all.as_slice(), b"abcd".as_slice());
-
-    let mut source = StdinSource::new(BrokenReader { bytes: b"abcd" });
-    let mut piece = [0; 3];
-    assert_eq!(rt; source.read(&mut piece), Ok(3));
-    assert_eq!(rt; piece, *b"abc");
-    let answer = read_all(rt.alloc(), &mut source, 4).err();
-    assert_eq!(rt; answer, Some(InFault::ReadFault));
-    assert_eq!(rt; source.read(&mut piece), Err(Failed));
     Ok(())
 }
 
 #[test]
-fn a_writer_takes_all_or_the_write_fails(rt: HostRuntime) -> Result<(), Fail> {
+fn a_reader_is_read_to_its_error(rt: HostRuntime) -> Result<(), Fail> {
+    let mut source = StdinSource::new(BrokenReader { bytes: b"abcd" });
+    let answer = read_all(rt.alloc(), &mut source, 5).err();
+    assert_eq!(rt; answer, Some(InFault::ReadFault));
+    Ok(())
+}
+
+#[test]
+fn a_read_gives_what_there_is_or_fails(rt: HostRuntime) {
+    let mut source = StdinSource::new(BrokenReader { bytes: b"abc" });
+    let mut piece = [0; 3];
+    assert!(rt; source.read(&mut piece) == Ok(3));
+    assert!(rt; piece == *b"abc");
+    assert!(rt; source.read(&mut piece) == Err(Failed));
+}
+
+#[test]
+fn a_writer_takes_all(rt: HostRuntime) -> Result<(), Fail> {
     let mut sink = StdoutSink::new(Vec::new(rt.alloc()));
     write_all(&mut sink, b"abcd")?;
+    Ok(())
+}
 
+#[test]
+fn a_broken_writer_takes_nothing(rt: HostRuntime) {
     for fails in [true, false] {
         let mut sink = StdoutSink::new(BrokenWriter { fails });
         assert_eq!(rt; write_all(&mut sink, b"ab"), Err(OutFault::WriteFault));
+    }
+}
+
+#[test]
+fn a_write_that_takes_nothing_fails(rt: HostRuntime) {
+    for fails in [true, false] {
+        let mut sink = StdoutSink::new(BrokenWriter { fails });
         assert_eq!(rt; sink.write(b"ab"), Err(Failed));
     }
-    Ok(())
 }

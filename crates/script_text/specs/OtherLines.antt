@@ -4,8 +4,8 @@ use Rattle.std.specs.Prelude.{ℕ, List, [], ◌∷◌, codes, Option, Some, Non
 use Rattle.std.specs.Fmt.{decimal}
 use Rattle.script_text.specs.Spelling.{spelled, hex_word, id_word, requester_word}
 use Rattle.script_text.specs.TraceWords.{stage_word}
-use Rattle.script_text.specs.declared.why.Why.{Why}
-use Rattle.script_text.specs.declared.why.Why.TheVariants as why
+use Rattle.spdm_grammar.specs.declared.why.Why.{Why}
+use Rattle.spdm_grammar.specs.declared.why.Why.TheVariants as why
 use Rattle.spdm_basis.specs.declared.session_id.SessionId.{SessionId}
 use Rattle.spdm_grammar.specs.Message.{RequestMessage, ResponseMessage}
 use Rattle.spdm_grammar.specs.Message.RequestMessage.{GetVersion, GetCapabilities, NegotiateAlgorithms, GetMeasurements, PskExchange, PskFinish, Heartbeat, KeyUpdate, EndSession, ChunkSend, ChunkGet}

@@ -47,7 +47,6 @@ mod suite_line;
 mod text_words;
 mod trace_lines;
 mod trace_words;
-mod why;
 mod words;
 
 pub use capture_text::parse_capture;
@@ -79,4 +78,3 @@ pub use trace_lines::{
     line_at, line_command, line_data, line_event, line_heard, line_no_packet, line_nobody,
     line_packet, line_record, line_reply, line_session, line_state,
 };
-pub use why::Why;

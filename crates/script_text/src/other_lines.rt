@@ -4,9 +4,8 @@ ghost use Rattle.script_text.specs.OtherLines.{cycle_text, conforms_text, seen_s
 
 use crate::print::{begin, end_line, push_hash, push_id, push_number, push_requester, push_word};
 use crate::trace_words::stage_word;
-use crate::why::Why;
 use spdm_basis::{HashBytes, Line, SessionId};
-use spdm_grammar::{Malformed, Part, Request, Response, Stage};
+use spdm_grammar::{Malformed, Part, Request, Response, Stage, Why};
 
 /// All ends start again, with this boot number.
 #[tactic(auto, unfolding(crate::specs::OtherLines::cycle_text))]

@@ -1,6 +1,6 @@
 //! What a requester and a responder are made of: limits and faults. There is nothing here but tests.
 //!
-//! Read first: `first_fault_of_the_requesters` in `src/responder_tests.rt`.
+//! Read first: `long_hint` in `src/responder_tests.rt`.
 #![tactic(auto)]
 
 #[cfg(test)]

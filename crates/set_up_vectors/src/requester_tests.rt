@@ -31,62 +31,96 @@ fn config<'a>() -> Result<ReqConfig<'a>, Fail> {
 }
 
 // That a set-up is out of its range.
-fn out_of_range(rt: &impl Abort, config: ReqConfig<'_>) {
+fn out_of_range(rt: &impl Abort, config: ReqConfig<'_>) -> Result<(), Fail> {
     assert_eq!(rt; config.fault(), Some(ReqConfigFault::SizeRange));
+    Ok(())
 }
 
 #[test]
-fn ranges_of_a_set_up(rt: HostRuntime) -> Result<(), Fail> {
-    assert_eq!(rt; config()?.fault(), None);
+fn transfer_size_of_41(rt: HostRuntime) -> Result<(), Fail> {
     out_of_range(
         &rt,
         ReqConfig {
             transfer: 41,
             ..config()?
         },
-    );
+    )
+}
+
+#[test]
+fn message_size_above_the_transfer_size(rt: HostRuntime) -> Result<(), Fail> {
     out_of_range(
         &rt,
         ReqConfig {
             max: 43,
             ..config()?
         },
-    );
+    )
+}
+
+#[test]
+fn unit_of_63(rt: HostRuntime) -> Result<(), Fail> {
     out_of_range(
         &rt,
         ReqConfig {
             unit: 63,
             ..config()?
         },
-    );
+    )
+}
+
+#[test]
+fn unit_of_1025(rt: HostRuntime) -> Result<(), Fail> {
     out_of_range(
         &rt,
         ReqConfig {
             unit: 1025,
             ..config()?
         },
-    );
+    )
+}
+
+#[test]
+fn padding_of_17(rt: HostRuntime) -> Result<(), Fail> {
     out_of_range(
         &rt,
         ReqConfig {
             pad: 17,
             ..config()?
         },
-    );
+    )
+}
+
+#[test]
+fn hint_of_65(rt: HostRuntime) -> Result<(), Fail> {
     out_of_range(
         &rt,
         ReqConfig {
             hint: &[0; 65],
             ..config()?
         },
-    );
+    )
+}
+
+#[test]
+fn opaque_data_of_1025(rt: HostRuntime) -> Result<(), Fail> {
     out_of_range(
         &rt,
         ReqConfig {
             opaque: &[0; 1025],
             ..config()?
         },
-    );
+    )
+}
+
+#[test]
+fn least_set_up(rt: HostRuntime) -> Result<(), Fail> {
+    assert_eq!(rt; config()?.fault(), None);
+    Ok(())
+}
+
+#[test]
+fn widest_set_up(rt: HostRuntime) -> Result<(), Fail> {
     let widest = ReqConfig {
         unit: 1024,
         pad: 16,

@@ -45,109 +45,173 @@ fn fault(alloc: Global, config: &RspConfig<'_>) -> Option<RspConfigFault> {
 }
 
 #[test]
-fn first_fault_of_the_requesters(rt: HostRuntime) -> Result<(), Fail> {
+fn requester_of_another_end_point(rt: HostRuntime) -> Result<(), Fail> {
     let alloc = rt.alloc();
     let one = [known(alloc, 9, &[1], &[7; 64])?];
     assert_eq!(rt; fault(alloc, &config(&one, &[])?), None);
-    let own = [known(alloc, 8, &[1], &[])?];
-    assert_eq!(rt;
-        fault(alloc, &config(&own, &[])?),
-        Some(RspConfigFault::SameEid)
-    );
-    let two = [known(alloc, 9, &[1], &[])?, known(alloc, 9, &[1], &[])?];
-    assert_eq!(rt;
-        fault(alloc, &config(&two, &[])?),
-        Some(RspConfigFault::SameEid)
-    );
-    let keys = [
-        known(alloc, 9, &[1], &[])?,
-        known(alloc, 10, &[1], &[0; 65])?,
-    ];
-    assert_eq!(rt;
-        fault(alloc, &config(&keys, &[])?),
-        Some(RspConfigFault::SamePsk)
-    );
-    let hint = [
-        known(alloc, 9, &[1], &[])?,
-        known(alloc, 10, &[2], &[0; 65])?,
-    ];
-    assert_eq!(rt;
-        fault(alloc, &config(&hint, &[])?),
-        Some(RspConfigFault::SizeRange)
-    );
     Ok(())
 }
 
-// A change of a sound set-up that puts it out of its range.
-fn out_of_range(rt: &impl Abort, alloc: Global, config: RspConfig<'_>) {
-    assert_eq!(rt; fault(alloc, &config), Some(RspConfigFault::SizeRange));
+#[test]
+fn requester_of_the_own_end_point(rt: HostRuntime) -> Result<(), Fail> {
+    let alloc = rt.alloc();
+    let own = [known(alloc, 8, &[1], &[])?];
+    let answer = fault(alloc, &config(&own, &[])?);
+    assert_eq!(rt; answer, Some(RspConfigFault::SameEid));
+    Ok(())
+}
+
+// The fault of two requesters, the first of which is of end point 9, with the key 01 and no hint.
+fn fault_of_two(alloc: Global, second: Known) -> Result<Option<RspConfigFault>, Fail> {
+    let two = [known(alloc, 9, &[1], &[])?, second];
+    Ok(fault(alloc, &config(&two, &[])?))
 }
 
 #[test]
-fn limits_of_configuration(rt: HostRuntime) -> Result<(), Fail> {
-    let sound = config(&[], &[])?;
-    let chunks = FlagSet {
-        chunk: true,
-        ..sound.flags
-    };
+fn same_end_point_twice(rt: HostRuntime) -> Result<(), Fail> {
+    let alloc = rt.alloc();
+    let answer = fault_of_two(alloc, known(alloc, 9, &[1], &[])?)?;
+    assert_eq!(rt; answer, Some(RspConfigFault::SameEid));
+    Ok(())
+}
+
+#[test]
+fn same_key_twice_before_a_long_hint(rt: HostRuntime) -> Result<(), Fail> {
+    let alloc = rt.alloc();
+    let answer = fault_of_two(alloc, known(alloc, 10, &[1], &[0; 65])?)?;
+    assert_eq!(rt; answer, Some(RspConfigFault::SamePsk));
+    Ok(())
+}
+
+#[test]
+fn long_hint(rt: HostRuntime) -> Result<(), Fail> {
+    let alloc = rt.alloc();
+    let answer = fault_of_two(alloc, known(alloc, 10, &[2], &[0; 65])?)?;
+    assert_eq!(rt; answer, Some(RspConfigFault::SizeRange));
+    Ok(())
+}
+
+// That a set-up is out of its range.
+fn out_of_range(rt: &(impl AllocGlobal + Abort), config: RspConfig<'_>) -> Result<(), Fail> {
+    assert_eq!(rt; fault(rt.alloc(), &config), Some(RspConfigFault::SizeRange));
+    Ok(())
+}
+
+// A responder that knows nobody and has nothing to measure.
+fn lone<'a>() -> Result<RspConfig<'a>, Fail> {
+    config(&[], &[])
+}
+
+// The same, which takes large messages by chunks.
+fn with_chunks<'a>() -> Result<RspConfig<'a>, Fail> {
+    let lone = lone()?;
+    Ok(RspConfig {
+        flags: FlagSet {
+            chunk: true,
+            ..lone.flags
+        },
+        ..lone
+    })
+}
+
+#[test]
+fn transfer_size_of_41(rt: HostRuntime) -> Result<(), Fail> {
     out_of_range(
         &rt,
-        rt.alloc(),
         RspConfig {
             transfer: 41,
-            ..sound
+            ..lone()?
         },
-    );
-    out_of_range(&rt, rt.alloc(), RspConfig { max: 43, ..sound });
+    )
+}
+
+#[test]
+fn message_size_above_the_transfer_size(rt: HostRuntime) -> Result<(), Fail> {
+    out_of_range(&rt, RspConfig { max: 43, ..lone()? })
+}
+
+#[test]
+fn message_size_of_4097(rt: HostRuntime) -> Result<(), Fail> {
     out_of_range(
         &rt,
-        rt.alloc(),
         RspConfig {
             max: 4097,
-            flags: chunks,
-            ..sound
+            ..with_chunks()?
         },
-    );
-    out_of_range(&rt, rt.alloc(), RspConfig { unit: 63, ..sound });
+    )
+}
+
+#[test]
+fn unit_of_63(rt: HostRuntime) -> Result<(), Fail> {
     out_of_range(
         &rt,
-        rt.alloc(),
+        RspConfig {
+            unit: 63,
+            ..lone()?
+        },
+    )
+}
+
+#[test]
+fn unit_of_1025(rt: HostRuntime) -> Result<(), Fail> {
+    out_of_range(
+        &rt,
         RspConfig {
             unit: 1025,
-            ..sound
+            ..lone()?
         },
-    );
+    )
+}
+
+#[test]
+fn opaque_data_of_1025(rt: HostRuntime) -> Result<(), Fail> {
     out_of_range(
         &rt,
-        rt.alloc(),
         RspConfig {
             opaque: &[0; 1025],
-            ..sound
+            ..lone()?
         },
-    );
+    )
+}
+
+#[test]
+fn widest_set_up(rt: HostRuntime) -> Result<(), Fail> {
     let widest = RspConfig {
         max: 4096,
-        flags: chunks,
         unit: 1024,
         opaque: &[0; 1024],
-        ..sound
+        ..with_chunks()?
     };
     assert_eq!(rt; fault(rt.alloc(), &widest), None);
     Ok(())
 }
 
-#[test]
-fn blocks_come_last(rt: HostRuntime) -> Result<(), Fail> {
-    let block = BlockSpec {
+// A block of index 0, which no block has.
+fn wrong_block(alloc: Global) -> BlockSpec {
+    BlockSpec {
         index: 0,
         value_type: 0,
         tcb: true,
-        value: Bytes::new(rt.alloc()),
-    };
-    let blocks = [block];
-    let sound = config(&[], &blocks)?;
-    let index = Some(RspConfigFault::Inventory(InventoryFault::IndexOutOfRange));
-    assert_eq!(rt; fault(rt.alloc(), &sound), index);
-    out_of_range(&rt, rt.alloc(), RspConfig { unit: 63, ..sound });
+        value: Bytes::new(alloc),
+    }
+}
+
+#[test]
+fn block_of_index_0(rt: HostRuntime) -> Result<(), Fail> {
+    let blocks = [wrong_block(rt.alloc())];
+    let index = RspConfigFault::Inventory(InventoryFault::IndexOutOfRange);
+    assert_eq!(rt; fault(rt.alloc(), &config(&[], &blocks)?), Some(index));
     Ok(())
+}
+
+#[test]
+fn blocks_come_last(rt: HostRuntime) -> Result<(), Fail> {
+    let blocks = [wrong_block(rt.alloc())];
+    out_of_range(
+        &rt,
+        RspConfig {
+            unit: 63,
+            ..config(&[], &blocks)?
+        },
+    )
 }

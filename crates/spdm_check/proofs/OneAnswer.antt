@@ -15,8 +15,8 @@ use Rattle.script_text.specs.ScriptText.{capture_in}
 use Rattle.script_text.specs.declared.config_text.TheConstants.{TEXT_LIMIT}
 use Rattle.script_text.specs.declared.faults.ScriptFault.{ScriptFault}
 use Rattle.script_text.specs.declared.script.Capture.{Capture}
-use Rattle.script_text.specs.declared.why.Why as declared
-use Rattle.script_text.specs.declared.why.Why.TheVariants as why
+use Rattle.spdm_grammar.specs.declared.why.Why as declared
+use Rattle.spdm_grammar.specs.declared.why.Why.TheVariants as why
 use Rattle.spdm_basis.specs.Stream.{Gives, HasFault, IsQuiet}
 use Rattle.world_machine.proofs.Captures.{beginning, has_table}
 use Rattle.world_machine.proofs.WalksAlike.{one_reason, one_table}

@@ -1,6 +1,7 @@
 ghost use Rattle.std.specs.Prelude.{◌≡◌};
 
-use script_text::{LineFault, Why};
+use script_text::LineFault;
+use spdm_grammar::Why;
 
 /// What a command came to.
 #[derive(Clone, Copy, Debug, PartialEq, Eq)]

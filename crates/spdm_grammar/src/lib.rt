@@ -26,6 +26,7 @@ mod response;
 mod session_list;
 mod session_view;
 mod tables;
+mod why;
 
 pub use algorithms::{AlgOffer, AlgReply};
 pub use block_spec::BlockSpec;
@@ -51,3 +52,4 @@ pub use response::Response;
 pub use session_list::SessionList;
 pub use session_view::SessionView;
 pub use spdm_basis::{AeadAlg, HashAlg};
+pub use why::Why;

@@ -1,3 +1,4 @@
+use crate::expected::expect_bytes;
 use aes_gcm::{Aes128Gcm, Aes256Gcm, BadTag};
 use std::process::Abort;
 use std::test::Fail;
@@ -51,18 +52,6 @@ fn iv_of(text: &str) -> Result<[u8; 12], Fail> {
     let mut iv = [0u8; 12];
     hex::decode_to_slice(text, &mut iv)?;
     Ok(iv)
-}
-
-// That bytes are these, in hexadecimal.
-fn expect_bytes(
-    rt: &(impl Abort + Alloc),
-    bytes: &[u8],
-    want: &str,
-    what: &str,
-) -> Result<(), Fail> {
-    let text = hex::encode(rt.alloc(), bytes)?;
-    assert_eq!(rt; text.as_str(), want, "{what}");
-    Ok(())
 }
 
 // A test case of "The Galois/Counter Mode of Operation" by McGrew and Viega, appendix B: a key, an IV,

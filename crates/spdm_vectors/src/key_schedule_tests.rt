@@ -1,6 +1,7 @@
 ghost use Rattle.std.specs.Prelude.{◌≡◌, length};
 ghost use Rattle.spdm_basis.specs.Sizes.{hash_size};
 
+use crate::expected::expect_bytes;
 use key_schedule::{AppKeys, DirectionKey, HandshakeKeys};
 use spdm_basis::{AeadAlg, HashAlg, HashBytes, Psk};
 use std::process::Abort;
@@ -141,18 +142,8 @@ fn hash_of_pieces(hash: HashAlg, first: &[u8], second: &[u8]) -> HashBytes
 
 // That a key and its initialization vector are these.
 fn expect_pair(rt: &(impl Abort + Alloc), key: &DirectionKey, want: &Pair) -> Result<(), Fail> {
-    let text = hex::encode(rt.alloc(), key.key())?;
-    assert_eq!(rt; text.as_str(), want.key);
-    let text = hex::encode(rt.alloc(), key.iv().as_slice())?;
-    assert_eq!(rt; text.as_str(), want.iv);
-    Ok(())
-}
-
-// That verify data are these bytes.
-fn expect_verify(rt: &(impl Abort + Alloc), verify: &HashBytes, want: &str) -> Result<(), Fail> {
-    let text = hex::encode(rt.alloc(), verify.as_slice())?;
-    assert_eq!(rt; text.as_str(), want);
-    Ok(())
+    expect_bytes(rt, key.key(), want.key, "key")?;
+    expect_bytes(rt, key.iv().as_slice(), want.iv, "initialization vector")
 }
 
 // That a key and those that follow it by two key updates are these.
@@ -170,33 +161,52 @@ fn expect_updates(
     Ok(())
 }
 
+// The keys of the handshake of a schedule.
+fn handshake_of(schedule: &Schedule, psk: &Psk) -> HandshakeKeys
+    ensures { result.hash ≡ schedule.now.hash }
+{
+    let th1 = hash_of_pieces(schedule.hash, b"a", b"bc");
+    HandshakeKeys::derive(schedule.hash, schedule.aead, psk, &th1)
+}
+
+// That the keys of the handshake are those of a schedule.
+fn expect_handshake(rt: &(impl Abort + Alloc), schedule: &Schedule, psk: &Psk) -> Result<(), Fail> {
+    let handshake = handshake_of(schedule, psk);
+    assert_eq!(rt; handshake.request_key().aead(), schedule.aead);
+    expect_pair(rt, &handshake.request_key(), &schedule.request.handshake)?;
+    expect_pair(rt, &handshake.response_key(), &schedule.response.handshake)
+}
+
+// That the verify data are those of a schedule.
+fn expect_verify(rt: &(impl Abort + Alloc), schedule: &Schedule, psk: &Psk) -> Result<(), Fail> {
+    let handshake = handshake_of(schedule, psk);
+    let th1 = hash_of_pieces(schedule.hash, b"a", b"bc");
+    let verify = handshake.responder_verify(&th1);
+    expect_bytes(rt, verify.as_slice(), schedule.response.verify, "responder")?;
+    let thv = hash_of_pieces(schedule.hash, b"gh", b"i");
+    let verify = handshake.requester_verify(&thv);
+    expect_bytes(rt, verify.as_slice(), schedule.request.verify, "requester")
+}
+
+// That the keys after the handshake are those of a schedule, in each epoch.
+fn expect_application(
+    rt: &(impl Abort + Alloc),
+    schedule: &Schedule,
+    psk: &Psk,
+) -> Result<(), Fail> {
+    let th2 = hash_of_pieces(schedule.hash, b"", b"def");
+    let app = AppKeys::derive(&handshake_of(schedule, psk), &th2);
+    expect_updates(rt, app.request, &schedule.request.application)?;
+    expect_updates(rt, app.response, &schedule.response.application)
+}
+
 #[test]
 fn schedule_over_given_transcripts(rt: HostRuntime) -> Result<(), Fail> {
     let psk = Psk::new(PSK).ok_or("no key")?;
     for schedule in &SCHEDULES {
-        let hash = schedule.hash;
-        let th1 = hash_of_pieces(hash, b"a", b"bc");
-        let thv = hash_of_pieces(hash, b"gh", b"i");
-        let th2 = hash_of_pieces(hash, b"", b"def");
-        let handshake = HandshakeKeys::derive(hash, schedule.aead, &psk, &th1);
-        let request = handshake.request_key();
-        let response = handshake.response_key();
-        assert_eq!(rt; request.aead(), schedule.aead);
-        expect_pair(&rt, &request, &schedule.request.handshake)?;
-        expect_pair(&rt, &response, &schedule.response.handshake)?;
-        expect_verify(
-            &rt,
-            &handshake.responder_verify(&th1),
-            schedule.response.verify,
-        )?;
-        expect_verify(
-            &rt,
-            &handshake.requester_verify(&thv),
-            schedule.request.verify,
-        )?;
-        let app = AppKeys::derive(&handshake, &th2);
-        expect_updates(&rt, app.request, &schedule.request.application)?;
-        expect_updates(&rt, app.response, &schedule.response.application)?;
+        expect_handshake(&rt, schedule, &psk)?;
+        expect_verify(&rt, schedule, &psk)?;
+        expect_application(&rt, schedule, &psk)?;
     }
     Ok(())
 }

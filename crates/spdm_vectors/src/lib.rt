@@ -9,6 +9,8 @@ mod aes_tests;
 #[cfg(test)]
 mod draw_tests;
 #[cfg(test)]
+mod expected;
+#[cfg(test)]
 mod gcm_tests;
 #[cfg(test)]
 mod ghash_tests;

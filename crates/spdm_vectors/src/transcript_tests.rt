@@ -2,7 +2,9 @@ ghost use Rattle.std.specs.Prelude.{◌≡◌, ℕ, List};
 ghost use Rattle.running_hash.specs.Hash.{hash_of};
 ghost use Rattle.transcript.specs.Lane.{StandsFor, lane_hash};
 
+use crate::expected::expect_bytes;
 use spdm_basis::{HashAlg, HashBytes};
+use std::process::Abort;
 use std::test::Fail;
 use transcript::{Lane, Vca};
 
@@ -31,20 +33,25 @@ const CASES: [Case; 3] = [
     },
 ];
 
+// That a lane over a hash function has this hash of a text that is pushed in two pieces.
+fn expect_hash(
+    rt: &(impl Abort + Alloc),
+    hash: HashAlg,
+    (first, second): (&[u8], &[u8]),
+    want: &str,
+) -> Result<(), Fail> {
+    let mut lane = Lane::new(hash);
+    lane.push(first);
+    lane.push(second);
+    expect_bytes(rt, lane.finish().as_slice(), want, "hash")
+}
+
 #[test]
 fn lane_hashes_what_was_pushed(rt: HostRuntime) -> Result<(), Fail> {
     for case in &CASES {
-        let (first, second) = case.text.split_at(case.text.len() / 3);
-        let mut short = Lane::new(HashAlg::Sha256);
-        short.push(first);
-        short.push(second);
-        let text = hex::encode(rt.alloc(), short.finish().as_slice())?;
-        assert_eq!(rt; text.as_str(), case.sha_256);
-        let mut long = Lane::new(HashAlg::Sha384);
-        long.push(first);
-        long.push(second);
-        let text = hex::encode(rt.alloc(), long.finish().as_slice())?;
-        assert_eq!(rt; text.as_str(), case.sha_384);
+        let pieces = case.text.split_at(case.text.len() / 3);
+        expect_hash(&rt, HashAlg::Sha256, pieces, case.sha_256)?;
+        expect_hash(&rt, HashAlg::Sha384, pieces, case.sha_384)?;
     }
     Ok(())
 }
@@ -60,12 +67,14 @@ fn hash_so_far(lane: &Lane) -> HashBytes
 #[test]
 fn lane_goes_on_after_a_copy(rt: HostRuntime) -> Result<(), Fail> {
     let mut lane = Lane::new(HashAlg::Sha256);
-    let empty = hex::encode(rt.alloc(), hash_so_far(&lane).as_slice())?;
-    assert_eq!(rt; empty.as_str(), CASES[0].sha_256);
+    expect_bytes(
+        &rt,
+        hash_so_far(&lane).as_slice(),
+        CASES[0].sha_256,
+        "empty",
+    )?;
     lane.push(b"abc");
-    let whole = hex::encode(rt.alloc(), lane.finish().as_slice())?;
-    assert_eq!(rt; whole.as_str(), CASES[1].sha_256);
-    Ok(())
+    expect_bytes(&rt, lane.finish().as_slice(), CASES[1].sha_256, "whole")
 }
 
 #[test]

@@ -82,37 +82,64 @@ fn fails(
     Ok((outcome, Vec::from_slice(rt.alloc(), sink.as_slice())?))
 }
 
-// Each call of the outside fails once, in a run of its own, as far as one is made: what was written is a prefix then.
+// The same where the read, or the write, of this number fails.
+fn fails_once(
+    rt: &impl AllocGlobal,
+    input: (&str, &[u8]),
+    is_read: bool,
+    call: u64,
+) -> Result<(Outcome, Vec<u8>), Fail> {
+    if is_read {
+        fails(rt, input, &[call], &[], &[])
+    } else {
+        fails(rt, input, &[], &[call], &[])
+    }
+}
+
+// That what was written before a fault is a beginning of the whole: none of it, where a text could not be read.
+fn expect_prefix(rt: &impl Abort, word: &str, is_read: bool, written: &[u8], whole: &[u8]) {
+    assert!(rt; whole.starts_with(written));
+    assert!(rt; written.len() < whole.len() || is_read);
+    let is_stream = word == "serve" || word == "drive";
+    assert!(rt; is_stream || !is_read || written.is_empty());
+}
+
+// That each read, or each write, leads to its fault where it fails, as far as one is made.
+fn expect_faults(
+    rt: &(impl AllocGlobal + Abort),
+    input: (&str, &[u8]),
+    is_read: bool,
+    whole: &[u8],
+) -> Result<(), Fail> {
+    let fault = if is_read {
+        Outcome::ReadFault
+    } else {
+        Outcome::WriteFault
+    };
+    let mut reached: u64 = 0;
+    for call in 0..16u64 {
+        let (outcome, written) = fails_once(rt, input, is_read, call)?;
+        if outcome == Outcome::Done {
+            assert_eq!(rt; written.as_slice(), whole);
+            break;
+        }
+        assert_eq!(rt; outcome, fault);
+        expect_prefix(rt, input.0, is_read, written.as_slice(), whole);
+        reached = call.wrapping_add(1);
+    }
+    assert!(rt; 2 <= reached && reached < 16);
+    Ok(())
+}
+
+// Each call of the outside fails once, in a run of its own.
 #[test]
 fn each_call_fails(rt: HostRuntime) -> Result<(), Fail> {
     for input in INPUTS {
         let (outcome, whole) = fails(&rt, input, &[], &[], &[])?;
         assert_eq!(rt; outcome, Outcome::Done);
         assert!(rt; whole.len() > 16);
-        for (fault, is_read) in [(Outcome::ReadFault, true), (Outcome::WriteFault, false)] {
-            let mut reached: u64 = 0;
-            for call in 0..16 {
-                let call = [call];
-                let (reads, writes): (&[u64], &[u64]) = if is_read {
-                    (&call, &[])
-                } else {
-                    (&[], &call)
-                };
-                let (outcome, written) = fails(&rt, input, reads, writes, &[])?;
-                if outcome == Outcome::Done {
-                    assert_eq!(rt; written.as_slice(), whole.as_slice());
-                    break;
-                }
-                reached = call[0].wrapping_add(1);
-                assert_eq!(rt; outcome, fault);
-                assert!(rt; written.len() < whole.len() || is_read);
-                assert!(rt; whole.as_slice().starts_with(written.as_slice()));
-                assert!(rt;
-                    input.0 == "serve" || input.0 == "drive" || !is_read || written.is_empty()
-                );
-            }
-            assert!(rt; 2 <= reached && reached < 16);
-        }
+        expect_faults(&rt, input, true, whole.as_slice())?;
+        expect_faults(&rt, input, false, whole.as_slice())?;
     }
     Ok(())
 }
@@ -216,10 +243,14 @@ fn expect_moved(rt: &(impl AllocGlobal + Abort), counts: &[usize]) -> Result<(),
     Ok(())
 }
 
-// One byte a call, and counts that were drawn once from 1 to 40.
+#[test]
+fn calls_that_move_one_byte(rt: HostRuntime) -> Result<(), Fail> {
+    expect_moved(&rt, &[1])
+}
+
+// Counts that were drawn once from 1 to 40.
 #[test]
 fn calls_that_move_few_bytes(rt: HostRuntime) -> Result<(), Fail> {
-    expect_moved(&rt, &[1])?;
     expect_moved(
         &rt,
         &[

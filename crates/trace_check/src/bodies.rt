@@ -18,8 +18,8 @@ use capture_laws::{Round, SessionTable};
 use connection::Setup;
 use fetched_ends::MarkedEnds;
 use mctp_framing::Route;
-use script_text::Why;
 use spdm_basis::OutOfMemory;
+use spdm_grammar::Why;
 
 // A request of at most 4,161 bytes came whole: it goes on, and so does the round, or it is refused and
 // then why.

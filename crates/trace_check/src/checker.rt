@@ -7,8 +7,9 @@ ghost use Rattle.world_machine.specs.Setup.{Configuration};
 use crate::{Answering, JudgedPair};
 use capture_laws::SessionTable;
 use mctp_framing::{Packet, PacketView};
-use script_text::{ReqPart, ScriptConfig, Why};
+use script_text::{ReqPart, ScriptConfig};
 use spdm_basis::{Eid, OutOfMemory};
+use spdm_grammar::Why;
 use std::alloc::Global;
 
 /// The requesters of a capture and its responder after some packets that conform, and the sessions

@@ -9,8 +9,9 @@ use capture_ends::{Asker, Party, walks_show};
 use capture_laws::{Round, SessionTable};
 use fetched_ends::MarkedEnds;
 use mctp_framing::{Assembler, Fed, PacketView};
-use script_text::{ReqPart, Why};
+use script_text::ReqPart;
 use spdm_basis::{Bytes, Eid, OutOfMemory, Psk};
+use spdm_grammar::Why;
 use std::alloc::Global;
 
 // How long a body may be: its type and a record of 4,160 bytes.

@@ -7,7 +7,7 @@ ghost use Rattle.world_machine.specs.Difference.{is_other_type};
 
 use capture_laws::Round;
 use mctp_framing::Route;
-use script_text::Why;
+use spdm_grammar::Why;
 
 // The types of a body: an SPDM message in the clear (DSP0275), and a secured record (DSP0276).
 const CLEAR: u8 = 5;

@@ -16,7 +16,7 @@ use Rattle.fetched_ends.specs.declared.upon.Upon.TheVariants as upon
 use Rattle.large_answers.specs.Fetching.{Fetching}
 use Rattle.requester_machine.specs.May.{IsSetUp}
 use Rattle.world_machine.specs.Rounds.{Dialogue}
-use Rattle.script_text.specs.declared.why.Why as declared_why
+use Rattle.spdm_grammar.specs.declared.why.Why as declared_why
 use Rattle.fetched_ends.proofs.held_replies.replies_held.Goals as goal
 
 -- GET_VERSION came.

@@ -2,7 +2,7 @@ use Rattle.std.proofs.Common.{◌≡◌, ◌∙◌, sym, ap, subst, None, Result
 use Rattle.std.specs.Prelude.{IfOk}
 use Rattle.mctp_framing.specs.Cutting.{route_of}
 use Rattle.mctp_framing.specs.Gathering.Gathered.{Whole}
-use Rattle.script_text.specs.declared.why.Why as declared
+use Rattle.spdm_grammar.specs.declared.why.Why as declared
 use Rattle.spdm_basis.specs.declared.OutOfMemory.{OutOfMemory}
 use Rattle.fetched_ends.specs.MarkedEnds.{IsJudgedAnswer}
 use Rattle.capture_laws.specs.Order.{answered_why}

@@ -1,6 +1,6 @@
 use Rattle.std.proofs.Common.{◌≡◌, ◌<◌, ◌≤◌, ◌+◌, ◌∙◌, ◌∷◌, ℕ, List, Result, Ok, arith, ap, sym, subst, length, map, reverse, take, get_or}
 use Rattle.configured_ends.specs.Configured.{configuration_in}
-use Rattle.script_text.specs.declared.why.Why as declared
+use Rattle.spdm_grammar.specs.declared.why.Why as declared
 use Rattle.capture_laws.specs.Judged.{why_of}
 use Rattle.capture_laws.specs.Verdict.{seen_of}
 use Rattle.capture_laws.specs.declared.verdict.Seen.{Seen}

@@ -1,5 +1,5 @@
 use Rattle.std.proofs.Common.{refl, subst, Result}
-use Rattle.script_text.specs.declared.why.Why as declared
+use Rattle.spdm_grammar.specs.declared.why.Why as declared
 use Rattle.capture_ends.proofs.PartyAsked.{beside_of, large_or_refused, whole_by}
 use Rattle.capture_ends.proofs.CarriedBy.{keeps_carries}
 use Rattle.capture_ends.proofs.party.Party.asks.Goals as goal

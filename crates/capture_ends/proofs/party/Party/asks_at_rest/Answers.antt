@@ -1,5 +1,5 @@
 use Rattle.std.proofs.Common.{Option, Result, subst}
-use Rattle.script_text.specs.declared.why.Why as declared
+use Rattle.spdm_grammar.specs.declared.why.Why as declared
 use Rattle.capture_ends.proofs.BeginsTold.{beginning_on, refused_on, whole_on}
 use Rattle.capture_ends.proofs.PartyAsked.{beside_of, whole_by}
 use Rattle.capture_ends.proofs.CarriedBy.{keeps_carries}

@@ -1,6 +1,6 @@
 use Rattle.std.proofs.Common.{Err, Ok, refl, sym}
 use Rattle.mctp_framing.specs.Packet.{view_of}
-use Rattle.script_text.specs.declared.why.Why.TheVariants as why
+use Rattle.spdm_grammar.specs.declared.why.Why.TheVariants as why
 use Rattle.capture_laws.proofs.Telling.{parsed_told}
 use Rattle.capture_laws.proofs.order.Order.take.Goals as goal
 

@@ -4,7 +4,7 @@ use Rattle.mctp_framing.specs.Cutting.{route_of}
 use Rattle.mctp_framing.specs.Gathering.{Receiver}
 use Rattle.mctp_framing.specs.Gathering.Gathered.{Dropped, More, Whole}
 use Rattle.mctp_framing.specs.Packet.{view_of}
-use Rattle.script_text.specs.declared.why.Why.TheVariants as why
+use Rattle.spdm_grammar.specs.declared.why.Why.TheVariants as why
 use Rattle.spdm_machine.specs.Packets.{fields_in}
 use Rattle.std.specs.Prelude.{Ok, Err}
 use Rattle.capture_laws.proofs.Kept.{asked_kept, asked_told, few_waiting}

@@ -5,7 +5,7 @@ use Rattle.capture_ends.specs.declared.onward.Onward.{Onward}
 use Rattle.fetched_ends.proofs.judged_ends.JudgedEnds.replies_meanwhile.Goals as goal
 use Rattle.fetched_ends.specs.JudgedEnds.{MayBegin, StandsAs}
 use Rattle.fetched_ends.specs.declared.fetch.Fetch.{Fetch}
-use Rattle.script_text.specs.declared.why.Why as declared_why
+use Rattle.spdm_grammar.specs.declared.why.Why as declared_why
 
 pub returns-in-None-clause-told : goal.returns-in-None-clause-told
 returns-in-None-clause-told c = λ w q older rows packet route at few byte round set_up none stands table.

@@ -3,7 +3,7 @@ use Rattle.std.specs.Prelude.{IfOk}
 use Rattle.capture_ends.specs.declared.onward.Onward.{Onward}
 use Rattle.fetched_ends.proofs.marked.MarkedEnds.judges.Goals as goal
 use Rattle.fetched_ends.specs.MarkedEnds.{IsMovedAnswer}
-use Rattle.script_text.specs.declared.why.Why as declared
+use Rattle.spdm_grammar.specs.declared.why.Why as declared
 use Rattle.spdm_basis.specs.declared.OutOfMemory.{OutOfMemory}
 
 pub returns-in-Ok-Kept-clause-told : goal.returns-in-Ok-Kept-clause-told

@@ -5,7 +5,7 @@ use Rattle.fetched_ends.proofs.MarkedOn.{answered_marked}
 use Rattle.fetched_ends.proofs.marked.MarkedEnds.replies_on.Goals as goal
 use Rattle.fetched_ends.specs.JudgedEnds as judged
 use Rattle.responder_machine.specs.Session.{id_in_record}
-use Rattle.script_text.specs.declared.why.Why as declared
+use Rattle.spdm_grammar.specs.declared.why.Why as declared
 use Rattle.spdm_basis.specs.declared.OutOfMemory.{OutOfMemory}
 
 pub returns-in-Ok-Kept-clause-told : goal.returns-in-Ok-Kept-clause-told
