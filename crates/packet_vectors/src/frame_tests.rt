@@ -1,3 +1,5 @@
+ghost use Rattle.std.specs.Prelude.{◌≡◌, ◌∷◌, [], IfOk};
+
 use frame_stream::{
     FrameFault, FrameKind, FrameReader, Kinds, read_text, write_line_frame, write_packet_frame,
     write_packet_frames,
@@ -116,7 +118,9 @@ fn a_frame_is_cut_where_no_room_is_left(rt: HostRuntime) -> Result<(), Fail> {
 }
 
 // The packets 09 08, and no bytes.
-fn two_packets(alloc: Global) -> Result<PacketList, Fail> {
+fn two_packets(alloc: Global) -> Result<PacketList, Fail>
+    ensures { IfOk result (λ packets. packets ≡ (9 ∷ 8 ∷ []) ∷ [] ∷ []) }
+{
     let mut packets = PacketList::new(alloc)?;
     packets.push(&[9, 8]);
     packets.push(&[]);

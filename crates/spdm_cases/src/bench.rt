@@ -1,4 +1,4 @@
-use crate::capture::{configuration_of, packets_of};
+use crate::capture::number_in;
 use crate::case::Case;
 use crate::case_error::CaseError;
 use crate::directive::Directive;
@@ -60,67 +60,48 @@ impl Bench {
     ) -> Result<(), CaseError> {
         let case = &mut self.case;
         match directive {
-            Directive::File(path) => case
-                .input
-                .extend_from_slice(fs::read(rt, path)?.as_slice())?,
-            Directive::Text(line) => {
-                case.input.extend_from_slice(line.as_bytes())?;
-                case.input.push(b'\n')?;
-            }
-            Directive::Hex(digits) => {
-                case.input
-                    .extend_from_slice(hex::decode(rt.alloc(), digits)?.as_slice())?;
-            }
-            Directive::Seed(digits) => {
-                let bytes = hex::decode(rt.alloc(), digits)?;
-                let mut seed = [0; 32];
-                if bytes.len() != seed.len() {
-                    return Err(CaseError::BadLine);
-                }
-                seed.copy_from_slice(bytes.as_slice());
-                case.seeds.push(seed)?;
-            }
-            Directive::Slowly => case.is_slow = true,
+            Directive::File(path) => case.add(fs::read(rt, path)?.as_slice()),
+            Directive::Text(line) => case.add_line(line),
+            Directive::Hex(digits) => case.add(hex::decode(rt.alloc(), digits)?.as_slice()),
+            Directive::Seed(digits) => case.add_seed(rt, digits),
             Directive::Capture(name) => {
-                let script = read(rt, name, "script")?;
-                let trace = read(rt, name, "trace")?;
-                case.input
-                    .extend_from_slice(configuration_of(script.as_str()).as_bytes())?;
-                case.packets = packets_of(rt, trace.as_str())?;
+                let (script, trace) = (read(rt, name, "script")?, read(rt, name, "trace")?);
+                case.add_capture(rt, script.as_str(), trace.as_str())
             }
-            Directive::Change(change) => change.make(&mut case.packets)?,
-            _ => return Err(CaseError::BadLine),
+            Directive::Change(change) => change.make(&mut case.packets),
+            Directive::Slowly => {
+                case.is_slow = true;
+                Ok(())
+            }
+            _ => Err(CaseError::BadLine),
         }
-        Ok(())
     }
 
-    // The digest of all traces behind injected packets.
+    // Tells the digest of all traces behind injected packets.
     fn sweep(
         &self,
         rt: &(impl Print + AllocGlobal),
         directive: Directive<'_>,
     ) -> Result<(), CaseError> {
-        let sweep = Sweep::new(&self.case);
-        let digest = match directive {
-            Directive::Codes(header) => {
-                sweep.codes(rt, hex::decode(rt.alloc(), header)?.as_slice())?
-            }
-            Directive::Fields { packet, fields } => {
-                let places = fields_in(rt, fields)?;
-                sweep.fields(
-                    rt,
-                    hex::decode(rt.alloc(), packet)?.as_slice(),
-                    places.as_slice(),
-                )?
-            }
-            Directive::Cuts(packet) => {
-                sweep.cuts(rt, hex::decode(rt.alloc(), packet)?.as_slice())?
-            }
-            _ => return Err(CaseError::BadLine),
-        };
+        let digest = self.digest(rt, directive)?;
         let name = self.case.name.as_str();
         println!(rt; "{name}: {digest}")?;
         Ok(())
+    }
+
+    fn digest(&self, rt: &impl AllocGlobal, directive: Directive<'_>) -> Result<String, CaseError> {
+        let sweep = Sweep::new(&self.case);
+        match directive {
+            Directive::Codes(header) => {
+                sweep.codes(rt, hex::decode(rt.alloc(), header)?.as_slice())
+            }
+            Directive::Fields { packet, fields } => {
+                let packet = hex::decode(rt.alloc(), packet)?;
+                sweep.fields(rt, packet.as_slice(), fields_in(rt, fields)?.as_slice())
+            }
+            Directive::Cuts(packet) => sweep.cuts(rt, hex::decode(rt.alloc(), packet)?.as_slice()),
+            _ => Err(CaseError::BadLine),
+        }
     }
 }
 
@@ -130,14 +111,17 @@ fn read(rt: &(impl Files + AllocGlobal), name: &str, kind: &str) -> Result<Strin
     Ok(fs::read_to_string(rt, path.as_str())?)
 }
 
+// A field, as its place and its size.
+fn field_in(word: &str) -> Result<(usize, usize), CaseError> {
+    let (place, size) = word.split_once(':').ok_or(CaseError::BadLine)?;
+    Ok((number_in(place)?, number_in(size)?))
+}
+
 // Fields, each as its place and its size.
 fn fields_in(rt: &impl AllocGlobal, words: &str) -> Result<Vec<(usize, usize)>, CaseError> {
     let mut fields = Vec::new(rt.alloc());
     for word in words.split(' ') {
-        let (place, size) = word.split_once(':').ok_or(CaseError::BadLine)?;
-        let place = place.parse::<usize>().map_err(|_| CaseError::BadLine)?;
-        let size = size.parse::<usize>().map_err(|_| CaseError::BadLine)?;
-        fields.push((place, size))?;
+        fields.push(field_in(word)?)?;
     }
     Ok(fields)
 }

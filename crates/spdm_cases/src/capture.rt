@@ -20,32 +20,32 @@ pub enum Change {
     Cut { packet: usize, size: usize },
 }
 
-// The number in a word.
-fn number(word: &str) -> Result<usize, CaseError> {
+/// The number in a word.
+pub fn number_in(word: &str) -> Result<usize, CaseError> {
     word.parse::<usize>().map_err(|_| CaseError::BadLine)
 }
 
 impl Change {
     pub fn of(word: &str, rest: &str) -> Result<Change, CaseError> {
         let (first, behind) = first_word(rest);
-        let packet = number(first)?;
+        let packet = number_in(first)?;
         let (second, third) = first_word(behind);
         Ok(match word {
             "remove" => Change::Remove(packet),
             "double" => Change::Double(packet),
-            "exchange" => Change::Exchange(packet, number(second)?),
+            "exchange" => Change::Exchange(packet, number_in(second)?),
             "insert" => Change::Insert {
                 packet,
-                at: number(second)?,
+                at: number_in(second)?,
             },
             "cut" => Change::Cut {
                 packet,
-                size: number(second)?,
+                size: number_in(second)?,
             },
             "set" => Change::Set {
                 packet,
-                at: number(second)?,
-                byte: u8::try_from(number(third)?).map_err(|_| CaseError::BadLine)?,
+                at: number_in(second)?,
+                byte: u8::try_from(number_in(third)?).map_err(|_| CaseError::BadLine)?,
             },
             _ => return Err(CaseError::BadLine),
         })
@@ -55,40 +55,45 @@ impl Change {
     pub fn make(self, packets: &mut Vec<Vec<u8>>) -> Result<(), CaseError> {
         match self {
             Change::Set { packet, at, byte } => {
-                let place = place_of(packets.len(), packet)?;
-                let bytes = packets.get_mut(place).ok_or(CaseError::BadLine)?;
+                let bytes = packet_of(packets, packet)?;
                 *bytes.get_mut(at).ok_or(CaseError::BadLine)? = byte;
+                Ok(())
             }
             Change::Remove(packet) => {
-                let place = place_of(packets.len(), packet)?;
-                drop(packets.remove(place));
+                drop(packets.remove(place_of(packets.len(), packet)?));
+                Ok(())
             }
-            Change::Double(packet) => {
-                let place = place_of(packets.len(), packet)?;
-                let again = packets[place].clone()?;
-                packets.insert(place, again)?;
-            }
-            Change::Exchange(packet, other) => {
-                let (place, other) = (
-                    place_of(packets.len(), packet)?,
-                    place_of(packets.len(), other)?,
-                );
-                packets.swap(place, other);
-            }
-            Change::Insert { packet, at } => {
-                let place = place_of(packets.len(), packet)?;
-                let again = packets[place].clone()?;
-                let at = at.saturating_sub(1).min(packets.len());
-                packets.insert(at, again)?;
-            }
+            Change::Double(packet) => insert(packets, packet, packet),
+            Change::Exchange(packet, other) => exchange(packets, packet, other),
+            Change::Insert { packet, at } => insert(packets, packet, at),
             Change::Cut { packet, size } => {
-                let place = place_of(packets.len(), packet)?;
-                let bytes = packets.get_mut(place).ok_or(CaseError::BadLine)?;
-                bytes.truncate(size);
+                packet_of(packets, packet)?.truncate(size);
+                Ok(())
             }
         }
-        Ok(())
     }
+}
+
+// Has two packets change their places.
+fn exchange(packets: &mut Vec<Vec<u8>>, packet: usize, other: usize) -> Result<(), CaseError> {
+    let place = place_of(packets.len(), packet)?;
+    let other = place_of(packets.len(), other)?;
+    packets.swap(place, other);
+    Ok(())
+}
+
+// A packet once more, as the one of another number, or behind all where there are fewer.
+fn insert(packets: &mut Vec<Vec<u8>>, packet: usize, at: usize) -> Result<(), CaseError> {
+    let place = place_of(packets.len(), packet)?;
+    let again = packets[place].clone()?;
+    let at = at.saturating_sub(1).min(packets.len());
+    packets.insert(at, again)?;
+    Ok(())
+}
+
+fn packet_of(packets: &mut Vec<Vec<u8>>, packet: usize) -> Result<&mut Vec<u8>, CaseError> {
+    let place = place_of(packets.len(), packet)?;
+    packets.get_mut(place).ok_or(CaseError::BadLine)
 }
 
 // The place of a packet of so many, which is there.

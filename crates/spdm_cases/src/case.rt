@@ -1,3 +1,4 @@
+use crate::capture::{configuration_of, packets_of};
 use crate::case_error::CaseError;
 use spdm_basis::{MemSeeds, MemSink, MemSource, Sink, Source, StdinSource, StdoutSink};
 use spdm_command::{Outcome, spdm};
@@ -45,6 +46,39 @@ impl Case {
         }
     }
 
+    /// More bytes of the input.
+    pub fn add(&mut self, bytes: &[u8]) -> Result<(), CaseError> {
+        Ok(self.input.extend_from_slice(bytes)?)
+    }
+
+    /// One more line of the input.
+    pub fn add_line(&mut self, line: &str) -> Result<(), CaseError> {
+        self.add(line.as_bytes())?;
+        self.add(b"\n")
+    }
+
+    /// One more seed, in hexadecimal.
+    pub fn add_seed(&mut self, rt: &impl AllocGlobal, digits: &str) -> Result<(), CaseError> {
+        let mut seed = [0; 32];
+        let bytes = hex::decode(rt.alloc(), digits)?;
+        if bytes.len() != seed.len() {
+            return Err(CaseError::BadLine);
+        }
+        seed.copy_from_slice(bytes.as_slice());
+        Ok(self.seeds.push(seed)?)
+    }
+
+    /// The configuration of a script, and the packets of its trace.
+    pub fn add_capture(
+        &mut self,
+        rt: &impl AllocGlobal,
+        script: &str,
+        trace: &str,
+    ) -> Result<(), CaseError> {
+        self.packets = packets_of(rt, trace)?;
+        self.add(configuration_of(script).as_bytes())
+    }
+
     /// What the words come to over the input and the packets, and what they write.
     pub fn run(&self, rt: &impl AllocGlobal) -> Result<(Outcome, Vec<u8>), CaseError> {
         self.run_behind(rt, "")
@@ -58,16 +92,7 @@ impl Case {
     ) -> Result<(Outcome, Vec<u8>), CaseError> {
         let mut input = self.input.clone()?;
         for (place, packet) in self.packets.iter().enumerate() {
-            let number = place.saturating_add(1);
-            let digits = hex::encode(rt.alloc(), packet.as_slice())?;
-            let shown = if packet.is_empty() {
-                "-"
-            } else {
-                digits.as_str()
-            };
-            input.extend_from_slice(format!(in rt.alloc();
-                "packet {number} {shown}\n"
-            )?.as_bytes())?;
+            add_packet(rt, place.saturating_add(1), packet.as_slice(), &mut input)?;
         }
         input.extend_from_slice(lines.as_bytes())?;
         if self.is_slow {
@@ -96,4 +121,21 @@ impl Case {
         );
         Ok((outcome, Vec::from_slice(rt.alloc(), sink.as_slice())?))
     }
+}
+
+// The line of a packet in a capture.
+fn add_packet(
+    rt: &impl AllocGlobal,
+    number: usize,
+    packet: &[u8],
+    input: &mut Vec<u8>,
+) -> Result<(), CaseError> {
+    let digits = hex::encode(rt.alloc(), packet)?;
+    let shown = if packet.is_empty() {
+        "-"
+    } else {
+        digits.as_str()
+    };
+    let line = format!(in rt.alloc(); "packet {number} {shown}\n")?;
+    Ok(input.extend_from_slice(line.as_bytes())?)
 }
