@@ -8,8 +8,6 @@ mod form;
 mod help;
 mod report;
 mod run;
-#[cfg(test)]
-mod tests;
 
 use run::Outcome;
 use spdm_basis::{StdinSource, StdoutSink};
