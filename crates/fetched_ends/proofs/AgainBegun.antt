@@ -38,16 +38,16 @@ use Rattle.fetched_answers.specs.JudgedFor.{session_with}
 use Rattle.fetched_ends.proofs.AgainReads.{asked_again, large_again, session_is, shown}
 use Rattle.fetched_ends.proofs.AgainStands.{asks_for, inner, its}
 use Rattle.fetched_ends.proofs.AgainTold.{answer_is, request_is, was_unseen}
-use Rattle.fetched_ends.proofs.AnewSessions.{IsReady, live_ready}
+use Rattle.fetched_answers.proofs.AnewSessions.{IsReady, live_ready}
 use Rattle.fetched_ends.proofs.BegunStands.{ceil_some}
 use Rattle.fetched_ends.proofs.BegunTold.{six_again}
-use Rattle.fetched_ends.proofs.ChangesOn.{accepted_on, asked_on}
+use Rattle.fetched_answers.proofs.ChangesOn.{accepted_on, asked_on}
 use Rattle.fetched_ends.proofs.EndedApart.{ended_apart}
-use Rattle.fetched_ends.proofs.HeardOn.{heard_on}
-use Rattle.fetched_ends.proofs.MeasuredTurns.{large_turn}
-use Rattle.fetched_ends.proofs.NewestLed.{NewestLed, newest_led}
-use Rattle.fetched_ends.proofs.NewestStands.{NewestIs, newest_is}
-use Rattle.fetched_ends.proofs.QuietSteps.{none_accepted, quiet_step}
+use Rattle.fetched_answers.proofs.HeardOn.{heard_on}
+use Rattle.late_answers.proofs.MeasuredTurns.{large_turn}
+use Rattle.fetched_answers.proofs.NewestLed.{NewestLed, newest_led}
+use Rattle.fetched_answers.proofs.NewestStands.{NewestIs, newest_is}
+use Rattle.late_answers.proofs.QuietSteps.{none_accepted, quiet_step}
 use Rattle.fetched_ends.specs.AgainBegins.{IsAgainInRecord}
 use Rattle.fetched_ends.specs.AgainRead.{IsAskedIn, IsKeptIn, IsLargeAgain, last_message}
 use Rattle.fetched_ends.specs.Fetched.{rows_upon}

@@ -5,8 +5,8 @@ use Rattle.std.specs.Prelude.{not, slice_index, bytes_eq}
 use Rattle.std.proofs.lemmas.Option.{none-some}
 use Rattle.std.proofs.lemmas.Slice.Eq.{bytes_eq-Decides}
 use Rattle.fetched_ends.proofs.AgainStands.{chunk, inner, its, opens, wide}
-use Rattle.fetched_ends.proofs.MeasuredTurns.{answer_at, large_turn}
-use Rattle.fetched_ends.proofs.NewestStands.{NewestIs}
+use Rattle.late_answers.proofs.MeasuredTurns.{answer_at, large_turn}
+use Rattle.fetched_answers.proofs.NewestStands.{NewestIs}
 use Rattle.fetched_ends.specs.AgainRead.{IsAskedIn, IsLargeAgain, holds_large, last_message}
 use Rattle.key_schedule.specs.Purpose.{Purpose, iv_of, key_of}
 use Rattle.responder_machine.specs.Answer.{request_at}

@@ -10,11 +10,11 @@ use Rattle.capture_laws.specs.LargeShown.{whole_of}
 use Rattle.fetched_answers.proofs.WholeLed.{whole_is_shown}
 use Rattle.fetched_answers.specs.LastShown.{IsShownWhole}
 use Rattle.fetched_ends.proofs.LargeTurns.{is_large_turn, large_blocks, large_room}
-use Rattle.fetched_ends.proofs.MeasuredTurns.{GoesLarge, answer_at, bytes_are, goes_at, goes_turn, large_turn, turn_goes}
-use Rattle.fetched_ends.proofs.NewestStands.{NewestIs}
-use Rattle.fetched_ends.proofs.RecordTaken.{body_adds, entry_at}
-use Rattle.fetched_ends.proofs.SeenAlike.{SeenAlike, fault_alike, last_alike, live_alike, opened_alike, terms_alike}
-use Rattle.fetched_ends.proofs.SeenMeasures.{asks_alike, goes_alike, large_alike, reply_alike}
+use Rattle.late_answers.proofs.MeasuredTurns.{GoesLarge, answer_at, bytes_are, goes_at, goes_turn, large_turn, turn_goes}
+use Rattle.fetched_answers.proofs.NewestStands.{NewestIs}
+use Rattle.fetched_answers.proofs.RecordTaken.{body_adds, entry_at}
+use Rattle.late_answers.proofs.SeenAlike.{SeenAlike, fault_alike, last_alike, live_alike, opened_alike, terms_alike}
+use Rattle.late_answers.proofs.SeenMeasures.{asks_alike, goes_alike, large_alike, reply_alike}
 use Rattle.fetched_ends.specs.InSession.{AsksFor, IsMeasuredBy}
 use Rattle.measurements.specs.Records.{is_missing}
 use Rattle.responder_machine.proofs.Tests.{contents_shown}

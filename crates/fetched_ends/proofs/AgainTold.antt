@@ -11,9 +11,9 @@ use Rattle.capture_ends.specs.RecordAnswers.{has_large}
 use Rattle.capture_laws.specs.DropsShown.{response_of}
 use Rattle.connection.proofs.Whole.{no_data}
 use Rattle.fetched_ends.proofs.AgainReads.{reply_opens}
-use Rattle.fetched_ends.proofs.NewestStands.{NewestIs}
-use Rattle.fetched_ends.proofs.SeenAlike.{stage_alike}
-use Rattle.fetched_ends.proofs.SeenMeasures.{reply_alike}
+use Rattle.fetched_answers.proofs.NewestStands.{NewestIs}
+use Rattle.late_answers.proofs.SeenAlike.{stage_alike}
+use Rattle.late_answers.proofs.SeenMeasures.{reply_alike}
 use Rattle.fetched_ends.specs.AgainRead.{IsLargeAgain, holds_large}
 use Rattle.key_schedule.specs.Purpose.{Purpose, iv_of, key_of}
 use Rattle.key_schedule.specs.declared.direction.Direction.TheVariants.{Response}

@@ -9,7 +9,7 @@ use Rattle.capture_ends.specs.Asker.{Carries}
 use Rattle.capture_ends.specs.HeardKept.{asks_upon, heard_kept}
 use Rattle.capture_laws.specs.Keeping.{Kept}
 use Rattle.capture_laws.specs.RepliesShown.{AnswersRound, answered, responder_for}
-use Rattle.fetched_ends.proofs.HeardOn.{IsHeardOn, asks_on, heard_on}
+use Rattle.fetched_answers.proofs.HeardOn.{IsHeardOn, asks_on, heard_on}
 use Rattle.fetched_ends.specs.AsksUpon.{AnswersTellAsking, PlainEndsFetching}
 use Rattle.large_answers.specs.Fetching.{Fetching, IsFetchingOf, MayStand, dialogue_of}
 use Rattle.large_answers.specs.FetchingLaws.{EndsFetching, GoesFetching, TurnsFetching}

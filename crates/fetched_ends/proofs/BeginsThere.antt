@@ -43,9 +43,9 @@ use Rattle.world_machine.specs.CapturedAnswers.{MayLeadTo, answer_to, clear_answ
 use Rattle.world_machine.specs.LargeAnswers.{IsLargeAnswer, is_large, is_unseen_in, place_named, seen, unseen, with_large}
 use Rattle.world_machine.specs.Rounds.{Round, no_draw}
 use Rattle.world_machine.specs.Setup.{Configuration}
-use Rattle.fetched_ends.proofs.HeardOn.{heard_on}
-use Rattle.fetched_ends.proofs.MeasuredTurns.{GoesLarge, answer_at, bytes_are, goes_at, goes_turn, large_turn, turn_goes}
-use Rattle.fetched_ends.proofs.RecordTaken.{body_adds, entry_at}
+use Rattle.fetched_answers.proofs.HeardOn.{heard_on}
+use Rattle.late_answers.proofs.MeasuredTurns.{GoesLarge, answer_at, bytes_are, goes_at, goes_turn, large_turn, turn_goes}
+use Rattle.fetched_answers.proofs.RecordTaken.{body_adds, entry_at}
 use Rattle.fetched_ends.specs.InSession.{IsMeasuredBy}
 
 -- ---- What it leads to.

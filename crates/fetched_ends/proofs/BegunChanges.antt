@@ -26,10 +26,10 @@ use Rattle.world_machine.specs.LargeAnswers.{unseen}
 use Rattle.world_machine.specs.Setup.{Configuration}
 use Rattle.fetched_ends.proofs.BeginsThere.{begun, judged_is, next}
 use Rattle.fetched_ends.proofs.BegunStands.{none_behind}
-use Rattle.fetched_ends.proofs.ChangesOn.{accepted_on, asked_on}
-use Rattle.fetched_ends.proofs.QuietSteps.{none_accepted, quiet_step}
-use Rattle.fetched_ends.proofs.RecordTaken.{taken_is}
-use Rattle.fetched_ends.proofs.SeenKeys.{views_alike}
+use Rattle.fetched_answers.proofs.ChangesOn.{accepted_on, asked_on}
+use Rattle.late_answers.proofs.QuietSteps.{none_accepted, quiet_step}
+use Rattle.fetched_answers.proofs.RecordTaken.{taken_is}
+use Rattle.fetched_answers.proofs.SeenKeys.{views_alike}
 
 module _ (w : Configuration) (q : ReqSetup) (older : List (List ℕ)) (k : Kept) (route : RouteFields) (answer : List ℕ) (byte : w.responder.beat < 256) (limits : IsSetUp k.setup) (carries : Carries w q older k) (turn : AnswersInTurn k route answer)
     (type : (slice_index turn.round.body 0 == 5) ≡ false) (will : will_take (responder_for w k) k.responder turn.round.body ≡ true) (large : IsShownLarge (responder_for w k) k.responder turn.round.tag turn.round.body answer) (op : ℕ)

@@ -25,10 +25,10 @@ use Rattle.capture_laws.specs.declared.verdict.Seen.{Seen}
 use Rattle.connection.specs.Connected as connected
 use Rattle.connection.specs.UnseenRequests.{IsTurnOf, IsUnseenTurn}
 use Rattle.connection.specs.declared.connected.Connection.{Connection}
-use Rattle.fetched_ends.proofs.ChangesOn.{accepted_on, asked_on}
+use Rattle.fetched_answers.proofs.ChangesOn.{accepted_on, asked_on}
 use Rattle.fetched_ends.proofs.HeldBefore.{here, keys_begun}
 use Rattle.fetched_ends.proofs.HeldBegins.{behind, next}
-use Rattle.fetched_ends.proofs.LargeAccepts.{large_accepts_none}
+use Rattle.late_answers.proofs.LargeAccepts.{large_accepts_none}
 use Rattle.fetched_ends.specs.BegunHeld.{has_free_length}
 use Rattle.fetched_ends.specs.Fetched.{rows_upon}
 use Rattle.large_answers.specs.Fetching.{Fetching}

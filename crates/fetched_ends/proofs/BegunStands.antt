@@ -46,9 +46,9 @@ use Rattle.world_machine.specs.Rounds.{Dialogue}
 use Rattle.world_machine.specs.SessionTable.{Row, number_from}
 use Rattle.world_machine.specs.Setup.{Configuration}
 use Rattle.capture_laws.specs.LargeShown.{whole_of}
-use Rattle.fetched_ends.proofs.AnewSessions.{IsReady, live_ready}
+use Rattle.fetched_answers.proofs.AnewSessions.{IsReady, live_ready}
 use Rattle.fetched_ends.proofs.BeginsThere.{asks_one, at_is, begun, judged_is, next, none_came, stands}
-use Rattle.fetched_ends.proofs.SeenKeys.{keys_unseen}
+use Rattle.fetched_answers.proofs.SeenKeys.{keys_unseen}
 use Rattle.fetched_ends.specs.Fetched.{rows_upon}
 use Rattle.fetched_ends.specs.InSession.{AreLengths, AsksFor, IsFetchedIn}
 use Rattle.fetched_ends.specs.declared.in_session.InSession.{InSession}

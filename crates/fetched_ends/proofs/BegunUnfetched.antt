@@ -46,7 +46,7 @@ use Rattle.world_machine.specs.Setup.{Configuration}
 use Rattle.large_answers.specs.Fetching.{Fetching}
 use Rattle.fetched_ends.proofs.BeginsThere.{begun, judged_is, next, shown_is}
 use Rattle.fetched_ends.proofs.BegunStands.{none_behind}
-use Rattle.fetched_ends.proofs.SeenKeys.{keys_unseen}
+use Rattle.fetched_answers.proofs.SeenKeys.{keys_unseen}
 use Rattle.fetched_ends.specs.Fetched.{rows_upon}
 
 -- ---- The newest record of a session.

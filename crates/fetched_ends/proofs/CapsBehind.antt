@@ -2,7 +2,7 @@
 use Rattle.std.proofs.Common.{◌≡◌, ◌∙◌, ℕ, List, [], ◌∷◌, refl, sym, ap, subst, Bool, true, false, Option, Some, None, cond, inl, inr}
 use Rattle.std.proofs.lemmas.Bool.{false≢true}
 use Rattle.fetched_ends.proofs.CapsStand.{Behind, KeptCaps, entry_behind, large_sizes, both, same_behind, same_by, unopened_behind, unseen_behind}
-use Rattle.fetched_ends.proofs.SizesSeen.{SameSizes}
+use Rattle.late_answers.proofs.SizesSeen.{SameSizes}
 use Rattle.large_answers.proofs.NoCaps.{EntryCaps, NoCaps}
 use Rattle.responder_machine.specs.History.{Entry, History, Kept, clear_turns, kept_of}
 use Rattle.responder_machine.specs.History.Entry.{Clear, Sealed, Queued, Ticked, Dropped}

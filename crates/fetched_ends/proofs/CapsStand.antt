@@ -5,10 +5,10 @@ use Rattle.std.proofs.lemmas.Bool.{false≢true}
 use Rattle.std.proofs.lemmas.Option.{none-some, same_Some}
 use Rattle.std.proofs.lemmas.Slice.Eq.{bytes_eq-Decides}
 use Rattle.spdm_basis.proofs.Bools.{and_second}
-use Rattle.fetched_ends.proofs.CapsAsked.{IsLater}
-use Rattle.fetched_ends.proofs.CapsTurns.{IsRefusedShortly, Settling, turn_settles}
-use Rattle.fetched_ends.proofs.CapsTurns.Settling.{Renews, Tells, Stays}
-use Rattle.fetched_ends.proofs.SizesSeen.{SameSizes, session_turns, settled, sizes_seen}
+use Rattle.late_answers.proofs.CapsAsked.{IsLater}
+use Rattle.late_answers.proofs.CapsTurns.{IsRefusedShortly, Settling, turn_settles}
+use Rattle.late_answers.proofs.CapsTurns.Settling.{Renews, Tells, Stays}
+use Rattle.late_answers.proofs.SizesSeen.{SameSizes, session_turns, settled, sizes_seen}
 use Rattle.fetched_ends.specs.SameChunks.{IsTold}
 use Rattle.large_answers.proofs.NoCaps.{NoCaps}
 use Rattle.large_answers.proofs.TurnsBeside.{SameCaps}

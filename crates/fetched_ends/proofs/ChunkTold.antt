@@ -41,8 +41,8 @@ use Rattle.fetched_ends.proofs.Filled.{filled_long}
 use Rattle.fetched_ends.proofs.InSessionLast.{last_adds, last_entry}
 use Rattle.fetched_ends.proofs.InSessionRecord.{unseen_stand}
 use Rattle.fetched_ends.proofs.InSessionTold.{carries}
-use Rattle.fetched_ends.proofs.RecordTaken.{body_adds, shown_behind}
-use Rattle.fetched_ends.proofs.SeenKeys.{keys_given}
+use Rattle.fetched_answers.proofs.RecordTaken.{body_adds, shown_behind}
+use Rattle.fetched_answers.proofs.SeenKeys.{keys_given}
 use Rattle.fetched_ends.specs.InSession.{IsReadIn}
 use Rattle.fetched_ends.specs.declared.in_session.InSession.{InSession}
 

@@ -15,7 +15,7 @@ use Rattle.capture_laws.specs.Keeping.{Keeps, Kept, restored}
 use Rattle.capture_laws.specs.RepliesShown.{heard_from, no_values, responder_for}
 use Rattle.capture_laws.specs.Walks.{Walks}
 use Rattle.fetched_answers.proofs.RestQuiet.{none_pends_in_clear}
-use Rattle.fetched_ends.proofs.ChunkAsked.{IsShownLarge, asks_may, chunk_shows, whole_shows}
+use Rattle.fetched_answers.proofs.ChunkAsked.{IsShownLarge, asks_may, chunk_shows, whole_shows}
 use Rattle.fetched_ends.proofs.HeldNever.{clear_shape}
 use Rattle.fetched_ends.proofs.LargeShows.{repeats_shown, walk_shows}
 use Rattle.fetched_ends.proofs.LateShown.{same_form}

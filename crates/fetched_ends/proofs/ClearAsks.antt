@@ -19,7 +19,7 @@ use Rattle.fetched_answers.proofs.MeanwhileClear.{get_goes_on, repeat_goes_same}
 use Rattle.fetched_answers.proofs.ReadyGets.{ready_few}
 use Rattle.fetched_answers.specs.ClearChunks.{clear_with, get_response}
 use Rattle.fetched_answers.specs.ClearRounds.{IsClearRound}
-use Rattle.fetched_ends.proofs.AsksOn.{AsksOn, chunk_on, other_tag_on}
+use Rattle.late_answers.proofs.AsksOn.{AsksOn, chunk_on, other_tag_on}
 use Rattle.fetched_ends.proofs.HeldNever.{clear_shape}
 use Rattle.fetched_ends.specs.AsksUpon.{ClearAsksOn}
 use Rattle.large_answers.specs.Fetching.{Fetching, IsFetchingOf, MayStand, dialogue_of}

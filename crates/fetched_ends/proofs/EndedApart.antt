@@ -4,9 +4,9 @@ use Rattle.std.specs.Prelude.{MatchBool}
 use Rattle.std.proofs.lemmas.Bool.{false≢true}
 use Rattle.std.proofs.lemmas.Slice.Eq.{bytes_eq-Decides}
 use Rattle.fetched_ends.proofs.LargeTurns.{is_large_turn}
-use Rattle.fetched_ends.proofs.MeasuredTurns.{goes_turn, turn_goes}
-use Rattle.fetched_ends.proofs.NewestLed.{LedHere, NewestLed}
-use Rattle.fetched_ends.proofs.SeenAlike.{live_alike}
+use Rattle.late_answers.proofs.MeasuredTurns.{goes_turn, turn_goes}
+use Rattle.fetched_answers.proofs.NewestLed.{LedHere, NewestLed}
+use Rattle.late_answers.proofs.SeenAlike.{live_alike}
 use Rattle.responder_machine.specs.History.{History, KeptRecord, clear_turns, ended_of, negotiation_of}
 use Rattle.responder_machine.specs.History.Entry.{Clear, Sealed, Queued, Ticked, Dropped}
 use Rattle.responder_machine.specs.Records.{opened}

@@ -12,7 +12,7 @@ use Rattle.capture_laws.specs.Judged.{why_of}
 use Rattle.capture_laws.specs.Keeping.{Kept}
 use Rattle.capture_laws.specs.declared.verdict.Seen.{Seen}
 use Rattle.fetched_ends.proofs.EndsKept.{fetched_as}
-use Rattle.fetched_ends.proofs.FetchedAsked.{asked_reason, kept_behind, none_on, walk_before}
+use Rattle.fetched_answers.proofs.FetchedAsked.{asked_reason, kept_behind, none_on, walk_before}
 use Rattle.fetched_ends.specs.JudgedEnds.{IsAskedOf, IsFetched, StandsBehind}
 use Rattle.fetched_ends.specs.declared.fetch.Fetch.{Fetch}
 use Rattle.large_answers.specs.Fetching.{Fetching, IsFetchingOf, dialogue_of}

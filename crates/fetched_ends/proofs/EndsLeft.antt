@@ -18,7 +18,7 @@ use Rattle.capture_laws.specs.LargeShown.{ends_large, last_shown}
 use Rattle.capture_laws.specs.RepliesShown.{responder_for}
 use Rattle.capture_laws.specs.declared.verdict.Seen.{Seen}
 use Rattle.fetched_answers.proofs.RestQuiet.{none_pends_in_clear}
-use Rattle.fetched_ends.proofs.SessionsQuiet.{none_pends_in_session}
+use Rattle.late_answers.proofs.SessionsQuiet.{none_pends_in_session}
 use Rattle.fetched_ends.specs.BegunHeld.{IsLargeInClear}
 use Rattle.fetched_ends.specs.BegunIn.{IsLargeInRecord, IsLeftOther}
 use Rattle.fetched_ends.specs.JudgedEnds.{IsJudgedAnswer, StandsBehind}

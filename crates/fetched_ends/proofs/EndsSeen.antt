@@ -14,10 +14,10 @@ use Rattle.capture_laws.specs.RepliesShown.{responder_for}
 use Rattle.capture_laws.specs.Walks.{Walks}
 use Rattle.connection.specs.Connected as connected
 use Rattle.connection.specs.declared.connected.Connection.{Connection}
-use Rattle.fetched_ends.proofs.Awaited.{IsAwaited, fetched_round}
-use Rattle.fetched_ends.proofs.SeenAlike.{last_alike, live_alike}
-use Rattle.fetched_ends.proofs.SeenSessions.{seen_alike}
-use Rattle.fetched_ends.proofs.StepsMoved.{clear_type}
+use Rattle.fetched_answers.proofs.Awaited.{IsAwaited, fetched_round}
+use Rattle.late_answers.proofs.SeenAlike.{last_alike, live_alike}
+use Rattle.late_answers.proofs.SeenSessions.{seen_alike}
+use Rattle.late_answers.proofs.StepsMoved.{clear_type}
 use Rattle.fetched_ends.specs.JudgedEnds.{StandsAs, StandsFor}
 use Rattle.fetched_ends.specs.declared.fetch.Fetch.{Fetch}
 use Rattle.fetched_ends.specs.declared.fetch.Fetch.TheVariants as fetch

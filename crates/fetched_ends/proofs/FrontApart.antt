@@ -17,7 +17,7 @@ use Rattle.fetched_ends.proofs.FrontMarked.{begun_is, few_led, large_seen, unmar
 use Rattle.fetched_ends.proofs.LastWhole.{answer_seen}
 use Rattle.fetched_ends.proofs.LateLast.{late_apart}
 use Rattle.fetched_ends.proofs.LateLed.{gets_since}
-use Rattle.fetched_ends.proofs.WalksUndrawn.{AreUndrawn}
+use Rattle.late_answers.proofs.WalksUndrawn.{AreUndrawn}
 use Rattle.fetched_ends.specs.Held.{HasGets}
 use Rattle.fetched_ends.specs.LastHeld.{IsLedApart, hash_at}
 use Rattle.fetched_ends.specs.LastMarked.{IsUnmarked, begins_touched}

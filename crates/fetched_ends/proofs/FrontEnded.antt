@@ -14,7 +14,7 @@ use Rattle.fetched_answers.specs.LastShown.{IsShownEntry, drops_with}
 use Rattle.fetched_ends.proofs.FrontLed.{front_is}
 use Rattle.fetched_ends.proofs.FrontMarked.{large_seen}
 use Rattle.fetched_ends.proofs.LastAlike as alike
-use Rattle.fetched_ends.proofs.WalksUndrawn.{AreUndrawn}
+use Rattle.late_answers.proofs.WalksUndrawn.{AreUndrawn}
 use Rattle.fetched_ends.specs.Held.{HasGets}
 use Rattle.late_answers.proofs.BehindSessions.{dropped_session, gives_no}
 use Rattle.late_answers.proofs.ConnectionNear.{stands_near}

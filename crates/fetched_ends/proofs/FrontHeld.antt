@@ -10,8 +10,8 @@ use Rattle.fetched_answers.proofs.LargeTurns.{LargeStandsIn}
 use Rattle.fetched_answers.specs.ClearChunks.{clear_with}
 use Rattle.fetched_answers.specs.ClearSessions.{AreGets, IsUnseenRequest, is_clear_get}
 use Rattle.fetched_ends.proofs.GetsGiven.{gets_given}
-use Rattle.fetched_ends.proofs.HeldSettled.{common_stays, gets_common, settles_at}
-use Rattle.fetched_ends.proofs.LastLed.{with_here}
+use Rattle.fetched_answers.proofs.HeldSettled.{common_stays, gets_common, settles_at}
+use Rattle.fetched_answers.proofs.LastLed.{with_here}
 use Rattle.fetched_ends.proofs.LastReady.{gets_handle, handle_given, large_behind as stand_behind, settles_behind, unseen_behind}
 use Rattle.fetched_ends.proofs.LateLed.{gets_since}
 use Rattle.fetched_ends.specs.GetsHeld.{AreGiven, GiveChunks, GivesChunk}

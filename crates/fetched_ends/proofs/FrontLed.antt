@@ -4,9 +4,9 @@ use Rattle.std.proofs.Common.{◌≡◌, ◌<◌, ◌++◌, ◌∙◌, ℕ, List
 use Rattle.fetched_answers.proofs.WholeDrops.{whole_has_led}
 use Rattle.fetched_answers.specs.ClearSessions.{AreGets, IsUnseenRequest}
 use Rattle.fetched_answers.specs.LastShown.{IsShownEntry, IsShownWhole, drops_of_whole, drops_with}
-use Rattle.fetched_ends.proofs.LastLed.{drops_are, entry_shown, given_here, shown_entry, untouched_here}
+use Rattle.fetched_answers.proofs.LastLed.{drops_are, entry_shown, given_here, shown_entry, untouched_here}
 use Rattle.fetched_ends.proofs.LateLed.{gets_since, late_is_led}
-use Rattle.fetched_ends.proofs.WalksUndrawn.{AreUndrawn, undrawn_at, undrawn_behind}
+use Rattle.late_answers.proofs.WalksUndrawn.{AreUndrawn, undrawn_at, undrawn_behind}
 use Rattle.fetched_ends.specs.Held.{HasGets, IsLate}
 use Rattle.fetched_ends.specs.LastMarked.{IsUnmarked}
 use Rattle.late_answers.proofs.BehindClear.{last_stays_back}

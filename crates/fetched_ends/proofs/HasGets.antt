@@ -6,7 +6,7 @@ use Rattle.capture_laws.specs.Changes.{shown, views_in}
 use Rattle.fetched_answers.proofs.ClearLeft.{gets_stay, sessions_are_left}
 use Rattle.fetched_answers.proofs.TurnsBoth.{Settles}
 use Rattle.fetched_answers.specs.ClearSessions.{AreGets, IsLeftBy, IsUnseenRequest, IsWithoutHandshake, is_in_handshake}
-use Rattle.fetched_ends.proofs.HeldSettled.{common_stays, gets_common, settles_at}
+use Rattle.fetched_answers.proofs.HeldSettled.{common_stays, gets_common, settles_at}
 use Rattle.fetched_ends.specs.Held.{HasGets, IsLate}
 use Rattle.late_answers.proofs.BehindSessions.{all_are_past}
 use Rattle.late_answers.specs.declared.marks.Marks.{Marks}

@@ -17,7 +17,7 @@ use Rattle.fetched_answers.proofs.LargeSized.{large_is_sized}
 use Rattle.fetched_answers.proofs.LargeTurns.{large_is_unseen}
 use Rattle.fetched_answers.specs.ClearSessions.{IsUnseenRequest}
 use Rattle.connection.proofs.Whole.{turn_short}
-use Rattle.fetched_ends.proofs.HeardOn.{heard_on}
+use Rattle.fetched_answers.proofs.HeardOn.{heard_on}
 use Rattle.fetched_ends.proofs.HeldNever.{clear_shape}
 use Rattle.fetched_ends.proofs.HeldTurns.{IsLargeTurn, large_turn}
 use Rattle.fetched_ends.specs.Held.{IsLedTo}

@@ -21,13 +21,13 @@ use Rattle.connection.specs.Connected as connected
 use Rattle.fetched_answers.proofs.ClearViews.{keys_stand_on}
 use Rattle.fetched_answers.specs.ClearChunks.{clear_with}
 use Rattle.fetched_answers.specs.ClearSessions.{IsWithoutHandshake}
-use Rattle.fetched_ends.proofs.ChangesOn.{accepted_on, asked_on}
+use Rattle.fetched_answers.proofs.ChangesOn.{accepted_on, asked_on}
 use Rattle.fetched_ends.proofs.GetsGiven.{none_given}
 use Rattle.fetched_ends.proofs.HeldBefore.{Left, here, keys_begun, left_turn, stands_begun, views_begun}
 use Rattle.fetched_ends.proofs.HeldBegins.{IsBegunHere, asked_is, at_is, behind, kept_here, next, none_came, taken}
 use Rattle.fetched_ends.proofs.HeldLengths.{lengths_are}
-use Rattle.fetched_ends.proofs.HeldSettled.{common_stays}
-use Rattle.fetched_ends.proofs.QuietSteps.{quiet_step}
+use Rattle.fetched_answers.proofs.HeldSettled.{common_stays}
+use Rattle.late_answers.proofs.QuietSteps.{quiet_step}
 use Rattle.fetched_ends.specs.Fetched.{rows_upon}
 use Rattle.fetched_ends.specs.AskedInClear.{IsExchangeBy, IsLeftIf, chunk_at}
 use Rattle.fetched_ends.specs.GetsHeld.{GiveAll}

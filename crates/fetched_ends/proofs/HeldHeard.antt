@@ -14,7 +14,7 @@ use Rattle.capture_laws.specs.Keeping.{Kept, kept_of, restored}
 use Rattle.capture_laws.specs.KeptChanges.{accepted_from}
 use Rattle.capture_laws.specs.RepliesShown.{answered, responder_for}
 use Rattle.capture_laws.specs.declared.change.Change.{Change}
-use Rattle.fetched_ends.proofs.ChangesOn.{accepted_on, asked_on}
+use Rattle.fetched_answers.proofs.ChangesOn.{accepted_on, asked_on}
 use Rattle.fetched_ends.specs.Held.{IsQuiet}
 use Rattle.large_answers.specs.Fetching.{Fetching, IsFetchingOf, dialogue_of}
 use Rattle.large_answers.specs.FetchingLaws.{GoesFetching}

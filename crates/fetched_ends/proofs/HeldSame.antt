@@ -15,7 +15,7 @@ use Rattle.capture_laws.specs.Keeping.{Kept}
 use Rattle.capture_laws.specs.RepliesShown.{responder_for}
 use Rattle.capture_laws.specs.declared.verdict.Seen.{Seen}
 use Rattle.fetched_answers.proofs.NoneTurns.{repeat_may_go}
-use Rattle.fetched_ends.proofs.HeardOn.{heard_on}
+use Rattle.fetched_answers.proofs.HeardOn.{heard_on}
 use Rattle.fetched_ends.proofs.HeldNever.{clear_shape}
 use Rattle.fetched_ends.proofs.HeldRounds.{again_is, type}
 use Rattle.fetched_ends.specs.Fetched.{IsRepliedTo, rows_upon}

@@ -20,7 +20,7 @@ use Rattle.fetched_answers.proofs.ClearViews.{keys_stand_on}
 use Rattle.fetched_answers.proofs.MeanwhileClear.{get_goes_on}
 use Rattle.fetched_answers.specs.ClearChunks.{clear_with, get_entry, get_message, get_response}
 use Rattle.fetched_ends.proofs.HasGets.{gets_more, views_held}
-use Rattle.fetched_ends.proofs.HeardOn.{heard_on}
+use Rattle.fetched_answers.proofs.HeardOn.{heard_on}
 use Rattle.fetched_ends.proofs.HeldCut.{can_be_cut}
 use Rattle.fetched_ends.proofs.HeldGave.{e, gave_there, get, message_is, p, response}
 use Rattle.fetched_ends.proofs.HeldRounds.{asked, response_is, transfer_is}

@@ -30,11 +30,11 @@ use Rattle.world_machine.proofs.SeenAnswers.{led_stands}
 use Rattle.world_machine.proofs.UnseenStands.{UnseenStand}
 use Rattle.world_machine.specs.LargeAnswers.{place_of, takes_get, with_large}
 use Rattle.world_machine.specs.Setup.{Configuration}
-use Rattle.fetched_ends.proofs.ChangesOn.{accepted_on, asked_on}
+use Rattle.fetched_answers.proofs.ChangesOn.{accepted_on, asked_on}
 use Rattle.fetched_ends.proofs.InSessionRecord.{behind_is, e, id_is, leads, next, still_plain, unseen_stand}
-use Rattle.fetched_ends.proofs.QuietSteps.{none_accepted, quiet_step}
-use Rattle.fetched_ends.proofs.RecordTaken.{taken_is}
-use Rattle.fetched_ends.proofs.SeenKeys.{keys_unseen, views_alike}
+use Rattle.late_answers.proofs.QuietSteps.{none_accepted, quiet_step}
+use Rattle.fetched_answers.proofs.RecordTaken.{taken_is}
+use Rattle.fetched_answers.proofs.SeenKeys.{keys_unseen, views_alike}
 
 -- ---- The session.
 

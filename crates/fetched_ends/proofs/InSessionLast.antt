@@ -41,11 +41,11 @@ use Rattle.world_machine.specs.LargeAnswers.{begun_with, dropped_before_large, i
 use Rattle.world_machine.specs.Rounds.{Dialogue, Round}
 use Rattle.world_machine.specs.SessionTable.{Row, number_from}
 use Rattle.world_machine.specs.Setup.{Configuration}
-use Rattle.fetched_ends.proofs.ChangesOn.{accepted_on, asked_on}
-use Rattle.fetched_ends.proofs.HeardOn.{IsHeardOn, heard_on}
+use Rattle.fetched_answers.proofs.ChangesOn.{accepted_on, asked_on}
+use Rattle.fetched_answers.proofs.HeardOn.{IsHeardOn, heard_on}
 use Rattle.fetched_ends.proofs.InSessionRecord.{place_is}
-use Rattle.fetched_ends.proofs.QuietSteps.{none_accepted, quiet_step}
-use Rattle.fetched_ends.proofs.RecordTaken.{body_adds, entry_at, taken_is}
+use Rattle.late_answers.proofs.QuietSteps.{none_accepted, quiet_step}
+use Rattle.fetched_answers.proofs.RecordTaken.{body_adds, entry_at, taken_is}
 use Rattle.fetched_ends.specs.Fetched.{IsRepliedTo, rows_upon}
 use Rattle.fetched_ends.specs.InSession.{IsFetchedIn, IsMeasuredBy, IsReadIn}
 use Rattle.fetched_ends.specs.declared.in_session.InSession.{InSession}

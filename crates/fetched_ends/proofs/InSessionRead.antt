@@ -29,7 +29,7 @@ use Rattle.fetched_ends.proofs.InSessionPut.{common_same, long, measured, pendin
 use Rattle.fetched_ends.proofs.InSessionRecord.{unseen_stand}
 use Rattle.fetched_ends.proofs.InSessionTold.{few_large}
 use Rattle.fetched_ends.proofs.InSessionWrong.{Fits}
-use Rattle.fetched_ends.proofs.SeenKeys.{keys_given}
+use Rattle.fetched_answers.proofs.SeenKeys.{keys_given}
 use Rattle.fetched_ends.proofs.TextsAlike.{text_moved}
 use Rattle.fetched_ends.specs.InSession.{AreFitting, IsFetchedIn, IsReadIn, IsTextOf, bytes_with, filled, is_chunk, size_with}
 use Rattle.fetched_ends.specs.declared.in_session.InSession.{InSession}

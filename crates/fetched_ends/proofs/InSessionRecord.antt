@@ -47,11 +47,11 @@ use Rattle.world_machine.specs.LargeAnswers.{is_unseen_in, judging, place_named,
 use Rattle.world_machine.specs.Opening.{turn_in}
 use Rattle.world_machine.specs.Rounds.{Dialogue, Round, no_draw}
 use Rattle.world_machine.specs.Setup.{Configuration}
-use Rattle.fetched_ends.proofs.HeardOn.{heard_on}
+use Rattle.fetched_answers.proofs.HeardOn.{heard_on}
 use Rattle.fetched_ends.proofs.HeldMessages.{IsHeld, held_in}
-use Rattle.fetched_ends.proofs.PlainTexts.{one_inner}
+use Rattle.late_answers.proofs.PlainTexts.{one_inner}
 use Rattle.fetched_ends.specs.InSession.{is_chunk}
-use Rattle.fetched_ends.proofs.RecordTaken.{entry, may_lead, no_drops, shown_adds}
+use Rattle.fetched_answers.proofs.RecordTaken.{entry, may_lead, no_drops, shown_adds}
 
 module _ (w : Configuration) (q : ReqSetup) (older : List (List ℕ)) (f : Fetching) (route : RouteFields) (answer : List ℕ) (byte : w.responder.beat < 256) (limits : IsSetUp f.kept.setup) (own : IsFetchingOf w q older f) (turn : AnswersInTurn f.kept route answer)
     (id : ℕ) (at : f.at ≡ Some id) (type : (slice_index turn.round.body 0 == 5) ≡ false) where

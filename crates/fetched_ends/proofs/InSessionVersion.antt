@@ -67,14 +67,14 @@ use Rattle.world_machine.specs.LargeAnswers.{is_fetching, place_named, while_fet
 use Rattle.world_machine.specs.Rounds.{Dialogue, Round, no_draw}
 use Rattle.world_machine.specs.SessionTable.{Row, number_from}
 use Rattle.world_machine.specs.Setup.{Configuration}
-use Rattle.fetched_ends.proofs.AcceptsNone.{version_accepts}
-use Rattle.fetched_ends.proofs.ChangesOn.{accepted_on, asked_on}
-use Rattle.fetched_ends.proofs.HeardOn.{IsHeardOn, heard_on}
+use Rattle.late_answers.proofs.AcceptsNone.{version_accepts}
+use Rattle.fetched_answers.proofs.ChangesOn.{accepted_on, asked_on}
+use Rattle.fetched_answers.proofs.HeardOn.{IsHeardOn, heard_on}
 use Rattle.fetched_ends.proofs.InSessionTold.{few_large}
 use Rattle.fetched_ends.proofs.NoneGoesOn.{IsNone, refused_by}
-use Rattle.fetched_ends.proofs.QuietSteps.{quiet_step}
-use Rattle.fetched_ends.proofs.SizesSeen.{clear_sized, session_queue, session_turns}
-use Rattle.fetched_ends.proofs.VersionShown.{leads_version, version_body}
+use Rattle.late_answers.proofs.QuietSteps.{quiet_step}
+use Rattle.late_answers.proofs.SizesSeen.{clear_sized, session_queue, session_turns}
+use Rattle.fetched_answers.proofs.VersionShown.{leads_version, version_body}
 use Rattle.fetched_ends.specs.Fetched.{IsRepliedTo, rows_upon}
 use Rattle.fetched_ends.specs.declared.upon.Upon.TheVariants as upon
 

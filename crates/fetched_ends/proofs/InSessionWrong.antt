@@ -46,8 +46,8 @@ use Rattle.world_machine.specs.Setup.{Configuration}
 use Rattle.fetched_ends.proofs.Filled.{stands_next}
 use Rattle.fetched_ends.proofs.HeldMessages.{IsHeld, held_in}
 use Rattle.fetched_ends.proofs.InSessionRecord.{e, fetch_is, leads, place_is, plainly, sent, unseen_stand}
-use Rattle.fetched_ends.proofs.PlainTexts.{one_inner}
-use Rattle.fetched_ends.proofs.RecordTaken.{body_adds, entry_at, may_lead}
+use Rattle.late_answers.proofs.PlainTexts.{one_inner}
+use Rattle.fetched_answers.proofs.RecordTaken.{body_adds, entry_at, may_lead}
 use Rattle.fetched_ends.proofs.TextsAlike.{text_moved}
 use Rattle.fetched_ends.specs.ChunkJudged.{IsNoChunk}
 use Rattle.fetched_ends.specs.InSession.{AreLengths, AsksFor, IsMeasuredBy, IsTextOf, bytes_with, filled, is_chunk, size_with}

@@ -9,7 +9,7 @@ use Rattle.capture_laws.specs.AnswersShown.{values_shown_by}
 use Rattle.capture_laws.specs.Keeping.{Kept}
 use Rattle.capture_laws.specs.LargeShown.{IsShownLarge}
 use Rattle.capture_laws.specs.RepliesShown.{responder_for}
-use Rattle.fetched_ends.proofs.LargeTaken.{large_taken}
+use Rattle.fetched_answers.proofs.LargeTaken.{large_taken}
 use Rattle.fetched_ends.proofs.LargeTurns.{is_large_turn}
 use Rattle.fetched_ends.proofs.NeverPrepared.{adds, goes}
 use Rattle.fetched_ends.specs.BegunIn.{IsLargeInRecord}

@@ -13,7 +13,7 @@ use Rattle.capture_ends.specs.declared.answer_keys.AnswerKeys.{AnswerKeys}
 use Rattle.capture_ends.specs.declared.answerer.Answerer.{Answerer}
 use Rattle.capture_ends.specs.declared.party.Party.{Party}
 use Rattle.capture_laws.proofs.AnswerSteps.{taken_same}
-use Rattle.fetched_ends.proofs.StepsMoved.{IsMoved, replies_moved, walks_held}
+use Rattle.late_answers.proofs.StepsMoved.{IsMoved, replies_moved, walks_held}
 use Rattle.capture_laws.specs.ChangeLaws.{AnswerAccepts, LastChunkChanges, answered_by, begun_by, begun_by_large}
 use Rattle.capture_laws.specs.Changes.{IsChange, IsStep, answered_between, begun_between, views_in}
 use Rattle.capture_laws.specs.Keeping.{Kept, restored}
@@ -26,9 +26,9 @@ use Rattle.capture_laws.specs.declared.verdict.Seen.{Seen}
 use Rattle.connection.specs.Connected as connected
 use Rattle.connection.specs.declared.connected.Connection.{Connection}
 use Rattle.fetched_answers.specs.LastShown.{IsShownEntry, drops_with}
-use Rattle.fetched_ends.proofs.ChangesOn.{accepted_on, asked_on}
+use Rattle.fetched_answers.proofs.ChangesOn.{accepted_on, asked_on}
 use Rattle.fetched_ends.proofs.FrontHeld.{begun_held, given_messages}
-use Rattle.fetched_ends.proofs.HeardOn.{IsHeardOn, heard_on}
+use Rattle.fetched_answers.proofs.HeardOn.{IsHeardOn, heard_on}
 use Rattle.fetched_ends.proofs.HeldOn.{carries}
 use Rattle.fetched_ends.proofs.HeldRounds.{place}
 use Rattle.fetched_ends.proofs.LastInClear.{last_ends}

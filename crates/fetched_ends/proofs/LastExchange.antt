@@ -4,7 +4,7 @@ use Rattle.capture_ends.proofs.ClearJudged.{adds_at}
 use Rattle.capture_ends.specs.declared.answer_keys.AnswerKeys.{AnswerKeys}
 use Rattle.capture_ends.specs.declared.answerer.Answerer.{Answerer}
 use Rattle.fetched_ends.proofs.HeldTurns.{IsLargeTurn, large_turn}
-use Rattle.fetched_ends.proofs.LastBefore.{left_like}
+use Rattle.fetched_answers.proofs.LastBefore.{left_like}
 use Rattle.fetched_ends.proofs.LastWhole.{adds_anew}
 use Rattle.fetched_ends.specs.AskedInClear.{IsExchangeBy, chunk_at}
 use Rattle.fetched_ends.specs.Held.{StandsBefore}

@@ -10,7 +10,7 @@ use Rattle.fetched_answers.specs.ClearChunks.{clear_with, get_entry}
 use Rattle.fetched_answers.specs.LastShown.{IsShownEntry, drops_with}
 use Rattle.fetched_ends.proofs.FrontLed.{led_from, led_to}
 use Rattle.fetched_ends.proofs.HeldGave.{get, response}
-use Rattle.fetched_ends.proofs.WalksUndrawn.{AreUndrawn, walks_undrawn}
+use Rattle.late_answers.proofs.WalksUndrawn.{AreUndrawn, walks_undrawn}
 use Rattle.fetched_ends.specs.Held.{IsHeldIn, StandsBefore, repeats_held}
 use Rattle.fetched_ends.specs.LastMarked.{IsUnmarked}
 use Rattle.fetched_ends.specs.declared.held.Held.{Held}

@@ -11,7 +11,7 @@ use Rattle.chunking.specs.Cutting.{chunk_count, unit_of}
 use Rattle.connection.specs.Connected as connected
 use Rattle.connection.specs.declared.connected.Connection.{Connection}
 use Rattle.fetched_answers.specs.LastShown.{IsShownEntry, drops_with}
-use Rattle.fetched_ends.proofs.LastBefore.{left_like}
+use Rattle.fetched_answers.proofs.LastBefore.{left_like}
 use Rattle.fetched_ends.proofs.LastGiven.{joined_all}
 use Rattle.fetched_ends.proofs.LastWhole as whole_of
 use Rattle.fetched_ends.proofs.LastWhole.{LeadsTo}

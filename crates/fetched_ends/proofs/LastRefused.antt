@@ -38,7 +38,7 @@ use Rattle.fetched_ends.proofs.HeldWhy.{reason_is, why_left}
 use Rattle.fetched_ends.proofs.LastInClear.{last_ends}
 use Rattle.fetched_ends.proofs.LastRound as round_of
 use Rattle.fetched_ends.proofs.LastWhole as whole_of
-use Rattle.fetched_ends.proofs.WalksUndrawn.{AreUndrawn, walks_undrawn}
+use Rattle.late_answers.proofs.WalksUndrawn.{AreUndrawn, walks_undrawn}
 use Rattle.fetched_ends.specs.Fetched.{IsFetchedWhy, IsRepliedTo}
 use Rattle.fetched_ends.specs.Held.{HasGets, IsHeldIn, IsShownChunk, StandsBefore, filled_with, repeats_held}
 use Rattle.fetched_ends.specs.LastHeld.{IsLedApart, hash_at}

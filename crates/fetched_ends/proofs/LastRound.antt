@@ -31,11 +31,11 @@ use Rattle.fetched_ends.proofs.HeldCut.{may_stand}
 use Rattle.fetched_ends.proofs.HeldGave.{get, response}
 use Rattle.fetched_ends.proofs.HeldRounds.{IsAsked, handle_is, response_is, settles, transfer_is}
 use Rattle.fetched_ends.proofs.LastAlike.{behind_list, get_turn, gets_list, given_alike}
-use Rattle.fetched_ends.proofs.LastBefore.{all_like, left_like}
+use Rattle.fetched_answers.proofs.LastBefore.{all_like, left_like}
 use Rattle.fetched_ends.proofs.LastInClear as ending
 use Rattle.fetched_ends.proofs.LastReady.{can_be_given, large_code, not_get, ready_moved, transfer_on, turns_are}
 use Rattle.fetched_ends.proofs.LastWhole.{adds_anew}
-use Rattle.fetched_ends.proofs.WalksUndrawn.{AreUndrawn, walks_undrawn}
+use Rattle.late_answers.proofs.WalksUndrawn.{AreUndrawn, walks_undrawn}
 use Rattle.fetched_ends.specs.GetsHeld.{AreGiven, GiveChunks}
 use Rattle.fetched_ends.specs.Held.{HasGets, IsHeldIn, IsShownChunk, StandsBefore, filled_with, repeats_held}
 use Rattle.fetched_ends.specs.LastHeld.{CanBeGiven, IsLastOf, all_given, count_at, gets_behind, left_by, transfer_at}

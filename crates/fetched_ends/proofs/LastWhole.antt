@@ -15,7 +15,7 @@ use Rattle.fetched_answers.specs.ClearApart.{LeadsToOther}
 use Rattle.fetched_answers.specs.ClearSessions.{IsLeftBy, IsUnseenRequest}
 use Rattle.fetched_answers.specs.LastShown.{IsShownEntry, drops_with}
 use Rattle.fetched_answers.specs.WholeValues.{values_with_whole}
-use Rattle.fetched_ends.proofs.LastBefore.{IsLike, all_like, leads_like, left_like, left_may, like_back, shown_like}
+use Rattle.fetched_answers.proofs.LastBefore.{IsLike, all_like, leads_like, left_like, left_may, like_back, shown_like}
 use Rattle.fetched_ends.specs.Held.{IsLedTo}
 use Rattle.fetched_ends.specs.LastHeld.{left_by}
 use Rattle.responder_machine.specs.Answer.{Free, request_at}

@@ -30,7 +30,7 @@ use Rattle.fetched_answers.proofs.FewBytes.{answers_few}
 use Rattle.fetched_answers.proofs.RestQuiet.{none_pends_in_clear}
 use Rattle.fetched_answers.specs.ClearChunks.{clear_with}
 use Rattle.fetched_answers.specs.ClearSessions.{is_clear_get}
-use Rattle.fetched_ends.proofs.HeardOn.{heard_on}
+use Rattle.fetched_answers.proofs.HeardOn.{heard_on}
 use Rattle.fetched_ends.proofs.HeldLengths.{lengths_are}
 use Rattle.fetched_ends.proofs.HeldNever.{clear_shape}
 use Rattle.fetched_ends.proofs.LargeShows.{AllShow, repeats_shown, shows_at, walk_shows}

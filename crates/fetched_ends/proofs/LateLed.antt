@@ -5,7 +5,7 @@ use Rattle.std.proofs.lemmas.Bool.{false≢true}
 use Rattle.fetched_answers.proofs.WholeDrops.{whole_has_led}
 use Rattle.fetched_answers.specs.ClearSessions.{AreGets, IsUnseenRequest}
 use Rattle.fetched_answers.specs.LastShown.{IsShownEntry, drops_with}
-use Rattle.fetched_ends.proofs.LastLed.{drops_are, entry_shown, get_seen, shown_entry}
+use Rattle.fetched_answers.proofs.LastLed.{drops_are, entry_shown, get_seen, shown_entry}
 use Rattle.fetched_ends.specs.LateLed.{LateIsLed}
 use Rattle.late_answers.proofs.InFront.{last_is_in_front}
 use Rattle.late_answers.specs.Passed.{StandsBack}

@@ -15,7 +15,7 @@ use Rattle.capture_laws.specs.Keeping.{Keeps, Kept, restored}
 use Rattle.capture_laws.specs.RepliesShown.{heard_from, no_values, responder_for}
 use Rattle.capture_laws.specs.Walks.{Walks}
 use Rattle.fetched_ends.proofs.HeldNever.{clear_shape}
-use Rattle.fetched_ends.proofs.LargeAsked.{asks_large}
+use Rattle.fetched_answers.proofs.LargeAsked.{asks_large}
 use Rattle.fetched_ends.proofs.SameChunks.{same_common, walks_agree}
 use Rattle.fetched_ends.specs.BegunHeld.{has_free_length}
 use Rattle.mctp_framing.specs.Cutting.{RouteFields}

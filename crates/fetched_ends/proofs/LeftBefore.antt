@@ -26,10 +26,10 @@ use Rattle.world_machine.proofs.ChunksGiven.Chunked.{Gone, Given}
 use Rattle.world_machine.proofs.GetTells.{transfer_of}
 use Rattle.world_machine.specs.SessionTable.{Row}
 use Rattle.world_machine.specs.Setup.{Configuration}
-use Rattle.fetched_ends.proofs.BehindGet.{pends}
+use Rattle.late_answers.proofs.BehindGet.{pends}
 use Rattle.fetched_ends.proofs.InSessionPut.{chunked, measured, pending_same}
 use Rattle.fetched_ends.proofs.OtherBytes.{flipped, flipped_other, flipped_stands, large_some, large_wide, take_most}
-use Rattle.fetched_ends.proofs.Uncounted.{session_unseen}
+use Rattle.fetched_answers.proofs.Uncounted.{session_unseen}
 use Rattle.fetched_ends.specs.InSession.{IsFetchedIn}
 use Rattle.fetched_ends.specs.SessionOthers.{IsOtherAnswer}
 use Rattle.fetched_ends.specs.declared.in_session.InSession.{InSession}

@@ -11,7 +11,7 @@ use Rattle.capture_laws.proofs.OneWalk.{walks_alike}
 use Rattle.capture_laws.specs.DropsShown.{IsShownAnswer}
 use Rattle.capture_laws.specs.Keeping.{Keeps, Kept, restored}
 use Rattle.capture_laws.specs.RepliesShown.{heard_from, no_values}
-use Rattle.fetched_ends.proofs.LargeAsked.{asks_large}
+use Rattle.fetched_answers.proofs.LargeAsked.{asks_large}
 use Rattle.fetched_ends.specs.JudgedEnds.{IsLeft}
 use Rattle.requester_machine.specs.Asking.{Outcome}
 use Rattle.requester_machine.specs.Asking.Outcome.{Fails, Ignores, Warns, Resends, Adds}

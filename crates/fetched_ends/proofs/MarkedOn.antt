@@ -9,7 +9,7 @@ use Rattle.capture_laws.specs.Order.{body_in, round_of, tag_in}
 use Rattle.capture_laws.specs.Walks.{Walks}
 use Rattle.capture_laws.specs.declared.verdict.Seen.{Seen}
 use Rattle.fetched_ends.proofs.EndsSeen.{clear_held}
-use Rattle.fetched_ends.proofs.MarksCases.{moved_by}
+use Rattle.late_answers.proofs.MarksCases.{moved_by}
 use Rattle.fetched_ends.proofs.MarksWalk.{answer_moves_marks, answered_step, asked_marks, one_walk_marks}
 use Rattle.fetched_ends.specs.JudgedEnds as judged
 use Rattle.fetched_ends.specs.Marked.{MarksStand, is_taken_by, is_touched_by, touched_behind}

@@ -6,9 +6,9 @@ use Rattle.std.proofs.lemmas.Bool.{and_parts, false≢true}
 use Rattle.std.proofs.lemmas.Slice.Eq.{bytes_eq-Decides}
 use Rattle.capture_ends.proofs.KeysKept.{dropped_session as sessions_dropped}
 use Rattle.capture_laws.specs.KeptChanges.{is_kept_record}
-use Rattle.fetched_ends.proofs.SeenAlike.{last_alike, live_alike}
-use Rattle.fetched_ends.proofs.SeenSessions.{seen_alike}
-use Rattle.fetched_ends.proofs.SessionsQuiet.{none_dropped}
+use Rattle.late_answers.proofs.SeenAlike.{last_alike, live_alike}
+use Rattle.late_answers.proofs.SeenSessions.{seen_alike}
+use Rattle.late_answers.proofs.SessionsQuiet.{none_dropped}
 use Rattle.fetched_ends.specs.Marked.{is_taken_by, is_touched_by, touched_behind}
 use Rattle.late_answers.proofs.BehindSessions.{dropped_session}
 use Rattle.late_answers.proofs.WalksAnew.{kept_before, kept_large}

@@ -7,7 +7,7 @@ use Rattle.capture_laws.proofs.OneWalk.{walks_alike}
 use Rattle.capture_laws.specs.Order.{is_answer, is_request}
 use Rattle.capture_laws.specs.Walks.{StepsBy, StepsTo, Walks}
 use Rattle.fetched_ends.proofs.MarksMoved.{answer_moves}
-use Rattle.fetched_ends.proofs.StepsMoved.{walks_held}
+use Rattle.late_answers.proofs.StepsMoved.{walks_held}
 use Rattle.fetched_ends.specs.Marked.{AnswerMovesMarks, MarksStand, touched_behind}
 use Rattle.late_answers.specs.Marking as marking
 use Rattle.late_answers.specs.Passed.{touched}

@@ -17,8 +17,8 @@ use Rattle.responder_machine.specs.Turn.{handle_in}
 use Rattle.responder_session.specs.Took.{turn_in}
 use Rattle.spdm_basis.proofs.Bools.{and_second}
 use Rattle.world_machine.specs.Rounds.{no_draw}
-use Rattle.fetched_ends.proofs.LargeTaken.{large_taken}
-use Rattle.fetched_ends.proofs.RecordTaken.{body_adds, entry_at}
+use Rattle.fetched_answers.proofs.LargeTaken.{large_taken}
+use Rattle.fetched_answers.proofs.RecordTaken.{body_adds, entry_at}
 use Rattle.fetched_ends.specs.Prepared.{NeverLarge}
 
 module _ (r : RspSetup) (g : History) (tag : ℕ) (body answer : List ℕ) (type : (slice_index body 0 == 5) ≡ false) (large : IsShownLarge r g tag body answer) where

@@ -30,7 +30,7 @@ use Rattle.world_machine.specs.Setup.{Configuration}
 use Rattle.requester_machine.specs.May.{IsSetUp}
 use Rattle.requester_machine.specs.Setup.{ReqSetup}
 use Rattle.fetched_ends.proofs.AsksTold.{ends_asks}
-use Rattle.fetched_ends.proofs.SeenOpens.{answering_alike}
+use Rattle.late_answers.proofs.SeenOpens.{answering_alike}
 use Rattle.fetched_ends.specs.Fetched.{IsFetchedWhy, IsRepliedTo}
 
 module _ (w : Configuration) (q : ReqSetup) (older : List (List ℕ)) (rows : List Row) (f : Fetching) (route : RouteFields) (answer : List ℕ) (turn : AnswersInTurn f.kept route answer) where

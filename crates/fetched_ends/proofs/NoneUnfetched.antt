@@ -17,13 +17,13 @@ use Rattle.chunking.specs.Collecting.{joined_with, under_way}
 use Rattle.fetched_answers.proofs.LargeHeard.{large_reply}
 use Rattle.fetched_answers.proofs.LargeTurns.{SendsLarge, turn_large}
 use Rattle.fetched_ends.proofs.BegunPassed.{plain_large}
-use Rattle.fetched_ends.proofs.CapsTurns.{Settling, turn_settles}
-use Rattle.fetched_ends.proofs.CapsTurns.Settling.{Renews, Tells, Stays}
+use Rattle.late_answers.proofs.CapsTurns.{Settling, turn_settles}
+use Rattle.late_answers.proofs.CapsTurns.Settling.{Renews, Tells, Stays}
 use Rattle.fetched_ends.proofs.HeldNever.{clear_shape}
 use Rattle.fetched_ends.proofs.HeldTurns.{large_turn}
-use Rattle.fetched_ends.proofs.LargeAsks.{IsGivenLarge, asks_first}
+use Rattle.fetched_answers.proofs.LargeAsks.{IsGivenLarge, asks_first}
 use Rattle.fetched_ends.proofs.RoundAnswered.{IsSteady, IsWaiting, walks_wait}
-use Rattle.fetched_ends.proofs.CapsSent.{IsTagged}
+use Rattle.fetched_answers.proofs.CapsSent.{IsTagged}
 use Rattle.fetched_ends.proofs.SameChunks.{same_common, walks_agree}
 use Rattle.fetched_ends.specs.BegunHeld.{has_free_length}
 use Rattle.mctp_framing.specs.Cutting.{RouteFields}

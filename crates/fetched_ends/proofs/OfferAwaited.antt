@@ -11,9 +11,9 @@ use Rattle.capture_laws.specs.Walks.{StepsBy, StepsTo, Walks}
 use Rattle.fetched_answers.proofs.GetAnswers.{heard_so}
 use Rattle.fetched_answers.proofs.GetSteps.{tag_next}
 use Rattle.fetched_answers.proofs.WalksSound.{walks_sound}
-use Rattle.fetched_ends.proofs.CapsAsked.{AllAsk, AsksSo, IsFor, whole_caps}
-use Rattle.fetched_ends.proofs.CapsTurns.{Settling, turn_settles}
-use Rattle.fetched_ends.proofs.CapsTurns.Settling.{Renews, Tells, Stays}
+use Rattle.late_answers.proofs.CapsAsked.{AllAsk, AsksSo, IsFor, whole_caps}
+use Rattle.late_answers.proofs.CapsTurns.{Settling, turn_settles}
+use Rattle.late_answers.proofs.CapsTurns.Settling.{Renews, Tells, Stays}
 use Rattle.fetched_ends.proofs.LateShown.{same_form}
 use Rattle.fetched_ends.proofs.LeftSame.{outcome_fetching}
 use Rattle.fetched_ends.proofs.OfferKept.{IsSameKept, NoneUnder, answers_none, kept_at, plain_same}

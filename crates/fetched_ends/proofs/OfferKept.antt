@@ -2,8 +2,8 @@
 use Rattle.std.proofs.Common.{◌≡◌, ◌==◌, ◌&&◌, ◌+◌, ◌≤◌, ◌∙◌, ◌⊎◌, ℕ, List, [], ◌∷◌, refl, sym, ap, subst, drop, length, arith, Bool, true, false, Option, Some, None, is_some, cond, inl, inr, eq-eqb, eqb-true, ne_eqb}
 use Rattle.std.specs.Prelude.{bytes_eq, slice_index}
 use Rattle.std.proofs.lemmas.Bool.{false≢true}
-use Rattle.fetched_ends.proofs.CapsTurns.{Settling, turn_settles}
-use Rattle.fetched_ends.proofs.CapsTurns.Settling.{Renews, Tells, Stays}
+use Rattle.late_answers.proofs.CapsTurns.{Settling, turn_settles}
+use Rattle.late_answers.proofs.CapsTurns.Settling.{Renews, Tells, Stays}
 use Rattle.fetched_ends.proofs.LateShown.{same_form}
 use Rattle.late_answers.proofs.WalksAnew.{kept_before, kept_large}
 use Rattle.responder_machine.proofs.Making.{turn_message}

@@ -36,9 +36,9 @@ use Rattle.world_machine.specs.LargeAnswers.{is_fetching, is_unseen_in, seen, wh
 use Rattle.world_machine.specs.Rounds.{Dialogue, Round}
 use Rattle.world_machine.specs.SessionTable.{Row}
 use Rattle.world_machine.specs.Setup.{Configuration}
-use Rattle.fetched_ends.proofs.HeardOn.{IsHeardOn, heard_on}
+use Rattle.fetched_answers.proofs.HeardOn.{IsHeardOn, heard_on}
 use Rattle.fetched_ends.proofs.InSessionRecord.{unseen_stand}
-use Rattle.fetched_ends.proofs.OthersLed.{sealed_in}
+use Rattle.late_answers.proofs.OthersLed.{sealed_in}
 use Rattle.fetched_ends.proofs.OthersSame.{judged_at, same_on}
 use Rattle.fetched_ends.specs.InSession.{AsksFor, IsFetchedIn, IsMeasuredBy}
 use Rattle.fetched_ends.specs.SessionOthers.{IsOtherAnswer}

@@ -40,10 +40,10 @@ use Rattle.world_machine.specs.Rounds.{Round, no_draw}
 use Rattle.world_machine.specs.SessionTable.{Row}
 use Rattle.world_machine.specs.Setup.{Configuration}
 use Rattle.fetched_ends.proofs.InSessionRecord.{id_is}
-use Rattle.fetched_ends.proofs.MeasuredStays.{StaysIn}
-use Rattle.fetched_ends.proofs.MeasuredStays.StaysIn.{Same as Stays, More}
+use Rattle.fetched_answers.proofs.MeasuredStays.{StaysIn}
+use Rattle.fetched_answers.proofs.MeasuredStays.StaysIn.{Same as Stays, More}
 use Rattle.fetched_ends.proofs.OthersKept.{behind, dropped_large, ids, large_then, leads, outcome}
-use Rattle.fetched_ends.proofs.OthersLed.{IsSealed, live_before, live_behind, pending_behind, sealed_in}
+use Rattle.late_answers.proofs.OthersLed.{IsSealed, live_before, live_behind, pending_behind, sealed_in}
 use Rattle.fetched_ends.proofs.OthersSame.{judged_at, none_dropped}
 use Rattle.fetched_ends.specs.InSession.{IsFetchedIn}
 use Rattle.fetched_ends.specs.SessionOthers.{IsOtherAnswer, is_refused, left_then}

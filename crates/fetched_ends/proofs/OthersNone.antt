@@ -37,7 +37,7 @@ use Rattle.world_machine.specs.Setup.{Configuration}
 use Rattle.fetched_ends.proofs.HeldMessages.{IsHeld, held_in}
 use Rattle.fetched_ends.proofs.InSessionPut.{pending_same}
 use Rattle.fetched_ends.proofs.InSessionRecord.{id_is, unseen_stand}
-use Rattle.fetched_ends.proofs.OthersLed.{IsSealed, sealed_in}
+use Rattle.late_answers.proofs.OthersLed.{IsSealed, sealed_in}
 use Rattle.fetched_ends.proofs.RefusedTexts.{refused_is}
 use Rattle.fetched_ends.proofs.TextsAlike.{taken_moved, text_moved}
 use Rattle.fetched_ends.specs.InSession.{IsTextOf, is_chunk}

@@ -38,16 +38,16 @@ use Rattle.world_machine.specs.SessionTable.{Row}
 use Rattle.world_machine.specs.Setup.{Configuration}
 use Rattle.fetched_ends.proofs.InSessionPut.{measured}
 use Rattle.fetched_ends.proofs.LeftBefore.{apart, one, two, unseen_is}
-use Rattle.fetched_ends.proofs.MeasuredStays.{measured_stays}
+use Rattle.fetched_answers.proofs.MeasuredStays.{measured_stays}
 use Rattle.fetched_ends.proofs.OtherBytes.{flipped}
 use Rattle.fetched_ends.proofs.OthersKept.{behind, ids, large_then, outcome, unseen_then}
-use Rattle.fetched_ends.proofs.OthersLed.{IsSealed, pending_behind}
+use Rattle.late_answers.proofs.OthersLed.{IsSealed, pending_behind}
 use Rattle.fetched_ends.proofs.OthersLeft.{left_is, live_view, none_view, sealed, session_stays, session_then, stays_then, turn_gets, turn_small, unseen_session, unseen_stays, was_live}
-use Rattle.fetched_ends.proofs.SeenAlike.{live_alike as seen_live}
-use Rattle.fetched_ends.proofs.SeenGone.{gone_stands, other_session}
-use Rattle.fetched_ends.proofs.SeenSessions.{seen_alike}
-use Rattle.fetched_ends.proofs.SizesSeen.{session_queue, session_turns}
-use Rattle.fetched_ends.proofs.Uncounted.{uncounted_first, uncounted_more}
+use Rattle.late_answers.proofs.SeenAlike.{live_alike as seen_live}
+use Rattle.late_answers.proofs.SeenGone.{gone_stands, other_session}
+use Rattle.late_answers.proofs.SeenSessions.{seen_alike}
+use Rattle.late_answers.proofs.SizesSeen.{session_queue, session_turns}
+use Rattle.fetched_answers.proofs.Uncounted.{uncounted_first, uncounted_more}
 use Rattle.fetched_ends.specs.InSession.{IsFetchedIn}
 use Rattle.fetched_ends.specs.SessionOthers.{IsOtherAnswer, MayForget, left_then}
 use Rattle.fetched_ends.specs.declared.in_session.InSession.{InSession}

@@ -65,18 +65,18 @@ use Rattle.world_machine.specs.LargeAnswers.{is_fetching, takes_get, with_large}
 use Rattle.world_machine.specs.Rounds.{Round, no_draw}
 use Rattle.world_machine.specs.SessionTable.{Row, number_from}
 use Rattle.world_machine.specs.Setup.{Configuration}
-use Rattle.fetched_ends.proofs.AcceptsNone.{record_accepts}
+use Rattle.late_answers.proofs.AcceptsNone.{record_accepts}
 use Rattle.fetched_ends.proofs.AsksTold.{plain_ends}
 use Rattle.fetched_ends.proofs.BegunGiven.{none_begun}
 use Rattle.fetched_ends.proofs.BegunTold.{six_again}
-use Rattle.fetched_ends.proofs.ChangesOn.{accepted_on, asked_on}
+use Rattle.fetched_answers.proofs.ChangesOn.{accepted_on, asked_on}
 use Rattle.fetched_ends.proofs.InSessionRefused.{refused}
 use Rattle.fetched_ends.proofs.OthersKept.{answer_then, asks_then, behind, clear_then, goes, ids, large_then, leads, next, outcome, plainly, stands_then, unseen_then}
 use Rattle.fetched_ends.proofs.OthersLeft.{left_is, sizes_then}
 use Rattle.fetched_ends.proofs.OthersStop.{uncounted_then}
 use Rattle.fetched_ends.proofs.OthersSame.{is_none_with}
-use Rattle.fetched_ends.proofs.QuietSteps.{quiet_step}
-use Rattle.fetched_ends.proofs.SeenKeys.{keys_unseen, views_alike}
+use Rattle.late_answers.proofs.QuietSteps.{quiet_step}
+use Rattle.fetched_answers.proofs.SeenKeys.{keys_unseen, views_alike}
 use Rattle.fetched_ends.specs.Fetched.{IsRepliedTo, rows_upon}
 use Rattle.fetched_ends.specs.InSession.{IsFetchedIn}
 use Rattle.fetched_ends.specs.SessionOthers.{IsOtherAnswer, left_then}

@@ -13,14 +13,14 @@ use Rattle.capture_laws.specs.Walks.{StepsBy, StepsTo, Walks}
 use Rattle.chunking.specs.Cutting.{chunk_count, nth_chunk}
 use Rattle.fetched_answers.proofs.GetAnswers.{heard_so}
 use Rattle.fetched_answers.proofs.WalksSound.{walks_sound}
-use Rattle.fetched_ends.proofs.CapsAsked.{AllAsk, AsksSo, IsFor}
-use Rattle.fetched_ends.proofs.CapsSent.{hears_taken, owed_took, IsTook}
+use Rattle.late_answers.proofs.CapsAsked.{AllAsk, AsksSo, IsFor}
+use Rattle.fetched_answers.proofs.CapsSent.{hears_taken, owed_took, IsTook}
 use Rattle.fetched_ends.proofs.FirstTaken.{first_passes, first_taken}
 use Rattle.fetched_ends.proofs.LeftSame.{outcome_fetching}
 use Rattle.fetched_ends.proofs.OfferAwaited.{Asks, heard_tag, large_reply, next_is, not_later, own_agree}
 use Rattle.fetched_ends.proofs.OfferKept.{plain_same}
 use Rattle.fetched_ends.proofs.SameChunks.{Agrees, walks_agree}
-use Rattle.fetched_ends.proofs.SizesSeen.{common_same}
+use Rattle.late_answers.proofs.SizesSeen.{common_same}
 use Rattle.large_requests.proofs.Histories.{next_terms}
 use Rattle.late_answers.proofs.WalksAnew.{kept_before, kept_large}
 use Rattle.mctp_framing.specs.Gathering.{Gathered}

@@ -29,7 +29,7 @@ use Rattle.world_machine.specs.CapturedAnswers.{MayLeadTo}
 use Rattle.world_machine.specs.LargeAnswers.{is_large}
 use Rattle.world_machine.specs.Opening.{any_free, turn_in}
 use Rattle.world_machine.specs.Rounds.{no_draw}
-use Rattle.fetched_ends.proofs.PlainTexts.{one_inner}
+use Rattle.late_answers.proofs.PlainTexts.{one_inner}
 use Rattle.fetched_ends.specs.InSession.{IsTextOf}
 use Rattle.fetched_ends.specs.SessionOthers.{IsRefusing, is_error, is_refused}
 

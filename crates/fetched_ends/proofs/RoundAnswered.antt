@@ -10,8 +10,8 @@ use Rattle.capture_laws.specs.Order.{is_answer, is_request}
 use Rattle.capture_laws.specs.Walks.{StepsBy, StepsTo, Walks}
 use Rattle.chunking.specs.Collecting.{joined_with, under_way}
 use Rattle.fetched_answers.proofs.WalksSound.{walk_stands}
-use Rattle.fetched_ends.proofs.CapsAsked.{AllAsk}
-use Rattle.fetched_ends.proofs.CapsSent.{IsTagged, sends_begun}
+use Rattle.late_answers.proofs.CapsAsked.{AllAsk}
+use Rattle.fetched_answers.proofs.CapsSent.{IsTagged, sends_begun}
 use Rattle.fetched_ends.proofs.HeldNever.{clear_shape}
 use Rattle.fetched_ends.proofs.RefusedAgain.{none_large_again}
 use Rattle.fetched_ends.proofs.SameChunks.{walks_agree}

@@ -6,11 +6,11 @@ use Rattle.std.proofs.lemmas.Option.{none-some, same_Some}
 use Rattle.capture_laws.proofs.OneWalk.{walks_alike}
 use Rattle.capture_laws.specs.Order.{is_answer, is_request}
 use Rattle.capture_laws.specs.Walks.{StepsBy, StepsTo, Walks}
-use Rattle.fetched_ends.proofs.CapsAsked.{AllAsk, AsksSo, IsCaps, IsFor, IsLater, sent_later}
+use Rattle.late_answers.proofs.CapsAsked.{AllAsk, AsksSo, IsCaps, IsFor, IsLater, sent_later}
 use Rattle.fetched_ends.proofs.CapsBehind.{answers_behind}
-use Rattle.fetched_ends.proofs.CapsSent.{Counts, IsBegun, IsTagged, IsTaken, hears_taken, sends_begun}
+use Rattle.fetched_answers.proofs.CapsSent.{Counts, IsBegun, IsTagged, IsTaken, hears_taken, sends_begun}
 use Rattle.fetched_ends.proofs.CapsStand.{Behind, KeptCaps}
-use Rattle.fetched_ends.proofs.SizesSeen.{common_same}
+use Rattle.late_answers.proofs.SizesSeen.{common_same}
 use Rattle.fetched_ends.specs.SameChunks.{IsTold, SameCapabilities, SameCommon}
 use Rattle.large_answers.proofs.NoCaps.{NoCaps, walks_caps}
 use Rattle.large_answers.proofs.TurnsBeside.{SameCaps}

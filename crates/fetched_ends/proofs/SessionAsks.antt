@@ -7,7 +7,7 @@ use Rattle.capture_laws.specs.KeptChanges.{accepted_from}
 use Rattle.capture_laws.specs.Keeping.{restored}
 use Rattle.capture_laws.specs.RepliesShown.{heard_from, no_values}
 use Rattle.fetched_answers.proofs.WalksSound.{walks_sound}
-use Rattle.fetched_ends.proofs.AsksOn.{AsksOn, clear_in_session_on}
+use Rattle.late_answers.proofs.AsksOn.{AsksOn, clear_in_session_on}
 use Rattle.fetched_ends.proofs.ClearAsks.{gets_is, place_is}
 use Rattle.fetched_ends.specs.AsksUpon.{SessionAsksOn}
 use Rattle.large_answers.specs.Fetching.{Fetching, IsFetchingOf, dialogue_of}

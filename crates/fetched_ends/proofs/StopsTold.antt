@@ -22,7 +22,7 @@ use Rattle.chunking.proofs.ChunkSteps as step
 use Rattle.chunking.specs.Cutting.{chunk_count, unit_of}
 use Rattle.fetched_answers.specs.JudgedFor.{IsMeasured, JudgesFor, session_with}
 use Rattle.fetched_ends.proofs.AsksTold.{plain_ends}
-use Rattle.fetched_ends.proofs.BehindGet.{IsMeasuredLast, measured_more, pending_more}
+use Rattle.late_answers.proofs.BehindGet.{IsMeasuredLast, measured_more, pending_more}
 use Rattle.fetched_ends.proofs.InSessionGone.{pending_next}
 use Rattle.fetched_ends.proofs.InSessionPut.{chunked, common_same, measured, pending_same}
 use Rattle.fetched_ends.proofs.InSessionRecord.{fetch_is, gets, id_is, leads, place_is, plainly, unseen_none}

@@ -16,10 +16,10 @@ use Rattle.world_machine.proofs.FetchedSessions.{ended_fetched}
 use Rattle.world_machine.proofs.UnseenStands.{UnseenStand}
 use Rattle.world_machine.specs.LargeAnswers.{with_large}
 use Rattle.world_machine.specs.Opening.{any_free, turn_in}
-use Rattle.fetched_ends.proofs.SeenAlike.{SeenAlike, fault_alike, last_alike, live_alike, opened_alike}
-use Rattle.fetched_ends.proofs.SeenOpens.{IsOne, number_by, one_key, purpose_by}
-use Rattle.fetched_ends.proofs.SeenSessions.{seen_alike}
-use Rattle.fetched_ends.proofs.SeenUpdates.{updates_alike}
+use Rattle.late_answers.proofs.SeenAlike.{SeenAlike, fault_alike, last_alike, live_alike, opened_alike}
+use Rattle.late_answers.proofs.SeenOpens.{IsOne, number_by, one_key, purpose_by}
+use Rattle.late_answers.proofs.SeenSessions.{seen_alike}
+use Rattle.late_answers.proofs.SeenUpdates.{updates_alike}
 use Rattle.fetched_ends.specs.InSession.{IsTextOf}
 
 module _ (r : RspSetup) (which : ℕ) (h : History) (none : UnseenStand h) (body : List ℕ) where

@@ -3,7 +3,7 @@ use Rattle.std.proofs.Common.{◌≡◌, ◌<◌, ◌+◌, ◌++◌, ℕ, List, 
 use Rattle.std.proofs.lemmas.Bool.{false≢true}
 use Rattle.fetched_answers.specs.AnswerTexts.{Holds, HoldsNone}
 use Rattle.secured_record.specs.Format.{plain_text}
-use Rattle.fetched_ends.proofs.PlainTexts.{one_inner}
+use Rattle.late_answers.proofs.PlainTexts.{one_inner}
 use Rattle.fetched_ends.specs.InSession.{is_chunk}
 use Rattle.fetched_ends.specs.SessionOthers.{IsRefusing, is_error}
 

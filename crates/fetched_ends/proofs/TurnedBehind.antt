@@ -45,12 +45,12 @@ use Rattle.world_machine.specs.Rounds.{Dialogue, Round, no_draw}
 use Rattle.world_machine.specs.SessionTable.{Row}
 use Rattle.world_machine.specs.Setup.{Configuration}
 use Rattle.fetched_ends.proofs.BeginsThere.{big, e0, f0, leads, on_is, shown_is, unseen_is}
-use Rattle.fetched_ends.proofs.HeardOn.{IsHeardOn, heard_on}
+use Rattle.fetched_answers.proofs.HeardOn.{IsHeardOn, heard_on}
 use Rattle.fetched_ends.proofs.InSessionRecord.{unseen_stand}
 use Rattle.fetched_ends.proofs.OthersSame.{judged_at, place_at}
-use Rattle.fetched_ends.proofs.SeenAlike.{SeenAlike}
-use Rattle.fetched_ends.proofs.SeenKeys.{keys_unseen, views_alike}
-use Rattle.fetched_ends.proofs.SeenSessions.{seen_alike}
+use Rattle.late_answers.proofs.SeenAlike.{SeenAlike}
+use Rattle.fetched_answers.proofs.SeenKeys.{keys_unseen, views_alike}
+use Rattle.late_answers.proofs.SeenSessions.{seen_alike}
 use Rattle.fetched_ends.specs.InSession.{IsFetchedIn}
 use Rattle.fetched_ends.specs.SessionOthers.{IsOtherAnswer}
 use Rattle.fetched_ends.specs.declared.in_session.InSession.{InSession}

@@ -62,18 +62,18 @@ use Rattle.fetched_ends.proofs.BeginsThere.{f0}
 use Rattle.fetched_ends.proofs.BegunStands.{behind_entry, ceil_some}
 use Rattle.fetched_ends.proofs.BegunTold.{six_again}
 use Rattle.fetched_ends.proofs.BegunUnfetched.{unseen_newest}
-use Rattle.fetched_ends.proofs.ChangesOn.{accepted_on, asked_on}
+use Rattle.fetched_answers.proofs.ChangesOn.{accepted_on, asked_on}
 use Rattle.fetched_ends.proofs.InSessionRecord.{id_is}
 use Rattle.fetched_ends.proofs.LeftBefore.{one, unseen_is}
-use Rattle.fetched_ends.proofs.MeasuredTurns.{large_turn}
-use Rattle.fetched_ends.proofs.QuietSteps.{none_accepted, quiet_step}
-use Rattle.fetched_ends.proofs.RecordTaken.{taken_is}
-use Rattle.fetched_ends.proofs.SeenAlike.{SeenAlike, live_alike, terms_alike}
-use Rattle.fetched_ends.proofs.SeenGone.{other_session}
-use Rattle.fetched_ends.proofs.SizesSeen.{session_queue, session_turns}
+use Rattle.late_answers.proofs.MeasuredTurns.{large_turn}
+use Rattle.late_answers.proofs.QuietSteps.{none_accepted, quiet_step}
+use Rattle.fetched_answers.proofs.RecordTaken.{taken_is}
+use Rattle.late_answers.proofs.SeenAlike.{SeenAlike, live_alike, terms_alike}
+use Rattle.late_answers.proofs.SeenGone.{other_session}
+use Rattle.late_answers.proofs.SizesSeen.{session_queue, session_turns}
 use Rattle.fetched_ends.proofs.TurnedBehind.{all, at_is, both_is, carries, ended, ends, judged_is, keys_turned, next, none_came, stands, turned, turns, views_turned}
 use Rattle.fetched_ends.proofs.TurnedThere.{asks_too, sent}
-use Rattle.fetched_ends.proofs.Uncounted.{pending_alike, pending_counts, uncounted_turned}
+use Rattle.fetched_answers.proofs.Uncounted.{pending_alike, pending_counts, uncounted_turned}
 use Rattle.fetched_ends.specs.Fetched.{IsRepliedTo, rows_upon}
 use Rattle.fetched_ends.specs.InSession.{AreLengths, AsksFor, IsFetchedIn}
 use Rattle.fetched_ends.specs.SessionOthers.{IsOtherAnswer}

@@ -29,10 +29,10 @@ use Rattle.world_machine.specs.CapturedAnswers.{MayLeadTo, answer_to, clear_answ
 use Rattle.world_machine.specs.LargeAnswers.{IsLargeAnswer, unseen}
 use Rattle.world_machine.specs.Rounds.{Dialogue, no_draw}
 use Rattle.fetched_ends.proofs.BeginsThere.{asks_one, big, e0, f0, goes0, its, shown_is}
-use Rattle.fetched_ends.proofs.MeasuredTurns.{bytes_are, large_turn}
-use Rattle.fetched_ends.proofs.RecordTaken.{body_adds}
-use Rattle.fetched_ends.proofs.SeenAlike.{SeenAlike, fault_alike, last_alike, live_alike, negotiation_alike, opened_alike, stage_alike}
-use Rattle.fetched_ends.proofs.SeenMeasures.{asks_alike, large_alike, reply_alike, turn_alike}
+use Rattle.late_answers.proofs.MeasuredTurns.{bytes_are, large_turn}
+use Rattle.fetched_answers.proofs.RecordTaken.{body_adds}
+use Rattle.late_answers.proofs.SeenAlike.{SeenAlike, fault_alike, last_alike, live_alike, negotiation_alike, opened_alike, stage_alike}
+use Rattle.late_answers.proofs.SeenMeasures.{asks_alike, large_alike, reply_alike, turn_alike}
 use Rattle.fetched_ends.specs.InSession.{IsMeasuredBy}
 
 -- Two histories whose sessions are alike, and in which one record was the last of an ended session.

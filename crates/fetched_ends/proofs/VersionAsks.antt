@@ -15,7 +15,7 @@ use Rattle.fetched_answers.proofs.GetSteps.{Fetches}
 use Rattle.fetched_answers.proofs.GetSteps.Fetches.{Owes, Asks, Has}
 use Rattle.fetched_answers.proofs.WalksSound.{walks_sound}
 use Rattle.fetched_answers.specs.ClearChunks.{get_message}
-use Rattle.fetched_ends.proofs.HeardOn.{IsHeardOn, heard_on}
+use Rattle.fetched_answers.proofs.HeardOn.{IsHeardOn, heard_on}
 use Rattle.fetched_ends.specs.AsksUpon.{VersionAsksNone}
 use Rattle.large_answers.specs.Fetching.{Fetching, IsFetchingOf, dialogue_of}
 use Rattle.requester_machine.proofs.Heard.{accepted}

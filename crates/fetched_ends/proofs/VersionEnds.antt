@@ -23,11 +23,11 @@ use Rattle.fetched_answers.proofs.ClearViews.{keys_stand_on}
 use Rattle.fetched_answers.proofs.MeanwhileClear.{version_goes}
 use Rattle.fetched_answers.proofs.VersionGiven.{version_is_given}
 use Rattle.fetched_answers.specs.StandsAlike.{version_entry}
-use Rattle.fetched_ends.proofs.ChangesOn.{accepted_on, asked_on}
-use Rattle.fetched_ends.proofs.HeardOn.{IsHeardOn, heard_on}
+use Rattle.fetched_answers.proofs.ChangesOn.{accepted_on, asked_on}
+use Rattle.fetched_answers.proofs.HeardOn.{IsHeardOn, heard_on}
 use Rattle.fetched_ends.proofs.HeldOn.{carries}
-use Rattle.fetched_ends.proofs.QuietSteps.{quiet_step}
-use Rattle.fetched_ends.proofs.VersionHeard.{version_accepts_none}
+use Rattle.late_answers.proofs.QuietSteps.{quiet_step}
+use Rattle.late_answers.proofs.VersionHeard.{version_accepts_none}
 use Rattle.fetched_ends.proofs.VersionRound.{AwaitsVersion, anew_with, awaits_version}
 use Rattle.fetched_ends.specs.Fetched.{IsRepliedTo, rows_upon}
 use Rattle.fetched_ends.specs.Held.{IsHeldIn}

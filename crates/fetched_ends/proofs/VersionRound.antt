@@ -14,7 +14,7 @@ use Rattle.fetched_answers.proofs.SettledCaps.{walks_settle}
 use Rattle.fetched_answers.proofs.TurnsBoth.{Settles}
 use Rattle.fetched_answers.specs.StandsAlike.{IsAnew, version_entry}
 use Rattle.fetched_ends.proofs.HasGets.{common_held}
-use Rattle.fetched_ends.proofs.HeldSettled.{left_turns}
+use Rattle.fetched_answers.proofs.HeldSettled.{left_turns}
 use Rattle.fetched_ends.proofs.VersionHeld.{anew_held, version_held}
 use Rattle.fetched_ends.specs.Held.{IsHeldIn, StandsBefore}
 use Rattle.fetched_ends.specs.declared.held.Held.{Held}

@@ -1,5 +1,5 @@
 use Rattle.std.proofs.Common.{sym, ◌∙◌}
-use Rattle.fetched_ends.proofs.HandshakeNone.{none_at}
+use Rattle.fetched_answers.proofs.HandshakeNone.{none_at}
 use Rattle.fetched_ends.proofs.handshake_left.handshake_id.Goals as goal
 
 pub returns-then-is_begun : goal.returns-then-is_begun

@@ -16,7 +16,7 @@ use Rattle.capture_laws.specs.Order.{body_in, tag_in}
 use Rattle.capture_laws.specs.RepliesShown.{responder_for}
 use Rattle.capture_laws.specs.Rows as rows_of
 use Rattle.fetched_answers.proofs.RestQuiet.{none_pends_in_clear}
-use Rattle.fetched_ends.proofs.AskedAccepts.{asked_accepts_none}
+use Rattle.late_answers.proofs.AskedAccepts.{asked_accepts_none}
 use Rattle.fetched_ends.proofs.BegunHeldTold.{not_large, sealed_answer, sealed_request, told_large, told_none}
 use Rattle.fetched_ends.proofs.BegunPassed.{accepts_none, left_turn, passed, passed_change, passed_stands, passes, turn_is, unseen_turn}
 use Rattle.fetched_ends.proofs.HeldBegins.{begins, behind, next}

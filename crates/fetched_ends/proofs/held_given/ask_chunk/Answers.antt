@@ -5,7 +5,7 @@ use Rattle.capture_laws.specs.AnswersShown.{least_values}
 use Rattle.connection.specs.Connected.{StandsFor}
 use Rattle.fetched_answers.proofs.ClearChunks.{gives}
 use Rattle.fetched_answers.specs.ClearChunks.{get_message}
-use Rattle.fetched_ends.proofs.LastAsked.{written}
+use Rattle.fetched_answers.proofs.LastAsked.{written}
 use Rattle.responder_machine.specs.History.{History}
 use Rattle.responder_machine.specs.Place.{clear_place}
 use Rattle.responder_machine.specs.Responder.{Outcome, after, body_of, on_clear}

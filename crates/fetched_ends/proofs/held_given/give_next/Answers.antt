@@ -3,7 +3,7 @@ use Rattle.std.specs.Prelude.{slice_index}
 use Rattle.chunking.specs.Collecting.{joined}
 use Rattle.chunking.specs.Cutting.{chunk_count, chunks_before, nth_chunk}
 use Rattle.fetched_answers.specs.ClearChunks.{get_response}
-use Rattle.fetched_ends.proofs.LastAsked.{extended}
+use Rattle.fetched_answers.proofs.LastAsked.{extended}
 use Rattle.connection.specs.Connected.{StandsFor}
 use Rattle.fetched_ends.proofs.LastReady.{add_one}
 use Rattle.world_machine.specs.LargeAnswers.{with_large}

@@ -40,7 +40,7 @@ use Rattle.fetched_ends.proofs.BegunStands.{begun_stands}
 use Rattle.fetched_ends.proofs.BegunTold.{adds_there, behind_large, few_begun}
 use Rattle.fetched_ends.proofs.BegunUnfetched.{forgot, goes_unfetched, large_there, measures_there}
 use Rattle.fetched_ends.proofs.LargeRecords.{large_sealed, record_here}
-use Rattle.fetched_ends.proofs.LargeTaken.{large_taken}
+use Rattle.fetched_answers.proofs.LargeTaken.{large_taken}
 use Rattle.fetched_ends.proofs.NeverPrepared.{never_prepared}
 use Rattle.fetched_ends.proofs.in_session_begins.begins_in_session.Goals as goal
 use Rattle.fetched_ends.specs.Prepared.{IsPrepared, NeverLarge}

@@ -19,7 +19,7 @@ use Rattle.capture_laws.specs.RepliesShown.{responder_for}
 use Rattle.capture_laws.specs.Rows as rows_of
 use Rattle.connection.specs.Connected as connected
 use Rattle.fetched_answers.proofs.RestQuiet.{none_pends_in_clear}
-use Rattle.fetched_ends.proofs.AskedAccepts.{asked_accepts_none}
+use Rattle.late_answers.proofs.AskedAccepts.{asked_accepts_none}
 use Rattle.fetched_ends.proofs.HeldHeard.{change_is, step_is}
 use Rattle.fetched_ends.proofs.LateBegun.{begins, few_asked, held_late, next, passes, quiet, stays}
 use Rattle.fetched_ends.proofs.LateShown.{chunks_here, wide_here}

@@ -1,5 +1,5 @@
 use Rattle.std.proofs.Common.{refl}
-use Rattle.fetched_ends.proofs.MarksCases.{marks_clear, marks_set, marks_stay, taken_turn}
+use Rattle.late_answers.proofs.MarksCases.{marks_clear, marks_set, marks_stay, taken_turn}
 use Rattle.fetched_ends.proofs.marking.move_marks.Goals as goal
 use Rattle.world_machine.specs.Rounds.{no_draw}
 

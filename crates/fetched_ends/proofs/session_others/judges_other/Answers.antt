@@ -32,7 +32,7 @@ use Rattle.world_machine.specs.Rounds.{Round, no_draw}
 use Rattle.world_machine.specs.SessionTable.{number_from, rows_between}
 use Rattle.fetched_ends.proofs.BeginsThere.{f0}
 use Rattle.fetched_ends.proofs.InSessionRead.{few_kept, keys_kept}
-use Rattle.fetched_ends.proofs.LargeTaken.{large_taken}
+use Rattle.fetched_answers.proofs.LargeTaken.{large_taken}
 use Rattle.fetched_ends.proofs.NeverPrepared.{never_prepared}
 use Rattle.fetched_ends.proofs.OthersStop.{judges_then, may_forget}
 use Rattle.fetched_ends.proofs.OthersTold.{awaits, behind_given, behind_large, carries, change_then, ended_then, fetched_then, few_then, given_is, keys_then, no_last, none_of, refused_other, step_then, taken_is, then, then_kept}

@@ -29,9 +29,9 @@ use Rattle.world_machine.specs.Rounds.{no_draw}
 use Rattle.world_machine.specs.SessionTable.{number_from, rows_between}
 use Rattle.fetched_ends.proofs.InSessionRead.{few_kept}
 use Rattle.fetched_ends.proofs.InSessionVersion.{own_few, adds_there, anew_given, change_is, ended_on, few_behind, given_values, is_version, next, none_coming, other_refused, own_stand, stands_behind, step_is}
-use Rattle.fetched_ends.proofs.SeenKeys.{keys_given}
-use Rattle.fetched_ends.proofs.SizesSeen.{session_turns}
-use Rattle.fetched_ends.proofs.VersionShown.{never_apart, never_large, never_last, shown_from, shown_is, version_body}
+use Rattle.fetched_answers.proofs.SeenKeys.{keys_given}
+use Rattle.late_answers.proofs.SizesSeen.{session_turns}
+use Rattle.fetched_answers.proofs.VersionShown.{never_apart, never_large, never_last, shown_from, shown_is, version_body}
 use Rattle.fetched_ends.specs.InSession.{IsFetchedIn}
 use Rattle.fetched_ends.proofs.session_version.replies_version.Goals as goal
 

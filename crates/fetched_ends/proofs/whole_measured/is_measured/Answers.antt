@@ -6,7 +6,7 @@ use Rattle.measurements.specs.Records.{asked, is_missing}
 use Rattle.responder_machine.specs.Answer.{Free}
 use Rattle.spdm_grammar.specs.declared.block_spec.BlockSpec.{BlockSpec}
 use Rattle.world_machine.specs.Opening.{any_free}
-use Rattle.fetched_ends.proofs.MeasuredParts.{nonce_is, on_ok, opaque_is}
+use Rattle.late_answers.proofs.MeasuredParts.{nonce_is, on_ok, opaque_is}
 use Rattle.fetched_ends.proofs.whole_measured.is_measured.Goals as goal
 
 pub returns-then-size-le-MOST_BYTES-clause-yes : goal.returns-then-size-le-MOST_BYTES-clause-yes

@@ -15,7 +15,7 @@ use Rattle.capture_laws.specs.Rows.{StandsForRows}
 use Rattle.capture_laws.specs.declared.verdict.Seen.{Seen}
 use Rattle.connection.specs.Setup.{IsSetUp}
 use Rattle.fetched_ends.proofs.EndsLeft.{told_in}
-use Rattle.fetched_ends.proofs.EndsPrepared.{party_prepared}
+use Rattle.fetched_answers.proofs.EndsPrepared.{party_prepared}
 use Rattle.fetched_ends.proofs.EndsReplied.{begun_on}
 use Rattle.fetched_ends.proofs.judged_ends.JudgedEnds.begins_session.Goals as goal
 use Rattle.fetched_ends.specs.BegunIn.{IsBegunIn}

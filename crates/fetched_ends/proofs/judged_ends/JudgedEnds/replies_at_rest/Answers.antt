@@ -7,7 +7,7 @@ use Rattle.capture_laws.specs.Keeping.{restored}
 use Rattle.capture_laws.specs.Order.{body_in}
 use Rattle.capture_laws.specs.RepliesShown.{responder_for}
 use Rattle.fetched_ends.proofs.EndsLeft.{sent_rest}
-use Rattle.fetched_ends.proofs.EndsPrepared.{party_prepared, talk_prepared}
+use Rattle.fetched_answers.proofs.EndsPrepared.{party_prepared, talk_prepared}
 use Rattle.fetched_ends.proofs.EndsReplied.{none_sent}
 use Rattle.fetched_ends.proofs.LargeRecords.{none_asked}
 use Rattle.fetched_ends.proofs.judged_ends.JudgedEnds.replies_at_rest.Goals as goal

@@ -18,9 +18,9 @@ use Rattle.world_machine.proofs.FetchedSessions.{ended_fetched}
 use Rattle.world_machine.proofs.FetchedTells.{kept_large}
 use Rattle.world_machine.proofs.UnseenStands.{UnseenStand}
 use Rattle.world_machine.specs.LargeAnswers.{is_unseen_in, seen, seen_turn, with_large}
-use Rattle.fetched_ends.proofs.SeenAlike.{SeenAlike, live_alike}
-use Rattle.fetched_ends.proofs.SeenSessions.{seen_alike}
-use Rattle.fetched_ends.proofs.SizesSeen.{session_queue, session_turns}
+use Rattle.late_answers.proofs.SeenAlike.{SeenAlike, live_alike}
+use Rattle.late_answers.proofs.SeenSessions.{seen_alike}
+use Rattle.late_answers.proofs.SizesSeen.{session_queue, session_turns}
 
 -- ---- The sessions of other ids.
 

@@ -18,9 +18,9 @@ use Rattle.responder_machine.specs.Session.{id_in_record}
 use Rattle.responder_machine.specs.Setup.{RspSetup, towards}
 use Rattle.spdm_basis.specs.declared.PacketFault.{PacketFault}
 use Rattle.spdm_machine.specs.Packets.{gathered_from}
-use Rattle.fetched_ends.proofs.StepsBegun.{get_begins, settled, settled_begins}
-use Rattle.fetched_ends.proofs.StepsSessions.{Begins, large_begins, plain_begins, same_begins}
-use Rattle.fetched_ends.proofs.StepsFew.{FewAccepted, FewWaiting, Heard, hears_few, sends_few}
+use Rattle.late_answers.proofs.StepsBegun.{get_begins, settled, settled_begins}
+use Rattle.late_answers.proofs.StepsSessions.{Begins, large_begins, plain_begins, same_begins}
+use Rattle.late_answers.proofs.StepsFew.{FewAccepted, FewWaiting, Heard, hears_few, sends_few}
 use Rattle.capture_laws.proofs.PairWalks.{steps_setup}
 use Rattle.capture_laws.specs.Changes.{IsFew, WalksStep}
 use Rattle.capture_laws.specs.Order.{is_answer, is_request}

@@ -20,10 +20,10 @@ use Rattle.spdm_grammar.specs.declared.names.request_code.TheConstants.{END_SESS
 use Rattle.world_machine.proofs.FetchedSessions.{takes_with}
 use Rattle.world_machine.proofs.UnseenStands.{UnseenStand}
 use Rattle.world_machine.specs.LargeAnswers.{handle_shown, is_unseen_in, seen, seen_turn, with_large}
-use Rattle.fetched_ends.proofs.SeenAlike.{SeenAlike, answer_alike, answered, epoch_alike, exchange_alike, finish_alike, finish_answer_alike, negotiation_alike, number_alike, response_epoch_alike, response_number_alike, same_backwards, stage_alike, taken_alike}
-use Rattle.fetched_ends.proofs.SeenAlike.SeenAlike.{NoEvent, Behind, Here}
-use Rattle.fetched_ends.proofs.SeenOpens.{number_by, one_key, purpose_by, updates_with}
-use Rattle.fetched_ends.proofs.SeenSessions.{seen_alike}
+use Rattle.late_answers.proofs.SeenAlike.{SeenAlike, answer_alike, answered, epoch_alike, exchange_alike, finish_alike, finish_answer_alike, negotiation_alike, number_alike, response_epoch_alike, response_number_alike, same_backwards, stage_alike, taken_alike}
+use Rattle.late_answers.proofs.SeenAlike.SeenAlike.{NoEvent, Behind, Here}
+use Rattle.late_answers.proofs.SeenOpens.{number_by, one_key, purpose_by, updates_with}
+use Rattle.late_answers.proofs.SeenSessions.{seen_alike}
 
 -- ---- A key.
 

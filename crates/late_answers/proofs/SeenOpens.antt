@@ -19,10 +19,10 @@ use Rattle.world_machine.proofs.FetchedSessions.{ended_fetched, takes_with}
 use Rattle.world_machine.proofs.UnseenStands.{UnseenStand}
 use Rattle.world_machine.specs.LargeAnswers.{effect_with, handle_shown, is_unseen_in, seen, seen_turn, with_large}
 use Rattle.world_machine.specs.Opening.{any_free, opens_again, opens_answering, opens_ended, opens_in_session, opens_next, opens_to, turn_in}
-use Rattle.fetched_ends.proofs.SeenAlike.{SeenAlike, answer_alike, answered, exchange_alike, fault_alike, finish_alike, finish_answer_alike, last_alike, live_alike, negotiation_alike, opened_alike, response_epoch_alike, response_number_alike, stage_alike}
-use Rattle.fetched_ends.proofs.SeenAlike.SeenAlike.{NoEvent, Behind, Here}
-use Rattle.fetched_ends.proofs.SeenSessions.{seen_alike}
-use Rattle.fetched_ends.proofs.SeenUpdates.{updates_alike}
+use Rattle.late_answers.proofs.SeenAlike.{SeenAlike, answer_alike, answered, exchange_alike, fault_alike, finish_alike, finish_answer_alike, last_alike, live_alike, negotiation_alike, opened_alike, response_epoch_alike, response_number_alike, stage_alike}
+use Rattle.late_answers.proofs.SeenAlike.SeenAlike.{NoEvent, Behind, Here}
+use Rattle.late_answers.proofs.SeenSessions.{seen_alike}
+use Rattle.late_answers.proofs.SeenUpdates.{updates_alike}
 
 -- ---- Keys of answers.
 

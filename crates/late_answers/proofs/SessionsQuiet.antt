@@ -6,9 +6,9 @@ use Rattle.std.proofs.lemmas.Bool.Decides.{nat_tests}
 use Rattle.capture_laws.specs.Order.{is_answer, is_request}
 use Rattle.capture_laws.specs.Walks.{StepsBy, StepsTo, Walks}
 use Rattle.chunking.specs.Cutting.{chunk_count}
-use Rattle.fetched_ends.proofs.SettledSessions.{IsSettled, settled_sessions}
-use Rattle.fetched_ends.proofs.StepsBegun.{settled}
-use Rattle.fetched_ends.proofs.StepsMoved.{completes_since, walks_held}
+use Rattle.late_answers.proofs.SettledSessions.{IsSettled, settled_sessions}
+use Rattle.late_answers.proofs.StepsBegun.{settled}
+use Rattle.late_answers.proofs.StepsMoved.{completes_since, walks_held}
 use Rattle.late_answers.proofs.SessionNewest.{again_leaves_others}
 use Rattle.mctp_framing.specs.Gathering.{Gathered}
 use Rattle.mctp_framing.specs.Gathering.Gathered.{Whole, More, Dropped as Lost}

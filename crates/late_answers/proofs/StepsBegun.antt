@@ -14,7 +14,7 @@ use Rattle.responder_machine.specs.Turn.Effect.{NoEffect, Took, TookData}
 use Rattle.spdm_grammar.specs.declared.names.request_code.TheConstants.{CHUNK_GET, END_SESSION, GET_VERSION, PSK_EXCHANGE}
 use Rattle.spdm_machine.specs.Sessions.{id_in_exchange}
 use Rattle.capture_laws.specs.Changes.{IsFew}
-use Rattle.fetched_ends.proofs.StepsSessions.{Begins, count_dropped, plain_begins, same_begins}
+use Rattle.late_answers.proofs.StepsSessions.{Begins, count_dropped, plain_begins, same_begins}
 use Rattle.world_machine.proofs.UnseenStands.{IsClearSince, IsQuiet}
 use Rattle.world_machine.specs.CapturedAnswers.{MayHaveLed, MayLeadToEntry, request_in, tag_in}
 use Rattle.world_machine.specs.LargeAnswers.{begun_with, dropped_before_large, id_begun, is_unseen_effect, is_unseen_in, is_untouched, seen, seen_turn, takes_get, touches, with_large}

@@ -9,7 +9,7 @@ use Rattle.asking.proofs.Carrying.{count_few}
 use Rattle.chunking.proofs.ChunkLengths.{chunk_sound}
 use Rattle.chunking.specs.Cutting.{chunk_count, nth_chunk}
 use Rattle.fetched_answers.proofs.LargeHeard.{large_reply}
-use Rattle.fetched_ends.proofs.CapsAsked.{AsksIn, AsksSo}
+use Rattle.late_answers.proofs.CapsAsked.{AsksIn, AsksSo}
 use Rattle.negotiate.specs.declared.shared.Common.{Common}
 use Rattle.requester_machine.specs.Answers.{error_led, goes_on, is_refused, may_be_large}
 use Rattle.requester_machine.specs.Asking.{Outcome}

@@ -6,13 +6,13 @@ use Rattle.capture_ends.proofs.KeysKept.{LeadsBy, dropped_ended, dropped_session
 use Rattle.capture_ends.specs.AnswerKeys.{is_taken_in}
 use Rattle.capture_laws.specs.Order.{is_answer, is_request}
 use Rattle.capture_laws.specs.Walks.{StepsBy, StepsTo, Walks}
-use Rattle.fetched_ends.proofs.SeenAlike.{SeenAlike}
-use Rattle.fetched_ends.proofs.SeenAlike.SeenAlike.{NoEvent}
-use Rattle.fetched_ends.proofs.SeenSessions.{events_equal, seen_alike}
-use Rattle.fetched_ends.proofs.SessionsQuiet.{none_dropped}
-use Rattle.fetched_ends.proofs.SettledSessions.{IsSettled, settled_sessions}
-use Rattle.fetched_ends.proofs.StepsBegun.{settled, settled_behind, settled_here}
-use Rattle.fetched_ends.proofs.StepsMoved.{completes_since, walks_held}
+use Rattle.late_answers.proofs.SeenAlike.{SeenAlike}
+use Rattle.late_answers.proofs.SeenAlike.SeenAlike.{NoEvent}
+use Rattle.late_answers.proofs.SeenSessions.{events_equal, seen_alike}
+use Rattle.late_answers.proofs.SessionsQuiet.{none_dropped}
+use Rattle.late_answers.proofs.SettledSessions.{IsSettled, settled_sessions}
+use Rattle.late_answers.proofs.StepsBegun.{settled, settled_behind, settled_here}
+use Rattle.late_answers.proofs.StepsMoved.{completes_since, walks_held}
 use Rattle.late_answers.proofs.BehindSessions.{dropped_session as session_dropped}
 use Rattle.late_answers.proofs.SessionNewest.{again_leaves_others}
 use Rattle.mctp_framing.specs.Gathering.{Gathered}

@@ -27,7 +27,7 @@ use Rattle.spdm_grammar.specs.declared.phase.Stage.{Stage}
 use Rattle.spdm_grammar.specs.declared.phase.Stage.TheVariants.{Handshake, Open, Verifying}
 use Rattle.spdm_machine.specs.Terms.{hash_len, terms_of}
 use Rattle.transcript.specs.Transcripts.{Negotiation}
-use Rattle.fetched_ends.proofs.SeenAlike.{SeenAlike, negotiation_alike, stage_alike}
+use Rattle.late_answers.proofs.SeenAlike.{SeenAlike, negotiation_alike, stage_alike}
 
 -- KEY_UPDATE is allowed by the stage alone.
 stage_same : (x : Stage) (a b : Bool) → stage_allows x a KEY_UPDATE ≡ stage_allows x b KEY_UPDATE

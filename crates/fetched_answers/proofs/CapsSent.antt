@@ -4,8 +4,8 @@ use Rattle.std.specs.Prelude.{slice_index, not}
 use Rattle.std.proofs.lemmas.Bool.{false≢true, not-true}
 use Rattle.std.proofs.lemmas.Option.{none-some, same_Some}
 use Rattle.fetched_answers.proofs.GetAnswers.{HeardSo, heard_so}
-use Rattle.fetched_ends.proofs.CapsAsked.{AllAsk, AsksIn, AsksOf, AsksSo, IsCaps, IsHeard, IsSame, Leads, adds_heard}
-use Rattle.fetched_ends.proofs.CapsAsked.Leads.{Keeps, Takes}
+use Rattle.late_answers.proofs.CapsAsked.{AllAsk, AsksIn, AsksOf, AsksSo, IsCaps, IsHeard, IsSame, Leads, adds_heard}
+use Rattle.late_answers.proofs.CapsAsked.Leads.{Keeps, Takes}
 use Rattle.large_answers.proofs.TurnsBeside.{SameCaps}
 use Rattle.requester_machine.proofs.Entries.{asked}
 use Rattle.requester_machine.proofs.Heard.{heard}

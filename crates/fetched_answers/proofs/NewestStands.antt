@@ -4,7 +4,7 @@ use Rattle.std.specs.Prelude.{MatchBool, not}
 use Rattle.std.proofs.lemmas.Bool.{false≢true}
 use Rattle.connection.specs.Pending.{history_changed, passes}
 use Rattle.fetched_answers.specs.LastShown.{IsShownEntry, IsShownWhole}
-use Rattle.fetched_ends.proofs.NewestLed.{LedHere, NewestLed}
+use Rattle.fetched_answers.proofs.NewestLed.{LedHere, NewestLed}
 use Rattle.large_answers.specs.Fetching.{answer_by, bytes_given, bytes_in, gives_in, number_given, size_in, size_told}
 use Rattle.responder_machine.proofs.Entries.{session_of-Sealed}
 use Rattle.responder_machine.specs.History.{Entry, History, clear_turns, negotiation_of}

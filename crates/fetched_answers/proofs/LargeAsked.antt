@@ -4,7 +4,7 @@ use Rattle.std.proofs.Common.{◌≡◌, ◌==◌, ◌&&◌, ◌∙◌, ℕ, Lis
 use Rattle.std.specs.Prelude.{bytes_eq, nat_lt, not, slice_index}
 use Rattle.std.proofs.lemmas.Bool.{false≢true, not-false}
 use Rattle.capture_ends.specs.Answerer.{shows_large}
-use Rattle.fetched_ends.proofs.ErrorBytes.{error_bytes}
+use Rattle.late_answers.proofs.ErrorBytes.{error_bytes}
 use Rattle.negotiate.specs.Capabilities.{common_of}
 use Rattle.negotiate.specs.Choosing.{agreed}
 use Rattle.negotiate.specs.Offer.{offer_of}

@@ -5,8 +5,8 @@ use Rattle.std.specs.Prelude.{not, slice_index}
 use Rattle.std.proofs.lemmas.Bool.{false≢true, not-false}
 use Rattle.capture_ends.specs.Answerer.{shows_large}
 use Rattle.capture_laws.specs.DropsShown.{response_of}
-use Rattle.fetched_ends.proofs.AckBytes.{ack_bytes}
-use Rattle.fetched_ends.proofs.LargeAsked.{ShowsIn, answer_shows, plain_shows, sent_plain}
+use Rattle.late_answers.proofs.AckBytes.{ack_bytes}
+use Rattle.fetched_answers.proofs.LargeAsked.{ShowsIn, answer_shows, plain_shows, sent_plain}
 use Rattle.negotiate.specs.declared.shared.Common.{Common}
 use Rattle.requester_machine.proofs.ClearLeads.{ClearLeads, clear_leads}
 use Rattle.requester_machine.proofs.ClearLeads.ClearLeads.{ByRefusal, ByLarge, BySend, ByGet, ByStop, ByVersion, ByCaps, ByChoice, ByMeasured, ByExchange}

@@ -14,8 +14,8 @@ use Rattle.responder_machine.specs.Session.{Events, Event, session_of, stage_of,
 use Rattle.responder_machine.specs.Session.Event.{Began, Heard, Waited}
 use Rattle.responder_machine.specs.Turn.{Turn, Effect, takes, code_in, request_in, answer_in}
 use Rattle.responder_machine.specs.Turn.Effect.{NoEffect, Took, TookData}
-use Rattle.fetched_ends.proofs.SeenAlike.{SeenAlike, answered, stage_alike, answer_alike}
-use Rattle.fetched_ends.proofs.SeenAlike.SeenAlike.{NoEvent, Behind, Here}
+use Rattle.late_answers.proofs.SeenAlike.{SeenAlike, answered, stage_alike, answer_alike}
+use Rattle.late_answers.proofs.SeenAlike.SeenAlike.{NoEvent, Behind, Here}
 use Rattle.world_machine.proofs.UnseenStands.{StandsUnseen, UnseenStand}
 use Rattle.world_machine.specs.LargeAnswers.{with_large, is_unseen_in, is_unseen_effect, handle_shown, seen, effect_with}
 

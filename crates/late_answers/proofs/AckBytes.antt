@@ -2,7 +2,7 @@
 use Rattle.std.proofs.Common.{◌≡◌, ◌+◌, ◌++◌, ◌==◌, ◌∙◌, ℕ, List, [], ◌∷◌, refl, sym, ap, subst, drop, length, arith, Bool, true, false, Option, Some, None, cond, eqb-true}
 use Rattle.std.specs.Prelude.{Ok, slice_index}
 use Rattle.byteorder.specs.Endian.{little_number}
-use Rattle.fetched_ends.proofs.ErrorBytes.{HasGiven, either_given, given}
+use Rattle.late_answers.proofs.ErrorBytes.{HasGiven, either_given, given}
 use Rattle.spdm_grammar.specs.Layout.{Layout, IsSpelling}
 use Rattle.spdm_grammar.specs.Layout.Layout.{Whole, Bytes, UpTo}
 use Rattle.spdm_grammar.specs.Message.{ResponseMessage}

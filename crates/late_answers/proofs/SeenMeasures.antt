@@ -19,8 +19,8 @@ use Rattle.spdm_grammar.specs.declared.phase.Stage.TheVariants.{Handshake, Open,
 use Rattle.spdm_machine.specs.Terms.{terms_of}
 use Rattle.transcript.specs.Transcripts.{Negotiation}
 use Rattle.world_machine.specs.LargeAnswers.{IsLargeAnswer}
-use Rattle.fetched_ends.proofs.MeasuredTurns.{GoesLarge, answer_at, bytes_are, goes_turn, large_turn}
-use Rattle.fetched_ends.proofs.SeenAlike.{SeenAlike, answer_alike, exchange_alike, finish_alike, finish_answer_alike, negotiation_alike, opened_alike, response_epoch_alike, response_number_alike, stage_alike}
+use Rattle.late_answers.proofs.MeasuredTurns.{GoesLarge, answer_at, bytes_are, goes_turn, large_turn}
+use Rattle.late_answers.proofs.SeenAlike.{SeenAlike, answer_alike, exchange_alike, finish_alike, finish_answer_alike, negotiation_alike, opened_alike, response_epoch_alike, response_number_alike, stage_alike}
 
 -- Whether a stage allows it hangs on nothing that is pending.
 stage_by : (stage : Stage) (a b : Bool) → stage_allows stage a GET_MEASUREMENTS ≡ stage_allows stage b GET_MEASUREMENTS
