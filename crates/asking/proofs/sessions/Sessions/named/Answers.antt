@@ -1,4 +1,4 @@
-use Rattle.std.proofs.Common.{◌∙◌, Bool, ℕ, false, refl, sym, true}
+use Rattle.std.proofs.Common.{◌∙◌, ℕ, false, refl, sym, true}
 use Rattle.asking.proofs.OwnSlots.{first_as}
 use Rattle.asking.proofs.sessions.Sessions.named.Goals as goal
 use Rattle.requester_machine.specs.Named.{names}
