@@ -64,87 +64,42 @@ impl<'a> Program<'a> {
     }
 }
 
-// The frame at the front, and what stands behind it.
-fn first_frame(written: &[u8]) -> (&[u8], &[u8]) {
-    let [_, low, high, ..] = written else {
-        return (written, &[]);
-    };
-    let size = 3 + usize::from(*low) + 256 * usize::from(*high);
-    written.split_at(size.min(written.len()))
-}
+// A frame, and whether the requester is to get it.
+type Waiting = (bool, Vec<u8>);
 
-// Both programs, the frames that wait, each with whether the requester is to get it, and the lines that were written.
-#[derive(Drop)]
-struct Carriage<'a> {
-    requester: Program<'a>,
-    responder: Program<'a>,
-    waiting: Vec<(bool, Vec<u8>)>,
-    lines: Vec<u8>,
-}
-
-impl<'a> Carriage<'a> {
-    fn new(rt: &impl AllocGlobal) -> Carriage<'a> {
-        Carriage {
-            requester: Program::new(rt, "drive", [1; 32]),
-            responder: Program::new(rt, "serve", [2; 32]),
-            waiting: Vec::new(rt.alloc()),
-            lines: Vec::new(rt.alloc()),
+// The packets among these frames wait for the other program, and the lines are written down.
+fn sort(
+    rt: &(impl AllocGlobal + Abort),
+    to_requester: bool,
+    written: &[u8],
+    waiting: &mut Vec<Waiting>,
+    lines: &mut Vec<u8>,
+) -> Result<(), Fail> {
+    let mut rest = written;
+    for _ in 0..16 {
+        if rest.len() < 3 {
+            break;
         }
-    }
-
-    // The packets among these frames wait for the other program, and the lines are written down.
-    fn sort(
-        &mut self,
-        rt: &(impl AllocGlobal + Abort),
-        to_requester: bool,
-        written: &[u8],
-    ) -> Result<(), Fail> {
-        let mut rest = written;
-        for _ in 0..16 {
-            let (frame, behind) = first_frame(rest);
-            if frame.first() == Some(&1) {
-                self.waiting
-                    .push((to_requester, Vec::from_slice(rt.alloc(), frame)?))?;
-            } else if !frame.is_empty() {
-                self.lines.extend_from_slice(frame.get(3..).unwrap_or(&[]))?;
-                self.lines.push(b'\n')?;
-            }
-            rest = behind;
-        }
-        assert!(rt; rest.is_empty());
-        Ok(())
-    }
-
-    // Gives the first frame that waits, if any does.
-    fn give(&mut self, rt: &(impl AllocGlobal + Abort)) -> Result<(), Fail> {
-        if self.waiting.is_empty() {
-            return Ok(());
-        }
-        let (to_requester, frame) = self.waiting.remove(0);
-        let program = if to_requester {
-            &mut self.requester
+        let size = 3 + rest[1] as usize + 256 * rest[2] as usize;
+        let (frame, behind) = rest.split_at(size.min(rest.len()));
+        if frame.first() == Some(&1) {
+            waiting.push((to_requester, Vec::from_slice(rt.alloc(), frame)?))?;
         } else {
-            &mut self.responder
-        };
-        let written = program.give(rt, frame.as_slice())?;
-        self.sort(rt, !to_requester, written.as_slice())
-    }
-
-    // Gives a command to the requester, and then all that waits.
-    fn command(&mut self, rt: &(impl AllocGlobal + Abort), frame: &[u8]) -> Result<(), Fail> {
-        self.waiting
-            .push((true, Vec::from_slice(rt.alloc(), frame)?))?;
-        for _ in 0..16 {
-            self.give(rt)?;
+            lines.extend_from_slice(frame.get(3..).unwrap_or(&[]))?;
+            lines.push(b'\n')?;
         }
-        assert!(rt; self.waiting.is_empty());
-        Ok(())
+        rest = behind;
     }
+    assert!(rt; rest.is_empty());
+    Ok(())
 }
 
 // Both programs from the first command to a session that has ended, where each gets what the other writes.
 #[test]
 fn carried_to_each_other(rt: HostRuntime) -> Result<(), Fail> {
+    let mut requester = Program::new(&rt, "drive", [1; 32]);
+    let mut responder = Program::new(&rt, "serve", [2; 32]);
+    let mut lines = Vec::new(rt.alloc());
     let commands: [&[u8]; 5] = [
         b"\x03\x0a\x00q1 connect",
         b"\x03\x09\x00q1 open 0",
@@ -152,10 +107,29 @@ fn carried_to_each_other(rt: HostRuntime) -> Result<(), Fail> {
         b"\x03\x08\x00q1 end 1",
         b"\x03\x0c\x00q1 send 1 00",
     ];
-    let mut carriage = Carriage::new(&rt);
     for command in commands {
-        carriage.command(&rt, command)?;
+        let mut waiting = Vec::new(rt.alloc());
+        waiting.push((true, Vec::from_slice(rt.alloc(), command)?))?;
+        for _ in 0..16 {
+            if waiting.is_empty() {
+                break;
+            }
+            let (to_requester, frame) = waiting.remove(0);
+            let written = if to_requester {
+                requester.give(&rt, frame.as_slice())?
+            } else {
+                responder.give(&rt, frame.as_slice())?
+            };
+            sort(
+                &rt,
+                !to_requester,
+                written.as_slice(),
+                &mut waiting,
+                &mut lines,
+            )?;
+        }
+        assert!(rt; waiting.is_empty());
     }
-    assert_eq!(rt; carriage.lines.as_slice(), LINES);
+    assert_eq!(rt; lines.as_slice(), LINES);
     Ok(())
 }
