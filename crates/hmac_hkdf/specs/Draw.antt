@@ -1,7 +1,7 @@
 -- The draws of a seed. This project's own.
 use Rattle.std.specs.Prelude.{ℕ, List}
 use Rattle.std.specs.Int.{w64, to_le_bytes}
-use Rattle.spdm_basis.specs.declared.hash_alg.HashAlg.TheVariants.{Sha256}
+use Rattle.spdm_basis.specs.declared.values.hash_alg.HashAlg.TheVariants.{Sha256}
 use Rattle.running_hash.specs.Hash.{hash_of}
 use Rattle.hmac_hkdf.specs.Hmac.{hmac}
 

@@ -1,6 +1,6 @@
 -- What a running HMAC was given so far. This project's own.
 use Rattle.std.specs.Prelude.{◌≡◌, ℕ, List, ◌++◌}
-use Rattle.spdm_basis.specs.declared.hash_alg.HashAlg.{HashAlg}
+use Rattle.spdm_basis.specs.declared.values.hash_alg.HashAlg.{HashAlg}
 use Rattle.running_hash.specs.Hash.{hash_of}
 use Rattle.running_hash.specs.Holds.{Holds, function_of}
 use Rattle.hmac_hkdf.specs.Hmac.{masked, padded_key}

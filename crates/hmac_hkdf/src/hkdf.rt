@@ -1,6 +1,6 @@
 ghost use Rattle.std.specs.Prelude.{◌≡◌, ◌≤◌, ◌<◌, ◌+◌, ◌-◌, ◌*◌, ℕ, List, ◌++◌, [], ◌∷◌, length, take, drop};
 ghost use Rattle.spdm_basis.specs.Sizes.{hash_size};
-ghost use Rattle.spdm_basis.specs.declared.hash_alg.HashAlg.TheVariants.{Sha256};
+ghost use Rattle.spdm_basis.specs.declared.values.hash_alg.HashAlg.TheVariants.{Sha256};
 ghost use Rattle.running_hash.specs.Hash.{hash_of};
 ghost use Rattle.hmac_hkdf.specs.Hmac.{hmac};
 ghost use Rattle.hmac_hkdf.specs.Hkdf.{extract, expand, block_of, blocks_of};

@@ -1,6 +1,6 @@
 ghost use Rattle.std.specs.Prelude.{◌≡◌, ◌≤◌, ◌+◌, ℕ, List, ◌++◌, [], length, replicate};
 ghost use Rattle.spdm_basis.specs.Sizes.{hash_size};
-ghost use Rattle.spdm_basis.specs.declared.hash_alg.HashAlg.TheVariants.{Sha256};
+ghost use Rattle.spdm_basis.specs.declared.values.hash_alg.HashAlg.TheVariants.{Sha256};
 ghost use Rattle.running_hash.specs.Hash.{hash_of, block_size};
 ghost use Rattle.hmac_hkdf.specs.Hmac.{hmac, short_key, padded_key, masked};
 
@@ -74,7 +74,7 @@ pub struct RunningMac {
 impl RunningMac {
     ghost use Rattle.std.specs.Prelude.{◌≡◌, ◌++◌, [], ℕ, List, length};
     ghost use Rattle.spdm_basis.specs.Sizes.{hash_size};
-    ghost use Rattle.spdm_basis.specs.declared.hash_alg.HashAlg.{HashAlg};
+    ghost use Rattle.spdm_basis.specs.declared.values.hash_alg.HashAlg.{HashAlg};
     ghost use Rattle.running_hash.specs.Hash.{hash_of};
     ghost use Rattle.hmac_hkdf.specs.Hmac.{hmac};
     ghost use Rattle.hmac_hkdf.specs.Keyed.{HoldsMac, Runs};

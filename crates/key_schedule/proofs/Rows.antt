@@ -1,8 +1,8 @@
 -- Rows of the key schedule by computation.
 use Rattle.std.proofs.Common.{◌≡◌, ℕ, List, [], ◌∷◌, refl}
 use Rattle.running_hash.specs.Hash.{Hash, hash_of}
-use Rattle.spdm_basis.specs.declared.hash_alg.HashAlg.{HashAlg}
-use Rattle.spdm_basis.specs.declared.aead_alg.AeadAlg.{AeadAlg}
+use Rattle.spdm_basis.specs.declared.values.hash_alg.HashAlg.{HashAlg}
+use Rattle.spdm_basis.specs.declared.values.aead_alg.AeadAlg.{AeadAlg}
 use Rattle.key_schedule.specs.declared.direction.Direction.TheVariants.{Request, Response}
 use Rattle.key_schedule.specs.declared.label.Label.TheVariants.{Key, RequestData}
 use Rattle.key_schedule.specs.Schedule.{bin_label, secret_at, updated_secret, handshake_secret, master_secret, application_direction_secret, handshake_direction_secret, record_key, finished_key}

@@ -1,7 +1,7 @@
 -- What contracts see of the keys of a session.
 use Rattle.std.specs.Prelude.{ℕ, List}
-use Rattle.spdm_basis.specs.declared.hash_alg.HashAlg.{HashAlg}
-use Rattle.spdm_basis.specs.declared.aead_alg.AeadAlg.{AeadAlg}
+use Rattle.spdm_basis.specs.declared.values.hash_alg.HashAlg.{HashAlg}
+use Rattle.spdm_basis.specs.declared.values.aead_alg.AeadAlg.{AeadAlg}
 
 -- The secrets of a handshake: the handshake secret, and the secret of each direction.
 pub record HandshakeSecrets : Type 0 where

@@ -1,7 +1,7 @@
 -- What a key is for, and the key of each purpose. This project's own notion over the key schedule of DSP0274.
 use Rattle.std.specs.Prelude.{◌≡◌, ℕ, List, Bool, true, false, if◌then◌else◌}
-use Rattle.spdm_basis.specs.declared.hash_alg.HashAlg.{HashAlg}
-use Rattle.spdm_basis.specs.declared.aead_alg.AeadAlg.{AeadAlg}
+use Rattle.spdm_basis.specs.declared.values.hash_alg.HashAlg.{HashAlg}
+use Rattle.spdm_basis.specs.declared.values.aead_alg.AeadAlg.{AeadAlg}
 use Rattle.running_hash.specs.Hash.{hash_of}
 use Rattle.key_schedule.specs.Keys.{HandshakeSecrets, DirectionSecret}
 use Rattle.key_schedule.specs.Schedule.{handshake_secret, master_secret, handshake_direction_secret, application_direction_secret, secret_at, record_key, record_iv, finished_key}

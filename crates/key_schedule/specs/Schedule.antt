@@ -2,7 +2,7 @@
 use Rattle.std.specs.Prelude.{ℕ, zero, suc, List, [], ◌++◌, replicate, codes}
 use Rattle.std.specs.Int.{w16, to_le_bytes}
 use Rattle.spdm_basis.specs.Sizes.{key_size}
-use Rattle.spdm_basis.specs.declared.aead_alg.AeadAlg.{AeadAlg}
+use Rattle.spdm_basis.specs.declared.values.aead_alg.AeadAlg.{AeadAlg}
 use Rattle.running_hash.specs.Hash.{Hash}
 use Rattle.hmac_hkdf.specs.Hmac.{hmac}
 use Rattle.hmac_hkdf.specs.Hkdf.{expand}

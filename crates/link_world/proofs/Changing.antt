@@ -17,9 +17,9 @@ use Rattle.responder_machine.specs.Responding as responding
 use Rattle.responder_machine.specs.Responding.{Connection, Responding, RspStep, connection_of, responder_hears}
 use Rattle.responder_machine.specs.Setup.{RspPart}
 use Rattle.spdm_basis.specs.declared.PacketFault.{PacketFault}
-use Rattle.spdm_basis.specs.declared.eid.Eid.{Eid}
-use Rattle.spdm_grammar.specs.declared.heard.Heard.TheVariants as heard
-use Rattle.spdm_grammar.specs.declared.heard.RspIgnored.TheVariants as ignored
+use Rattle.spdm_basis.specs.declared.values.eid.Eid.{Eid}
+use Rattle.spdm_grammar.specs.declared.told.heard.Heard.TheVariants as heard
+use Rattle.spdm_grammar.specs.declared.told.heard.RspIgnored.TheVariants as ignored
 use Rattle.spdm_machine.specs.Keys.{Draw}
 use Rattle.spdm_machine.specs.Packets.{body_type, gathered_from}
 use Rattle.spdm_machine.specs.TagLog.{Log}

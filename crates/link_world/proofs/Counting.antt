@@ -17,7 +17,7 @@ use Rattle.responder_machine.proofs.Connected.{changed_keeps}
 use Rattle.responder_machine.specs.History as served
 use Rattle.responder_machine.specs.History.{Entry as entry}
 use Rattle.responder_machine.specs.Responding.{Connection, Responding, changed, changed_if, queues, responder_hears, ticks, with_history}
-use Rattle.spdm_grammar.specs.declared.heard.ReplyFault.{ReplyFault}
+use Rattle.spdm_grammar.specs.declared.told.heard.ReplyFault.{ReplyFault}
 use Rattle.spdm_machine.specs.Sessions.{one_if}
 use Rattle.world_machine.specs.World.{requester_at, with_requester}
 

@@ -8,9 +8,9 @@ use Rattle.link_world.specs.Events.{happening_of, is_show}
 use Rattle.link_world.specs.Standing.{IsCutOff, IsWhole}
 use Rattle.link_world.specs.Written.{before_full, has_full, text_of}
 use Rattle.link_world.specs.declared.link.Link.{Link}
-use Rattle.script_text.specs.TraceLines.{line_text}
-use Rattle.script_text.specs.declared.event.LinkEvent.{LinkEvent}
-use Rattle.script_text.specs.declared.event.LinkEvent.TheVariants as event
+use Rattle.trace_text.specs.TraceLines.{line_text}
+use Rattle.script_text.specs.declared.events.event.LinkEvent.{LinkEvent}
+use Rattle.script_text.specs.declared.events.event.LinkEvent.TheVariants as event
 use Rattle.spdm_basis.specs.Stream.{Takes, TakesPrefix}
 use Rattle.spdm_grammar.specs.Lines.{Line}
 use Rattle.spdm_grammar.specs.Lines.Line.{At}

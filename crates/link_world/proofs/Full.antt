@@ -11,7 +11,7 @@ use Rattle.link_world.specs.Written.{has_full, is_beyond}
 use Rattle.requester_machine.specs.Message.{Command}
 use Rattle.requester_machine.specs.Requesting.{PacketStep, Requesting, requester_given, requester_told}
 use Rattle.responder_machine.specs.Responding.{RspStep, responder_hears}
-use Rattle.spdm_basis.specs.declared.session_id.SessionId.{SessionId}
+use Rattle.spdm_basis.specs.declared.values.session_id.SessionId.{SessionId}
 use Rattle.spdm_grammar.specs.Lines.{Line, Whose}
 use Rattle.world_machine.specs.Happenings.{Entry, Happening}
 use Rattle.world_machine.specs.Happenings.Happening.{Told, Reply, Deliver, Lose, Inject, Pump, Tick, Show}

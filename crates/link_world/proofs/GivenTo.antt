@@ -2,8 +2,8 @@
 use Rattle.std.proofs.Common.{refl, ◌≡◌, ◌∙◌, ◌+◌, ◌++◌, ◌∷◌, [], ℕ, List, Bool, true, false, Option, Some, None, ap, sym, subst, length, slice_set}
 use Rattle.std.proofs.lemmas.List.{append-nil}
 use Rattle.std.specs.Prelude.{◌==◌, if◌then◌else◌, find, nat_lt, slice_index, MatchResult, Result, Ok, Err}
-use Rattle.configured_ends.proofs.Tells.{requester_tells}
-use Rattle.configured_ends.specs.Told.{event_data, event_lines, is_answered}
+use Rattle.script_ends.proofs.Tells.{requester_tells}
+use Rattle.script_ends.specs.Told.{event_data, event_lines, is_answered}
 use Rattle.link_world.proofs.Askers.{Hit, eid_of}
 use Rattle.link_world.proofs.Changing.{requester_changed, responder_changed, responder_keeps}
 use Rattle.link_world.proofs.Counting.{asked_more, heard_more, heard_peers, kept_more, kept_same, queued_peers, queued_same, told_same}
@@ -20,20 +20,20 @@ use Rattle.requester_machine.specs.Message.{Command}
 use Rattle.requester_machine.specs.Requesting.{Requesting, requester_given, requester_told}
 use Rattle.requester_machine.specs.Setup.{ReqSetup}
 use Rattle.requester_machine.specs.Shown as shown
-use Rattle.spdm_basis.specs.declared.eid.Eid.{Eid}
+use Rattle.spdm_basis.specs.declared.values.eid.Eid.{Eid}
 use Rattle.responder.specs.Standing as answering
 use Rattle.responder_machine.specs.Independence.{after_reply}
 use Rattle.responder_machine.specs.Responding.{Responding, connection_of, last_data, queues, reply_fault_of, responder_hears}
-use Rattle.script_text.specs.TraceLines.{line_text}
-use Rattle.script_text.specs.Whose.{fault_of}
+use Rattle.trace_text.specs.TraceLines.{line_text}
+use Rattle.trace_text.specs.Whose.{fault_of}
 use Rattle.spdm_grammar.specs.Lines.{Line, Whose}
-use Rattle.spdm_grammar.specs.declared.command_fault.CommandFault.{CommandFault}
-use Rattle.spdm_grammar.specs.declared.event.Event.{Event}
-use Rattle.spdm_grammar.specs.declared.event.Event.TheVariants as event
-use Rattle.spdm_grammar.specs.declared.event.Finished.TheVariants as finished
-use Rattle.spdm_grammar.specs.declared.heard.Heard.{Heard}
-use Rattle.spdm_grammar.specs.declared.heard.Heard.TheVariants as heard
-use Rattle.spdm_grammar.specs.declared.heard.ReplyFault.{ReplyFault}
+use Rattle.spdm_grammar.specs.declared.told.command_fault.CommandFault.{CommandFault}
+use Rattle.spdm_grammar.specs.declared.told.event.Event.{Event}
+use Rattle.spdm_grammar.specs.declared.told.event.Event.TheVariants as event
+use Rattle.spdm_grammar.specs.declared.told.event.Finished.TheVariants as finished
+use Rattle.spdm_grammar.specs.declared.told.heard.Heard.{Heard}
+use Rattle.spdm_grammar.specs.declared.told.heard.Heard.TheVariants as heard
+use Rattle.spdm_grammar.specs.declared.told.heard.ReplyFault.{ReplyFault}
 use Rattle.spdm_machine.specs.Sessions.{one_if}
 use Rattle.world_machine.specs.World.{World, data_lines, is_at, given, given_to, given_to_requester, given_to_responder, id_in_event, number_at, packet_lines, record_lines, replied, replied_by, taken_lines, told, with_sent}
 

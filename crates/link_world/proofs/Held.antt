@@ -18,7 +18,7 @@ use Rattle.responder_machine.specs.History as served
 use Rattle.responder_machine.specs.Place.{held_of}
 use Rattle.responder_machine.specs.Responding.{Connection, connection_of}
 use Rattle.responder_machine.specs.Session as serving
-use Rattle.spdm_grammar.specs.declared.session_view.SessionView.{SessionView}
+use Rattle.spdm_grammar.specs.declared.told.session_view.SessionView.{SessionView}
 use Rattle.spdm_machine.specs.Sessions.{is_past_handshake, one_if}
 use Rattle.world_machine.specs.Agreement.{holds}
 use Rattle.world_machine.specs.Totals.{asked_live}

@@ -5,8 +5,8 @@ use Rattle.std.proofs.lemmas.List.{length-map}
 use Rattle.std.specs.List.{AllByRecursion}
 use Rattle.std.specs.Option.{option_map}
 use Rattle.std.specs.Prelude.{◌==◌, nat_lt}
-use Rattle.configured_ends.proofs.Made.{take_more}
-use Rattle.configured_ends.specs.Configured.{HasRequesterFault, HasResponderFault, IsRequesterFault, IsResponderFault, known_in, requester_in}
+use Rattle.script_ends.proofs.Made.{take_more}
+use Rattle.script_ends.specs.Configured.{HasRequesterFault, HasResponderFault, IsRequesterFault, IsResponderFault, known_in, requester_in}
 use Rattle.link_world.specs.Configured.{IsCause, HaveFirstFault, HaveNoFault}
 use Rattle.link_world.specs.Making.{AreAskersFault, IsAskerFault, of_requester, of_responder}
 use Rattle.link_world.specs.Standing.{AreApart, AreAskers, IsAsker, counted, eids_of, peers_of, taken_in}
@@ -29,8 +29,8 @@ use Rattle.responder_machine.specs.History as served
 use Rattle.responder_machine.specs.Responding.{new_connection}
 use Rattle.responder_machine.specs.Setup as machine
 use Rattle.responder_machine.specs.Setup.{RspPart}
-use Rattle.script_text.specs.declared.config.ReqPart.{ReqPart}
-use Rattle.script_text.specs.declared.config.ScriptConfig.{ScriptConfig}
+use Rattle.script_text.specs.declared.configuration.config.ReqPart.{ReqPart}
+use Rattle.script_text.specs.declared.configuration.config.ScriptConfig.{ScriptConfig}
 use Rattle.spdm_basis.proofs.Options.{both}
 use Rattle.world_machine.specs.Setup.{ends_from, first_draw, known_of, requester_seed}
 use Rattle.world_machine.specs.Totals.{over_connections, over_requesters}

@@ -11,7 +11,7 @@ use Rattle.link_world.specs.declared.sent.SendFault.{SendFault}
 use Rattle.link_world.specs.declared.sent.SendFault.TheVariants.{LinkFull, OutOfMemory}
 use Rattle.link_world.specs.Written.{before_full, has_full, text_of}
 use Rattle.link_world.proofs.Texts.{first_fits, first_is_beyond}
-use Rattle.script_text.specs.TraceLines.{line_text}
+use Rattle.trace_text.specs.TraceLines.{line_text}
 use Rattle.spdm_grammar.specs.Lines.Line.{Packet}
 use Rattle.world_machine.specs.Trace.{packets_max}
 use Rattle.world_machine.specs.World.{SentPacket, packet_lines, waiting, with_sent}

@@ -14,8 +14,8 @@ use Rattle.responder_machine.specs.Heard as heard
 use Rattle.responder_machine.specs.History.{clear_turns, phase_of}
 use Rattle.spdm_grammar.specs.Lines.{Line, Whose}
 use Rattle.spdm_grammar.specs.Lines.Line.{Session, State}
-use Rattle.spdm_grammar.specs.declared.phase.Phase.{Phase}
-use Rattle.spdm_grammar.specs.declared.session_view.SessionView.{SessionView}
+use Rattle.spdm_grammar.specs.declared.told.phase.Phase.{Phase}
+use Rattle.spdm_grammar.specs.declared.told.session_view.SessionView.{SessionView}
 use Rattle.requester_machine.specs.Requesting.{Requesting}
 use Rattle.responder_machine.specs.Responding.{Connection, Responding, connection_of}
 use Rattle.world_machine.specs.World.{World, all_end_lines, connection_lines, end_lines, requester_at, session_lines, shown_lines}

@@ -12,7 +12,7 @@ use Rattle.link_world.specs.declared.link.Link.{Link}
 use Rattle.link_world.specs.declared.sent.SendFault.{SendFault}
 use Rattle.link_world.specs.declared.sent.SendFault.TheVariants.{LinkFull, OutOfMemory}
 use Rattle.responder_machine.specs.Responding.{ticks}
-use Rattle.script_text.specs.TraceLines.{line_text}
+use Rattle.trace_text.specs.TraceLines.{line_text}
 use Rattle.spdm_grammar.specs.Lines.{Line}
 use Rattle.spdm_grammar.specs.Lines.Line.{NoPacket}
 use Rattle.world_machine.specs.Trace.{packets_max}

@@ -1,10 +1,10 @@
 -- What one step of an end adds to the application messages that it ever took.
 use Rattle.std.proofs.Common.{refl, ◌≡◌, ◌∙◌, ◌+◌, ◌∷◌, [], ℕ, List, Bool, true, false, Option, Some, None, ap, arith, map}
 use Rattle.std.specs.Prelude.{◌==◌, if◌then◌else◌, is_some, not, unwrap_or, Result, Ok, Err}
-use Rattle.configured_ends.proofs.Brings.{EntryAgrees, entry_agrees}
+use Rattle.script_ends.proofs.Brings.{EntryAgrees, entry_agrees}
 use Rattle.link_world.proofs.Changing.{whole_either}
 use Rattle.link_world.specs.Standing.{peers_of}
-use Rattle.configured_ends.specs.Told.{is_answered}
+use Rattle.script_ends.specs.Told.{is_answered}
 use Rattle.mctp_framing.specs.Cutting.{RouteFields}
 use Rattle.mctp_framing.specs.Gathering.{Gathered}
 use Rattle.mctp_framing.specs.Gathering.Gathered.{Dropped, More, Whole}
@@ -33,12 +33,12 @@ use Rattle.responder_machine.specs.Setup.{RspSetup}
 use Rattle.responder_machine.specs.Turn.{Effect, is_data}
 use Rattle.responder_machine.specs.Turn.{Effect as effect}
 use Rattle.spdm_basis.specs.declared.PacketFault.{PacketFault}
-use Rattle.spdm_basis.specs.declared.drop_cause.DropCause.TheVariants.{NotOurs}
-use Rattle.spdm_grammar.specs.declared.command_fault.CommandFault.{CommandFault}
-use Rattle.spdm_grammar.specs.declared.event.Event.TheVariants as event
-use Rattle.spdm_grammar.specs.declared.heard.Heard.{Heard}
-use Rattle.spdm_grammar.specs.declared.heard.Heard.TheVariants as heard
-use Rattle.spdm_grammar.specs.declared.heard.RspIgnored.TheVariants as ignored
+use Rattle.spdm_basis.specs.declared.causes.drop_cause.DropCause.TheVariants.{NotOurs}
+use Rattle.spdm_grammar.specs.declared.told.command_fault.CommandFault.{CommandFault}
+use Rattle.spdm_grammar.specs.declared.told.event.Event.TheVariants as event
+use Rattle.spdm_grammar.specs.declared.told.heard.Heard.{Heard}
+use Rattle.spdm_grammar.specs.declared.told.heard.Heard.TheVariants as heard
+use Rattle.spdm_grammar.specs.declared.told.heard.RspIgnored.TheVariants as ignored
 use Rattle.spdm_machine.proofs.Members.{IsIn, found_in}
 use Rattle.spdm_machine.specs.Keys.{Draw}
 use Rattle.spdm_machine.specs.Packets.{gathered_from}

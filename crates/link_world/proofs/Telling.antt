@@ -21,15 +21,15 @@ use Rattle.responder_machine.specs.Responding.{Connection, Responding, RspStep, 
 use Rattle.responder_machine.specs.Turn.{Effect}
 use Rattle.responder_machine.specs.Turn.{Effect as effect}
 use Rattle.spdm_basis.specs.declared.PacketFault.{PacketFault}
-use Rattle.spdm_basis.specs.declared.drop_cause.DropCause.TheVariants.{NotOurs}
-use Rattle.spdm_basis.specs.declared.session_id.SessionId.{SessionId}
+use Rattle.spdm_basis.specs.declared.causes.drop_cause.DropCause.TheVariants.{NotOurs}
+use Rattle.spdm_basis.specs.declared.values.session_id.SessionId.{SessionId}
 use Rattle.spdm_grammar.specs.Lines.{Line}
 use Rattle.spdm_grammar.specs.Lines.Line.{ToResponder}
 use Rattle.spdm_grammar.specs.Message.{ChunkMessage}
-use Rattle.spdm_grammar.specs.declared.error_code.ErrorCode.{ErrorCode}
-use Rattle.spdm_grammar.specs.declared.heard.Heard.{Heard}
-use Rattle.spdm_grammar.specs.declared.heard.Heard.TheVariants as heard
-use Rattle.spdm_grammar.specs.declared.heard.RspIgnored.TheVariants as ignored
+use Rattle.spdm_grammar.specs.declared.messages.error_code.ErrorCode.{ErrorCode}
+use Rattle.spdm_grammar.specs.declared.told.heard.Heard.{Heard}
+use Rattle.spdm_grammar.specs.declared.told.heard.Heard.TheVariants as heard
+use Rattle.spdm_grammar.specs.declared.told.heard.RspIgnored.TheVariants as ignored
 use Rattle.spdm_machine.specs.Keys.{Draw}
 use Rattle.spdm_machine.specs.Packets.{gathered_from}
 use Rattle.world_machine.specs.World.{taken_lines}

@@ -3,10 +3,10 @@ use Rattle.std.proofs.Common.{refl, ◌≡◌, ◌∙◌, ◌≤◌, ◌+◌, �
 use Rattle.std.proofs.lemmas.Bool.{false≢true, le-ltb, lt-ltb}
 use Rattle.std.specs.Prelude.{nat_lt, ◌||◌}
 use Rattle.link_world.specs.Written.{before_full, has_full, is_beyond, text_of}
-use Rattle.script_text.specs.Spelling.{hex_word, id_word}
-use Rattle.script_text.specs.TraceLines.{line_text}
+use Rattle.trace_text.specs.Spelling.{hex_word, id_word}
+use Rattle.trace_text.specs.TraceLines.{line_text}
 use Rattle.spdm_basis.specs.SessionIdBytes.{session_id_bytes}
-use Rattle.spdm_basis.specs.declared.session_id.SessionId.{SessionId}
+use Rattle.spdm_basis.specs.declared.values.session_id.SessionId.{SessionId}
 use Rattle.spdm_grammar.specs.Lines.{Line}
 use Rattle.world_machine.specs.Trace.{packets_max}
 use Rattle.world_machine.specs.World.{packet_lines}

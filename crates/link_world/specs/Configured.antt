@@ -1,11 +1,11 @@
 -- Why a configuration sets up no world. This project's own.
 use Rattle.std.specs.Prelude.{◌⊎◌, ℕ, List, [], ◌∷◌, Some, None}
-use Rattle.configured_ends.specs.Configured.{HasRequesterFault, HasResponderFault}
+use Rattle.script_ends.specs.Configured.{HasRequesterFault, HasResponderFault}
 use Rattle.link_world.specs.declared.fault.WorldFault.{WorldFault}
 use Rattle.link_world.specs.declared.fault.WorldFault.TheVariants.{OutOfMemory, Requester, Responder}
 use Rattle.requester.specs.declared.fault.ReqConfigFault.{ReqConfigFault}
-use Rattle.script_text.specs.declared.config.ReqPart.{ReqPart}
-use Rattle.script_text.specs.declared.config.ScriptConfig.{ScriptConfig}
+use Rattle.script_text.specs.declared.configuration.config.ReqPart.{ReqPart}
+use Rattle.script_text.specs.declared.configuration.config.ScriptConfig.{ScriptConfig}
 
 -- The first fault of requesters in order: that of the first which has one.
 abbrev pub HaveFirstFault : (responder : ℕ) → List ReqPart → ReqConfigFault → Type 0

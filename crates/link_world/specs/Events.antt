@@ -1,7 +1,7 @@
 -- The events of a script, as what happens in a world. This project's own.
 use Rattle.requester_machine.specs.Message.{Command as tell}
-use Rattle.script_text.specs.declared.event.LinkEvent.{LinkEvent}
-use Rattle.script_text.specs.declared.event.LinkEvent.TheVariants as event
+use Rattle.script_text.specs.declared.events.event.LinkEvent.{LinkEvent}
+use Rattle.script_text.specs.declared.events.event.LinkEvent.TheVariants as event
 use Rattle.std.specs.Prelude.{ℕ, Bool, true, false}
 use Rattle.world_machine.specs.Happenings.{Entry, Happening}
 use Rattle.world_machine.specs.Happenings.Happening.{Deliver, Inject, Lose, Pump, Reply, Show, Tick, Told}

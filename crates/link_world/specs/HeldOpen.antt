@@ -3,7 +3,7 @@ use Rattle.std.specs.Prelude.{◌+◌, ℕ, List, Bool, Option, Some, None}
 use Rattle.requester_machine.specs.Requesting.{Requesting}
 use Rattle.responder_machine.specs.Place.{held_of}
 use Rattle.responder_machine.specs.Responding.{Connection, connection_of}
-use Rattle.spdm_grammar.specs.declared.session_view.SessionView.{SessionView}
+use Rattle.spdm_grammar.specs.declared.told.session_view.SessionView.{SessionView}
 use Rattle.spdm_machine.specs.Sessions.{is_past_handshake}
 use Rattle.world_machine.specs.Totals.{asked_live}
 

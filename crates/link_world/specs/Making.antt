@@ -1,6 +1,6 @@
 -- Why an end of a script is not made. This project's own.
 use Rattle.std.specs.Prelude.{ℕ, List, Some}
-use Rattle.configured_ends.specs.Configured.{HasRequesterFault}
+use Rattle.script_ends.specs.Configured.{HasRequesterFault}
 use Rattle.link_world.specs.Configured.{HaveFirstFault}
 use Rattle.link_world.specs.declared.fault.WorldFault.{WorldFault}
 use Rattle.link_world.specs.declared.fault.WorldFault.TheVariants.{OutOfMemory, Requester, Responder}
@@ -8,7 +8,7 @@ use Rattle.requester.specs.declared.fault.ReqConfigFault.{ReqConfigFault}
 use Rattle.requester.specs.declared.fault.ReqConfigFault.TheVariants as asking
 use Rattle.responder.specs.declared.fault.RspConfigFault.{RspConfigFault}
 use Rattle.responder.specs.declared.fault.RspConfigFault.TheVariants as answering
-use Rattle.script_text.specs.declared.config.ReqPart.{ReqPart}
+use Rattle.script_text.specs.declared.configuration.config.ReqPart.{ReqPart}
 
 -- One requester is not made.
 abbrev pub IsAskerFault : (responder : ℕ) → ReqPart → WorldFault → Type 0

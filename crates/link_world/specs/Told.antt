@@ -3,8 +3,8 @@
 use Rattle.std.specs.Prelude.{ℕ, List, [], ◌∷◌, Bool, true, false}
 use Rattle.spdm_grammar.specs.Lines.{Line, Whose}
 use Rattle.spdm_grammar.specs.Lines.Line.{Data, ToResponder}
-use Rattle.spdm_grammar.specs.declared.heard.Heard.{Heard}
-use Rattle.spdm_grammar.specs.declared.heard.Heard.TheVariants as heard
+use Rattle.spdm_grammar.specs.declared.told.heard.Heard.{Heard}
+use Rattle.spdm_grammar.specs.declared.told.heard.Heard.TheVariants as heard
 
 -- The responder took application data.
 abbrev pub is_taken : Heard → Bool

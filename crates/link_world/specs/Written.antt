@@ -1,6 +1,6 @@
 -- The lines of an event as they are written, and where a full link ends them. This project's own.
 use Rattle.std.specs.Prelude.{ℕ, List, [], ◌∷◌, ◌++◌, ◌||◌, nat_lt, if◌then◌else◌, Bool, false}
-use Rattle.script_text.specs.TraceLines.{line_text}
+use Rattle.trace_text.specs.TraceLines.{line_text}
 use Rattle.spdm_grammar.specs.Lines.{Line}
 use Rattle.spdm_grammar.specs.Lines.Line.{Packet}
 use Rattle.world_machine.specs.Trace.{packets_max}

@@ -20,7 +20,7 @@ fn source(packet: &[u8]) -> u8
 // text, and these packets are put in place of what `out` holds.
 impl Ends {
     ghost use Rattle.std.specs.Prelude.{◌≡◌, ◌<◌, Some, OnOk, length};
-    ghost use Rattle.asking.specs.Joined.{command_of};
+    ghost use Rattle.requester_core.specs.Joined.{command_of};
     ghost use Rattle.link_world.specs.Standing.{AreEnds, IsDone, IsGivenTo};
     ghost use Rattle.responder_machine.specs.Responding.{responder_hears, ticks};
     ghost use Rattle.requester_machine.specs.Requesting.{Requesting, requester_given};

@@ -29,7 +29,7 @@ fn line_added(done: Result<(), OutOfMemory>) -> Result<(), SendFault>
 
 impl Link {
     ghost use Rattle.std.specs.Prelude.{◌≡◌, false};
-    ghost use Rattle.asking.specs.Joined.{command_of};
+    ghost use Rattle.requester_core.specs.Joined.{command_of};
     ghost use Rattle.link_world.specs.Events.{happening_of, is_show};
     ghost use Rattle.link_world.specs.Standing.{IsLink, IsStepped};
     ghost use Rattle.world_machine.specs.World.{World, delivers, given, happens, loses, packet_of, pumps, replied, requester_of, told};

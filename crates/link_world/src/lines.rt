@@ -1,10 +1,10 @@
 ghost use Rattle.std.specs.Prelude.{◌≡◌, ◌++◌, OnOk};
-ghost use Rattle.configured_ends.specs.Told.{event_lines};
+ghost use Rattle.script_ends.specs.Told.{event_lines};
 ghost use Rattle.link_world.specs.Told.{heard_lines};
 ghost use Rattle.link_world.specs.Written.{text_of};
-ghost use Rattle.script_text.specs.Spelling.{id_word, with_word};
-ghost use Rattle.script_text.specs.TraceLines.{line_text};
-ghost use Rattle.script_text.specs.Whose.{fault_of};
+ghost use Rattle.trace_text.specs.Spelling.{id_word, with_word};
+ghost use Rattle.trace_text.specs.TraceLines.{line_text};
+ghost use Rattle.trace_text.specs.Whose.{fault_of};
 ghost use Rattle.spdm_grammar.specs.Lines.Whose.{Requester, Responder};
 ghost use Rattle.spdm_grammar.specs.Lines.Line.{At, Command, Data, NoPacket, Packet, Record, Reply, ToNobody, ToRequester, ToResponder};
 
@@ -69,7 +69,7 @@ pub(crate) fn push_no_packet(number: u32, text: &mut EventText) -> Result<(), Ou
 }
 
 /// Adds the line of a packet that was sent.
-#[tactic(auto, unfolding(script_text::specs::TraceLines::line_text))]
+#[tactic(auto, unfolding(trace_text::specs::TraceLines::line_text))]
 pub(crate) fn push_packet(number: u32, bytes: &[u8], text: &mut Bytes) -> Result<(), OutOfMemory>
     ensures { OnOk result (text.new ≡ text.old ++ line_text (Packet number bytes.now)) }
 {
@@ -87,7 +87,7 @@ fn add_id(id: SessionId, text: &mut Bytes) -> Result<(), OutOfMemory>
 }
 
 // Adds the line of application data that the responder took in a session with requester `q`.
-#[tactic(auto, unfolding(script_text::specs::TraceLines::line_text))]
+#[tactic(auto, unfolding(trace_text::specs::TraceLines::line_text))]
 fn push_taken(q: u8, id: SessionId, bytes: &[u8], text: &mut Bytes) -> Result<(), OutOfMemory>
     ensures { OnOk result (text.new ≡ text.old ++ line_text (Data (Responder q) id bytes.now)) }
 {
@@ -100,7 +100,7 @@ fn push_taken(q: u8, id: SessionId, bytes: &[u8], text: &mut Bytes) -> Result<()
 }
 
 // Adds the line of application data that requester `q` took in a session.
-#[tactic(auto, unfolding(script_text::specs::TraceLines::line_text))]
+#[tactic(auto, unfolding(trace_text::specs::TraceLines::line_text))]
 fn push_answer(q: u8, id: SessionId, bytes: &[u8], text: &mut Bytes) -> Result<(), OutOfMemory>
     ensures { OnOk result (text.new ≡ text.old ++ line_text (Data (Requester q) id bytes.now)) }
 {
@@ -112,7 +112,7 @@ fn push_answer(q: u8, id: SessionId, bytes: &[u8], text: &mut Bytes) -> Result<(
 }
 
 // Adds the line of a measurement record that requester `q` took.
-#[tactic(auto, unfolding(script_text::specs::TraceLines::line_text))]
+#[tactic(auto, unfolding(trace_text::specs::TraceLines::line_text))]
 fn push_record(q: u8, bytes: &[u8], text: &mut Bytes) -> Result<(), OutOfMemory>
     ensures { OnOk result (text.new ≡ text.old ++ line_text (Record q bytes.now)) }
 {

@@ -1,5 +1,5 @@
 ghost use Rattle.std.specs.Prelude.{◌≡◌, ◌≤◌, ◌-◌, ◌^◌, ℕ, List, Some, None, IfErr, IfOk, IsSome, OnOk, length, map};
-ghost use Rattle.configured_ends.specs.Configured.{HasRequesterFault, HasResponderFault, configuration_in, requester_end, requester_in};
+ghost use Rattle.script_ends.specs.Configured.{HasRequesterFault, HasResponderFault, configuration_in, requester_end, requester_in};
 ghost use Rattle.link_world.specs.Configured.{HaveNoFault, IsCause, IsSound};
 ghost use Rattle.link_world.specs.Making.{AreAskersFault, IsAskerFault, of_requester, of_responder};
 ghost use Rattle.link_world.specs.Standing.{AreAskers, IsAsker, IsLink};
@@ -12,7 +12,7 @@ ghost use Rattle.world_machine.specs.World.{new_world};
 use crate::ends::{Asker, Ends};
 use crate::link::Link;
 use crate::{SentPackets, WorldFault};
-use configured_ends::{make_requester, make_responder};
+use script_ends::{make_requester, make_responder};
 use hmac_hkdf::hmac;
 use mctp_framing::PacketList;
 use requester::ReqConfigFault;

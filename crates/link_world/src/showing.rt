@@ -5,7 +5,7 @@ ghost use Rattle.link_world.specs.Written.{text_of};
 ghost use Rattle.requester_machine.specs.Requesting.{Requesting};
 ghost use Rattle.responder.specs.Standing as answering;
 ghost use Rattle.responder_machine.specs.Responding.{Responding, connection_of};
-ghost use Rattle.script_text.specs.Whose.{whose_of};
+ghost use Rattle.trace_text.specs.Whose.{whose_of};
 ghost use Rattle.spdm_basis.specs.Stream.{HasFault, Takes, TakesPrefix};
 ghost use Rattle.spdm_grammar.specs.Lines.Line.{Session, State};
 ghost use Rattle.world_machine.specs.World.{connection_lines, session_lines};

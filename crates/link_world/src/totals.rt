@@ -1,5 +1,5 @@
 ghost use Rattle.std.specs.Prelude.{◌≡◌, ◌+◌, ◌-◌, ◌^◌, count_by, min};
-ghost use Rattle.configured_ends.specs.Told.{is_answered};
+ghost use Rattle.script_ends.specs.Told.{is_answered};
 ghost use Rattle.link_world.specs.HeldOpen.{is_open, live_with};
 ghost use Rattle.link_world.specs.Standing.{IsAsker, counted};
 ghost use Rattle.link_world.specs.Told.{is_taken};

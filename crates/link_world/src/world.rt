@@ -31,7 +31,7 @@ fn is_show(event: &LinkEvent) -> bool
 impl World {
     ghost use Rattle.std.specs.Prelude.{◌≡◌, ◌≤◌, ◌-◌, ◌^◌, ℕ, List, Some, true, false, IfErr, IfOk, IsErrOf, IsSome, OnErr, OnOk};
     ghost use Rattle.std.specs.Option.{option_map};
-    ghost use Rattle.configured_ends.specs.Configured.{configuration_in};
+    ghost use Rattle.script_ends.specs.Configured.{configuration_in};
     ghost use Rattle.link_world.specs.Configured.{IsCause, IsSound};
     ghost use Rattle.link_world.specs.Events.{entry_of};
     ghost use Rattle.link_world.specs.Standing.{IsSeen};

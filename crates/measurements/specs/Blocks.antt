@@ -1,7 +1,7 @@
 -- Measurement blocks and how they are found (DSP0274, "Measurement block format" and "DMTF measurement specification format").
 use Rattle.std.specs.Prelude.{ℕ, zero, suc, ◌+◌, ◌==◌, if◌then◌else◌, List, [], ◌∷◌, ◌++◌, length, Option, Some, None}
 use Rattle.byteorder.specs.Endian.{little_bytes}
-use Rattle.spdm_grammar.specs.declared.block_spec.BlockSpec.{BlockSpec}
+use Rattle.spdm_grammar.specs.declared.told.block_spec.BlockSpec.{BlockSpec}
 
 -- The seven bytes in front of a value: the index, the DMTF specification (bit 0), the size of what follows, the type of the value and its size.
 abbrev pub block_head : BlockSpec → List ℕ

@@ -1,7 +1,7 @@
 -- Why blocks make no inventory. This project's own limits.
 use Rattle.std.specs.Prelude.{◌≡◌, ℕ, Bool, false, ◌==◌, ◌||◌, nat_lt, if◌then◌else◌, List, [], ◌∷◌, Option, Some, None}
 use Rattle.std.specs.List.{list_any}
-use Rattle.spdm_grammar.specs.declared.block_spec.BlockSpec.{BlockSpec}
+use Rattle.spdm_grammar.specs.declared.told.block_spec.BlockSpec.{BlockSpec}
 use Rattle.measurements.specs.declared.fault.InventoryFault.{InventoryFault}
 use Rattle.measurements.specs.declared.fault.InventoryFault.TheVariants.{IndexOutOfRange, IndexTaken, TooLong, OutOfMemory}
 use Rattle.measurements.specs.Blocks.{record_len}

@@ -1,6 +1,6 @@
 -- What GET_MEASUREMENTS asks for (DSP0274, "GET_MEASUREMENTS request message format": measurement operation).
 use Rattle.std.specs.Prelude.{ℕ, Bool, ◌==◌, ◌&&◌, ◌||◌, not, is_none, if◌then◌else◌, List, []}
-use Rattle.spdm_grammar.specs.declared.block_spec.BlockSpec.{BlockSpec}
+use Rattle.spdm_grammar.specs.declared.told.block_spec.BlockSpec.{BlockSpec}
 use Rattle.measurements.specs.Blocks.{block_of, at_most_one}
 
 -- The blocks of an operation: none for 0, which asks for their number, all for 255, and the block of the index for 1 to 254.

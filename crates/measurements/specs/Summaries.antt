@@ -1,7 +1,7 @@
 -- The summary of measurements (DSP0274, "PSK_EXCHANGE request message format": MeasurementSummaryHashType, and "MeasurementSummaryHash").
 use Rattle.std.specs.Prelude.{ℕ, ◌==◌, ◌||◌, if◌then◌else◌, List, [], ◌∷◌, replicate, Option, Some, None}
 use Rattle.std.specs.List.{filter}
-use Rattle.spdm_grammar.specs.declared.block_spec.BlockSpec.{BlockSpec}
+use Rattle.spdm_grammar.specs.declared.told.block_spec.BlockSpec.{BlockSpec}
 use Rattle.running_hash.specs.Hash.{Hash}
 use Rattle.measurements.specs.Blocks.{record_of}
 

@@ -1,6 +1,6 @@
 ghost use Rattle.std.specs.Prelude.{◌≡◌, ◌≤◌, nat_le};
 ghost use Rattle.std.specs.Option.{option_map};
-ghost use Rattle.spdm_grammar.specs.declared.block_spec.BlockSpec.{BlockSpec};
+ghost use Rattle.spdm_grammar.specs.declared.told.block_spec.BlockSpec.{BlockSpec};
 ghost use Rattle.measurements.specs.Blocks.{block_of, record_len};
 ghost use Rattle.measurements.specs.Faults.{has_bad_index, has_index, has_twice};
 

@@ -1,8 +1,8 @@
 -- What two ends can do together (DSP0274, "GET_CAPABILITIES request message format" and "Successful CAPABILITIES response message format").
 use Rattle.std.specs.Prelude.{ℕ, Bool, ◌==◌, ◌&&◌, ◌||◌, not, nat_lt, min, bit_and, if◌then◌else◌, Result, Ok, Err}
-use Rattle.spdm_grammar.specs.declared.capabilities.Caps.{Caps}
-use Rattle.spdm_grammar.specs.declared.part_faults.CapsFault.{CapsFault}
-use Rattle.spdm_grammar.specs.declared.part_faults.CapsFault.TheVariants.{SizeTooSmall, SizesCrossed, NoPsk, NoProtection}
+use Rattle.spdm_grammar.specs.declared.messages.capabilities.Caps.{Caps}
+use Rattle.spdm_grammar.specs.declared.messages.part_faults.CapsFault.{CapsFault}
+use Rattle.spdm_grammar.specs.declared.messages.part_faults.CapsFault.TheVariants.{SizeTooSmall, SizesCrossed, NoPsk, NoProtection}
 use Rattle.spdm_grammar.specs.declared.names.TheConstants.{MIN_DATA_TRANSFER_SIZE, MAX_MESSAGE_SIZE}
 use Rattle.spdm_grammar.specs.declared.names.capability.TheConstants.{MEAS_CAP_BITS, MEAS_CAP, MEAS_CAP_SIGNED, ENCRYPT_CAP, MAC_CAP, PSK_CAP_BITS, PSK_CAP, PSK_CAP_WITH_CONTEXT, HBEAT_CAP, KEY_UPD_CAP, CHUNK_CAP}
 use Rattle.negotiate.specs.declared.shared.Common.{Common}

@@ -1,12 +1,12 @@
 -- What a responder chooses of an offer, and what a requester takes as a choice (DSP0274, "NEGOTIATE_ALGORITHMS request message format" and "Successful ALGORITHMS response message format"; which of two is preferred is this project's own).
 use Rattle.std.specs.Prelude.{ℕ, Bool, true, false, ◌==◌, ◌&&◌, ◌||◌, nat_le, if◌then◌else◌, Option, Some, None}
-use Rattle.spdm_basis.specs.declared.hash_alg.HashAlg.{HashAlg}
-use Rattle.spdm_basis.specs.declared.hash_alg.HashAlg.TheVariants.{Sha256, Sha384}
-use Rattle.spdm_basis.specs.declared.aead_alg.AeadAlg.{AeadAlg}
-use Rattle.spdm_basis.specs.declared.aead_alg.AeadAlg.TheVariants.{Aes128Gcm, Aes256Gcm}
-use Rattle.spdm_grammar.specs.declared.choice.Choice.{Choice}
-use Rattle.spdm_grammar.specs.declared.choice.Pick.{Pick}
-use Rattle.spdm_grammar.specs.declared.choice.Pick.TheVariants.{Small, Large, Both}
+use Rattle.spdm_basis.specs.declared.values.hash_alg.HashAlg.{HashAlg}
+use Rattle.spdm_basis.specs.declared.values.hash_alg.HashAlg.TheVariants.{Sha256, Sha384}
+use Rattle.spdm_basis.specs.declared.values.aead_alg.AeadAlg.{AeadAlg}
+use Rattle.spdm_basis.specs.declared.values.aead_alg.AeadAlg.TheVariants.{Aes128Gcm, Aes256Gcm}
+use Rattle.spdm_grammar.specs.declared.messages.choice.Choice.{Choice}
+use Rattle.spdm_grammar.specs.declared.messages.choice.Pick.{Pick}
+use Rattle.spdm_grammar.specs.declared.messages.choice.Pick.TheVariants.{Small, Large, Both}
 use Rattle.spdm_grammar.specs.Message.{OfferMessage, ReplyMessage}
 use Rattle.negotiate.specs.declared.selection.AlgPolicy.{AlgPolicy}
 use Rattle.negotiate.specs.Capabilities.{has_all}

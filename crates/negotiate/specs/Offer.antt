@@ -1,7 +1,7 @@
 -- The offer that a requester writes (DSP0274, "NEGOTIATE_ALGORITHMS request message format"; what it offers is this project's own).
 use Rattle.std.specs.Prelude.{ℕ, ◌+◌, ◌==◌, ◌&&◌, if◌then◌else◌, List, [], ◌∷◌, Option, Some, None}
-use Rattle.spdm_grammar.specs.declared.choice.Pick.{Pick}
-use Rattle.spdm_grammar.specs.declared.choice.Suites.{Suites}
+use Rattle.spdm_grammar.specs.declared.messages.choice.Pick.{Pick}
+use Rattle.spdm_grammar.specs.declared.messages.choice.Suites.{Suites}
 use Rattle.spdm_grammar.specs.Message.{OfferMessage}
 use Rattle.negotiate.specs.Choosing.{has_small, has_large, has_room_for_sha_384}
 

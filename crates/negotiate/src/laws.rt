@@ -1,7 +1,7 @@
 //! What holds of choices, each law as the contract of a function that does nothing.
 
 ghost use Rattle.std.specs.Prelude.{◌≡◌, Some};
-ghost use Rattle.spdm_grammar.specs.declared.choice.Choice.{Choice};
+ghost use Rattle.spdm_grammar.specs.declared.messages.choice.Choice.{Choice};
 ghost use Rattle.spdm_grammar.specs.Message.{OfferMessage};
 ghost use Rattle.spdm_grammar.specs.Responses.{IsSoundReply};
 ghost use Rattle.negotiate.specs.declared.selection.AlgPolicy.{AlgPolicy};

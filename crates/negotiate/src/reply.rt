@@ -1,5 +1,5 @@
 ghost use Rattle.std.specs.Prelude.{◌≡◌, ◌≤◌, ℕ, length};
-ghost use Rattle.spdm_basis.specs.declared.aead_alg.AeadAlg.{AeadAlg};
+ghost use Rattle.spdm_basis.specs.declared.values.aead_alg.AeadAlg.{AeadAlg};
 ghost use Rattle.spdm_grammar.specs.Message.{offer_message};
 ghost use Rattle.negotiate.specs.Reply.{is_answered, answered_kinds, answer_bits, answer_tables, measurement_hash_bit};
 ghost use Rattle.negotiate.specs.Choosing.{hash_bit, aead_bit};

@@ -12,7 +12,7 @@ use Rattle.requester_machine.specs.Message.{Sent}
 use Rattle.requester_machine.specs.Session.{Steps, Step, session_of, session_terms, is_live, when_live}
 use Rattle.requester_machine.specs.Setup.{ReqSetup}
 use Rattle.spdm_basis.specs.Tests.{first_of_tests}
-use Rattle.spdm_grammar.specs.declared.command_fault.CommandFault.TheVariants as fault
+use Rattle.spdm_grammar.specs.declared.told.command_fault.CommandFault.TheVariants as fault
 use Rattle.spdm_machine.specs.Keys.{Draw}
 use Rattle.psk_session.specs.AskLaws.{AskIsCommand, LeadsBy, command_at, command_fault_of}
 use Rattle.psk_session.specs.Asking.{ask_fault, asked, asked_of, inner_for, is_long}

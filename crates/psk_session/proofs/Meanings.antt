@@ -13,11 +13,11 @@ use Rattle.requester_machine.specs.Shown.{blocks_of}
 use Rattle.spdm_grammar.specs.Message.{ResponseMessage, MeasuredMessage, ChunkMessage}
 use Rattle.spdm_grammar.specs.Message.ResponseMessage.{Measurements, HeartbeatAck, KeyUpdateAck, EndSessionAck, ChunkResponse, Error}
 use Rattle.spdm_grammar.specs.Responses.{response_reading}
-use Rattle.spdm_grammar.specs.declared.event.BadReply.{BadReply}
-use Rattle.spdm_grammar.specs.declared.event.BadReply.TheVariants as bad
-use Rattle.spdm_grammar.specs.declared.malformed.Malformed.{Malformed}
+use Rattle.spdm_grammar.specs.declared.told.event.BadReply.{BadReply}
+use Rattle.spdm_grammar.specs.declared.told.event.BadReply.TheVariants as bad
+use Rattle.spdm_grammar.specs.declared.messages.malformed.Malformed.{Malformed}
 use Rattle.spdm_grammar.specs.declared.names.error_number.TheConstants.{LARGE_RESPONSE}
-use Rattle.spdm_grammar.specs.declared.part_faults.ChunkFault.TheVariants as chunk
+use Rattle.spdm_grammar.specs.declared.messages.part_faults.ChunkFault.TheVariants as chunk
 use Rattle.spdm_machine.specs.Terms.{response_value}
 use Rattle.psk_session.specs.Inner.{Contents, contents_by}
 use Rattle.psk_session.specs.Inner.Contents.{Spoken, AppData}

@@ -13,11 +13,11 @@ use Rattle.requester_machine.specs.Records.{asks_all, answer_purpose, answer_num
 use Rattle.requester_machine.specs.Session.{Steps, stage_of, session_hash, session_terms, session_vca, exchange_of, exchange_answer, finish_of, finish_answer, answer_in, finishes, verifies, updates, updates_all, is_data, t1_of, t2_of, request_epoch, response_epoch, request_next, response_next, taken_of}
 use Rattle.requester_machine.specs.Session.Step.{Asked, Took}
 use Rattle.spdm_basis.specs.SessionIdBytes.{session_id_bytes}
-use Rattle.spdm_basis.specs.declared.session_id.SessionId.{SessionId}
+use Rattle.spdm_basis.specs.declared.values.session_id.SessionId.{SessionId}
 use Rattle.spdm_grammar.specs.Message.{ChunkMessage}
-use Rattle.spdm_grammar.specs.declared.choice.Choice.{Choice}
-use Rattle.spdm_grammar.specs.declared.phase.Stage.{Stage}
-use Rattle.spdm_grammar.specs.declared.phase.Stage.TheVariants.{Handshake, Open, Verifying}
+use Rattle.spdm_grammar.specs.declared.messages.choice.Choice.{Choice}
+use Rattle.spdm_grammar.specs.declared.told.phase.Stage.{Stage}
+use Rattle.spdm_grammar.specs.declared.told.phase.Stage.TheVariants.{Handshake, Open, Verifying}
 use Rattle.spdm_machine.specs.Keys.{sealed_of, record_fault, inner_message}
 use Rattle.spdm_machine.specs.Sessions.{is_past_handshake, transcript_in, purpose_in}
 use Rattle.transcript.specs.Transcripts as transcript

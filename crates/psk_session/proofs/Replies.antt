@@ -10,8 +10,8 @@ use Rattle.requester_machine.specs.Order.{may_bring, stage_for, waiting_ask}
 use Rattle.requester_machine.specs.Order.Waits.{Rests}
 use Rattle.requester_machine.specs.Records.{answer_inner, asks_all}
 use Rattle.requester_machine.specs.Session.{Steps, ends, finishes, verifies, updates, updates_all, request_next, response_next, response_epoch}
-use Rattle.spdm_grammar.specs.declared.phase.Stage.{Stage}
-use Rattle.spdm_grammar.specs.declared.phase.Stage.TheVariants.{Open, Verifying}
+use Rattle.spdm_grammar.specs.declared.told.phase.Stage.{Stage}
+use Rattle.spdm_grammar.specs.declared.told.phase.Stage.TheVariants.{Open, Verifying}
 use Rattle.psk_session.specs.Course.{with_taken}
 use Rattle.psk_session.specs.Verdict.{effect_of}
 use Rattle.psk_session.specs.Waiting.{awaited_epoch}

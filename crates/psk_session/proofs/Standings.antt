@@ -2,7 +2,7 @@
 use Rattle.std.proofs.Common.{◌≡◌, refl, [], true, false}
 use Rattle.requester_machine.specs.Order.{stage_for}
 use Rattle.requester_machine.specs.Records.{asks_all}
-use Rattle.spdm_grammar.specs.declared.phase.Stage.TheVariants as stages
+use Rattle.spdm_grammar.specs.declared.told.phase.Stage.TheVariants as stages
 use Rattle.psk_session.specs.ReqSession.{awaited_in, is_open}
 use Rattle.psk_session.specs.Waiting.{awaited_by}
 use Rattle.psk_session.specs.declared.standing.Standing.{Standing}

@@ -9,7 +9,7 @@ use Rattle.requester_machine.specs.Sending.{update_tag}
 use Rattle.requester_machine.specs.Session.{Steps, session_terms, request_next, response_next}
 use Rattle.requester_machine.specs.Session.Step.{Asked}
 use Rattle.requester_machine.specs.Setup.{ReqSetup}
-use Rattle.spdm_grammar.specs.declared.choice.Pick.TheVariants.{Small}
+use Rattle.spdm_grammar.specs.declared.messages.choice.Pick.TheVariants.{Small}
 use Rattle.spdm_machine.specs.Terms.{hash_len}
 use Rattle.psk_session.specs.Course.{Course, TakesCourse}
 use Rattle.psk_session.specs.Stepped.{Follows, IsLeft, IsStanding, IsToldOf}

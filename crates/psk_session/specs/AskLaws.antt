@@ -9,8 +9,8 @@ use Rattle.requester_machine.specs.Message.{Command, Sent}
 use Rattle.requester_machine.specs.Message.Command.{Send, Beat, Update, Measure, End}
 use Rattle.requester_machine.specs.Session.{session_of, is_live}
 use Rattle.requester_machine.specs.Setup.{ReqSetup}
-use Rattle.spdm_grammar.specs.declared.command_fault.CommandFault.{CommandFault}
-use Rattle.spdm_grammar.specs.declared.command_fault.CommandFault.TheVariants as fault
+use Rattle.spdm_grammar.specs.declared.told.command_fault.CommandFault.{CommandFault}
+use Rattle.spdm_grammar.specs.declared.told.command_fault.CommandFault.TheVariants as fault
 use Rattle.spdm_machine.specs.Keys.{Draw}
 use Rattle.psk_session.specs.Asking.{ask_fault, asked}
 use Rattle.psk_session.specs.declared.ask.Ask.{Ask}

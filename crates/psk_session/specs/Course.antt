@@ -12,11 +12,11 @@ use Rattle.requester_machine.specs.Sending.{record_sent}
 use Rattle.requester_machine.specs.Session.{Steps, session_id, session_terms}
 use Rattle.requester_machine.specs.Session.Step.{Asked, Took}
 use Rattle.requester_machine.specs.Setup.{ReqSetup}
-use Rattle.spdm_basis.specs.declared.session_id.SessionId.{SessionId}
-use Rattle.spdm_grammar.specs.declared.event.BadReply.{BadReply}
-use Rattle.spdm_grammar.specs.declared.event.Event.{Event}
-use Rattle.spdm_grammar.specs.declared.event.Event.TheVariants as event
-use Rattle.spdm_grammar.specs.declared.event.Finished.TheVariants as finished
+use Rattle.spdm_basis.specs.declared.values.session_id.SessionId.{SessionId}
+use Rattle.spdm_grammar.specs.declared.told.event.BadReply.{BadReply}
+use Rattle.spdm_grammar.specs.declared.told.event.Event.{Event}
+use Rattle.spdm_grammar.specs.declared.told.event.Event.TheVariants as event
+use Rattle.spdm_grammar.specs.declared.told.event.Finished.TheVariants as finished
 use Rattle.psk_session.specs.declared.reply.Reply.{Reply}
 use Rattle.psk_session.specs.declared.reply.Reply.TheVariants as reply
 

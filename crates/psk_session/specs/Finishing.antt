@@ -6,7 +6,7 @@ use Rattle.key_schedule.specs.Purpose.{handshake_record}
 use Rattle.key_schedule.specs.declared.direction.Direction.TheVariants.{Response}
 use Rattle.requester_machine.specs.Sending.{finish_verify}
 use Rattle.requester_machine.specs.Session.{t1_of, session_id}
-use Rattle.spdm_basis.specs.declared.session_id.SessionId.{SessionId}
+use Rattle.spdm_basis.specs.declared.values.session_id.SessionId.{SessionId}
 use Rattle.spdm_grammar.specs.Message.RequestMessage.{PskFinish}
 use Rattle.spdm_grammar.specs.Requests.{canonical_request}
 use Rattle.spdm_machine.specs.Terms.{terms_of}

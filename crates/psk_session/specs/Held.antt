@@ -1,7 +1,7 @@
 -- The contents of inner messages in the program, and what they are to what is awaited.
 use Rattle.std.specs.Prelude.{◌≡◌, ℕ, List, Result, Ok, Err}
 use Rattle.spdm_grammar.specs.Message.{response_message, chunk_message}
-use Rattle.spdm_grammar.specs.declared.event.BadReply.{BadReply}
+use Rattle.spdm_grammar.specs.declared.told.event.BadReply.{BadReply}
 use Rattle.psk_session.specs.Inner.{Contents}
 use Rattle.psk_session.specs.Inner.Contents.{Spoken, AppData}
 use Rattle.psk_session.specs.Verdict as verdicts

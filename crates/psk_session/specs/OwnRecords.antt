@@ -6,8 +6,8 @@ use Rattle.requester_machine.specs.Message.{Ask}
 use Rattle.requester_machine.specs.Records.{request_purpose, sealed_next}
 use Rattle.requester_machine.specs.Session.{Steps, id_bytes, request_next, session_id, session_terms}
 use Rattle.session_keys.specs.Keys.{IsKeyOf}
-use Rattle.spdm_basis.specs.declared.record_fault.RecordFault.{RecordFault}
-use Rattle.spdm_basis.specs.declared.session_id.SessionId.{SessionId}
+use Rattle.spdm_basis.specs.declared.causes.record_fault.RecordFault.{RecordFault}
+use Rattle.spdm_basis.specs.declared.values.session_id.SessionId.{SessionId}
 use Rattle.spdm_machine.specs.Keys.{inner_message, record_fault}
 use Rattle.transcript.specs.Transcripts.{Negotiation}
 use Rattle.psk_session.specs.Course.{with_asked}

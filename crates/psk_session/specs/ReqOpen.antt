@@ -3,7 +3,7 @@ use Rattle.std.specs.Prelude.{◌≡◌, ℕ, List}
 use Rattle.requester_machine.specs.SpentLaws.{FewBy}
 use Rattle.requester_machine.specs.Order.Waits.{Rests}
 use Rattle.requester_machine.specs.Session.{Steps, stage_of, response_epoch}
-use Rattle.spdm_grammar.specs.declared.phase.Stage.TheVariants.{Open}
+use Rattle.spdm_grammar.specs.declared.told.phase.Stage.TheVariants.{Open}
 use Rattle.psk_session.specs.Data.{data_of}
 use Rattle.psk_session.specs.Kept.{Keeps}
 use Rattle.psk_session.specs.declared.kept.Kept.{Kept}

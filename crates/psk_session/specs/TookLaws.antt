@@ -19,14 +19,14 @@ use Rattle.requester_machine.specs.Sending.{finish_sent}
 use Rattle.requester_machine.specs.Session.{Steps, ends, is_live, session_of, session_terms}
 use Rattle.requester_machine.specs.Setup.{ReqSetup}
 use Rattle.requester_machine.specs.Shown.{bytes_in, blocks_in, last_data}
-use Rattle.spdm_basis.specs.declared.record_fault.RecordFault.{RecordFault}
+use Rattle.spdm_basis.specs.declared.causes.record_fault.RecordFault.{RecordFault}
 use Rattle.spdm_grammar.specs.Message.{ResponseMessage, ExchangeMessage}
 use Rattle.spdm_grammar.specs.Message.RequestMessage.{PskExchange}
 use Rattle.spdm_grammar.specs.Message.ResponseMessage.{Error}
 use Rattle.spdm_grammar.specs.Requests.{canonical_request}
-use Rattle.spdm_grammar.specs.declared.event.BadReply.{BadReply}
-use Rattle.spdm_grammar.specs.declared.event.ReqIgnored.TheVariants as ignored
-use Rattle.spdm_grammar.specs.declared.malformed.Malformed.{Malformed}
+use Rattle.spdm_grammar.specs.declared.told.event.BadReply.{BadReply}
+use Rattle.spdm_grammar.specs.declared.told.event.ReqIgnored.TheVariants as ignored
+use Rattle.spdm_grammar.specs.declared.messages.malformed.Malformed.{Malformed}
 use Rattle.spdm_machine.specs.Keys.{Draw}
 use Rattle.spdm_machine.specs.Terms.{terms_of}
 use Rattle.transcript.specs.Transcripts.{Negotiation}

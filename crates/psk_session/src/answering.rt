@@ -25,7 +25,7 @@ impl ReqSession {
     ghost use Rattle.spdm_grammar.specs.Message.{ChunkMessage};
     ghost use Rattle.spdm_grammar.specs.Message.RequestMessage.{ChunkGet};
     ghost use Rattle.spdm_grammar.specs.declared.names.key_operation.TheConstants.{VERIFY_NEW_KEY};
-    ghost use Rattle.spdm_grammar.specs.declared.phase.Stage.TheVariants as stages;
+    ghost use Rattle.spdm_grammar.specs.declared.told.phase.Stage.TheVariants as stages;
     ghost use Rattle.psk_session.specs.Course.{with_asked, with_taken};
     ghost use Rattle.psk_session.specs.Data.{data_in};
     ghost use Rattle.psk_session.specs.Held.{verdict_with};

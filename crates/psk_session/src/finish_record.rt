@@ -8,7 +8,7 @@ ghost use Rattle.spdm_basis.specs.SessionIdBytes.{session_id_bytes};
 ghost use Rattle.spdm_basis.specs.Sizes.{hash_size};
 ghost use Rattle.spdm_grammar.specs.Message.RequestMessage.{PskFinish};
 ghost use Rattle.spdm_grammar.specs.Requests.{canonical_request};
-ghost use Rattle.spdm_grammar.specs.declared.choice.Choice.{Choice};
+ghost use Rattle.spdm_grammar.specs.declared.messages.choice.Choice.{Choice};
 ghost use Rattle.spdm_machine.specs.Keys.{sealed_of};
 ghost use Rattle.spdm_machine.specs.Terms.{terms_of};
 ghost use Rattle.transcript.specs.Lane as lanes;

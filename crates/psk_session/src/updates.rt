@@ -1,6 +1,6 @@
 ghost use Rattle.std.specs.Prelude.{◌≡◌, ◌<◌, ◌+◌, ◌-◌, ◌^◌};
 ghost use Rattle.key_schedule.specs.Purpose.{Purpose};
-ghost use Rattle.spdm_grammar.specs.declared.choice.Choice.{Choice};
+ghost use Rattle.spdm_grammar.specs.declared.messages.choice.Choice.{Choice};
 ghost use Rattle.session_keys.specs.Keys.{IsKeyOf};
 
 use secured_record::RecordKey;

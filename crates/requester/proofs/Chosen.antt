@@ -1,9 +1,9 @@
 -- The values that are handed to the parts below are those that the requester chooses.
 use Rattle.std.proofs.Common.{refl, ◌≡◌, ◌<◌, ◌∙◌, ℕ, List, [], Option, Some, None, ap, sym, subst, arith, length}
 use Rattle.std.specs.Prelude.{take, true}
-use Rattle.asking.specs.Free.{IsFree}
-use Rattle.asking.specs.Joined.{IsSentAs}
-use Rattle.asking.specs.declared.free_values.FreeValues.{FreeValues}
+use Rattle.requester_core.specs.Free.{IsFree}
+use Rattle.requester_core.specs.Joined.{IsSentAs}
+use Rattle.requester_core.specs.declared.free_values.FreeValues.{FreeValues}
 use Rattle.requester_machine.specs.Does.{chosen, command_chosen, free_id}
 use Rattle.requester_machine.proofs.Choosing.{allowed, padding-short}
 use Rattle.requester_machine.specs.May.{IsAllowed, IsSetUp}

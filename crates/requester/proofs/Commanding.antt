@@ -1,7 +1,7 @@
 -- The step of a command.
 use Rattle.std.proofs.Common.{refl, ◌≡◌, ◌≤◌, ◌<◌, ◌∙◌, ◌+◌, ◌-◌, ◌^◌, ℕ, List, [], ◌∷◌, length, Bool, true, false, cond, Option, Some, None, Ok, Err, ap, sym, subst, arith}
 use Rattle.std.proofs.lemmas.Option.{none-some}
-use Rattle.asking.specs.Joined as joined
+use Rattle.requester_core.specs.Joined as joined
 use Rattle.mctp_framing.specs.Assembling as assembling
 use Rattle.requester.proofs.Chosen.{packets_are}
 use Rattle.requester.proofs.Steps.{counts_few}
@@ -23,8 +23,8 @@ use Rattle.requester_machine.specs.Message.Command.{Beat, Connect, End, Measure,
 use Rattle.requester_machine.specs.Requesting.{CommandStep, Requesting, commanded_by, is_worn, next_draw, packets_of_sent, requester_told, worn_command}
 use Rattle.requester_machine.specs.Setup.{ReqSetup}
 use Rattle.requester_machine.specs.Shown.{after, fault_of, sent_by}
-use Rattle.spdm_grammar.specs.declared.command_fault.CommandFault.{CommandFault}
-use Rattle.spdm_grammar.specs.declared.command_fault.CommandFault.TheVariants as fault
+use Rattle.spdm_grammar.specs.declared.told.command_fault.CommandFault.{CommandFault}
+use Rattle.spdm_grammar.specs.declared.told.command_fault.CommandFault.TheVariants as fault
 use Rattle.spdm_machine.specs.Keys.{Draw, draw_of}
 use Rattle.spdm_machine.specs.Packets.{fields_in, packets_to}
 use Rattle.requester_machine.proofs.Runs.{one_more}

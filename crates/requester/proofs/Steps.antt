@@ -2,7 +2,7 @@
 use Rattle.std.proofs.Common.{refl, ◌≡◌, ◌≤◌, ◌<◌, ◌∙◌, ◌+◌, ◌^◌, ℕ, List, [], ◌∷◌, length, Bool, true, false, cond, Option, Result, Ok, Err, ap, sym, subst, arith}
 use Rattle.std.proofs.lemmas.Bool.Decides.{nat_tests}
 use Rattle.std.specs.Prelude.{unwrap_or}
-use Rattle.asking.specs.Joined as joined
+use Rattle.requester_core.specs.Joined as joined
 use Rattle.hmac_hkdf.specs.Draw.{Draws}
 use Rattle.mctp_framing.specs.Assembling as assembling
 use Rattle.mctp_framing.specs.Cutting.{RouteFields}
@@ -21,9 +21,9 @@ use Rattle.requester_machine.specs.Requesting.{PacketStep, Requesting, hears_gat
 use Rattle.requester_machine.specs.Shown.{after}
 use Rattle.spdm_basis.specs.declared.DropCause.{DropCause}
 use Rattle.spdm_basis.specs.declared.PacketFault.{PacketFault}
-use Rattle.spdm_grammar.specs.declared.event.Event.{Event}
-use Rattle.spdm_grammar.specs.declared.event.Event.TheVariants as event
-use Rattle.spdm_grammar.specs.declared.event.ReqIgnored.TheVariants as ignored
+use Rattle.spdm_grammar.specs.declared.told.event.Event.{Event}
+use Rattle.spdm_grammar.specs.declared.told.event.Event.TheVariants as event
+use Rattle.spdm_grammar.specs.declared.told.event.ReqIgnored.TheVariants as ignored
 use Rattle.spdm_machine.specs.Packets.{fields_in, fields_with, gathered_from}
 use Rattle.requester_machine.proofs.Runs.{one_more}
 

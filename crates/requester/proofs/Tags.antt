@@ -27,10 +27,10 @@ use Rattle.requester_machine.specs.Shown.{after, event_of, sent_by}
 use Rattle.spdm_grammar.specs.Message.{RequestMessage}
 use Rattle.spdm_grammar.specs.Message.RequestMessage.{GetMeasurements, NegotiateAlgorithms}
 use Rattle.spdm_grammar.specs.Requests.{canonical_request}
-use Rattle.spdm_grammar.specs.declared.event.Event.{Event}
+use Rattle.spdm_grammar.specs.declared.told.event.Event.{Event}
 use Rattle.spdm_machine.specs.Bodies.{clear_body, record_body}
 use Rattle.spdm_machine.specs.Keys.{Draw}
-use Rattle.asking.proofs.DataBrought.{next_is}
+use Rattle.requester_core.proofs.DataBrought.{next_is}
 
 request_tag : (common : Common) (h : History) (asked : RequestMessage) → (request_sent common h asked).tag ≡ next_tag h
 request_tag common h asked = either (λ (s : Sent). s.tag ≡ next_tag h) (nat_lt common.to_responder.transfer (length (canonical_request asked))) (piece_sent common h asked (next_handle h) 0) (plain_sent h asked) refl refl

@@ -1,18 +1,18 @@
 -- The whole requester, as the program keeps it.
 use Rattle.std.specs.Prelude.{◌≡◌, ◌≤◌, ◌+◌, ◌-◌, ◌*◌, ◌^◌, ℕ, List, false, Option, Some, None, Result, Ok, Err, length}
-use Rattle.asking.specs.Joined as joined
+use Rattle.requester_core.specs.Joined as joined
 use Rattle.mctp_framing.specs.Assembling as assembling
 use Rattle.requester.specs.SetUp.{IsPart}
 use Rattle.requester.specs.declared.whole.Requester.{Requester}
-use Rattle.asking.specs.declared.joined.Asking.{Asking}
+use Rattle.requester_core.specs.declared.joined.Asking.{Asking}
 use Rattle.requester_machine.specs.Asking.{Outcome}
 use Rattle.requester_machine.specs.Does.{IsMade}
 use Rattle.requester_machine.specs.History.{History, draws_of}
 use Rattle.requester_machine.specs.Requesting.{CommandStep, PacketStep, Requesting, is_worn, packets_of_sent}
 use Rattle.requester_machine.specs.Setup.{ReqSetup}
 use Rattle.requester_machine.specs.Shown.{after, event_of, sent_by}
-use Rattle.spdm_grammar.specs.declared.command_fault.CommandFault.{CommandFault}
-use Rattle.spdm_grammar.specs.declared.event.Event.{Event}
+use Rattle.spdm_grammar.specs.declared.told.command_fault.CommandFault.{CommandFault}
+use Rattle.spdm_grammar.specs.declared.told.event.Event.{Event}
 use Rattle.spdm_machine.specs.Packets.{body_limit, fields_in, wear_limit}
 
 -- The greatest number of a first draw: that of the last boot. This project's own limit.

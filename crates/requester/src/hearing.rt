@@ -1,5 +1,5 @@
 ghost use Rattle.std.specs.Prelude.{◌≡◌, ◌<◌, ◌^◌, ◌-◌, [], ℕ, List, Ok, length};
-ghost use Rattle.asking.specs.Joined as joined;
+ghost use Rattle.requester_core.specs.Joined as joined;
 ghost use Rattle.mctp_framing.specs.Packet.{parsed, view_of};
 ghost use Rattle.requester.specs.SetUp.{IsPart};
 ghost use Rattle.requester.specs.Standing.{IsCounted, IsGiven, IsHeard, StandsFor};
@@ -13,7 +13,7 @@ use crate::Requester;
 use crate::part::Part;
 use crate::sending::send;
 use crate::whole::WEAR_LIMIT;
-use asking::{Asking, Body};
+use requester_core::{Asking, Body};
 use mctp_framing::{Fed, Packet, PacketList, PacketView, Route};
 use spdm_grammar::{Event, ReqIgnored};
 

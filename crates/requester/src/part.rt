@@ -1,7 +1,7 @@
 ghost use Rattle.std.specs.Prelude.{◌≤◌, length};
 
 use crate::{ReqConfig, ReqConfigFault};
-use asking::Setup;
+use requester_core::Setup;
 use mctp_framing::Route;
 use spdm_basis::{Bytes, Eid, Psk};
 use spdm_grammar::{FlagSet, Suites};
@@ -28,7 +28,7 @@ pub struct Part {
 
 impl Part {
     ghost use Rattle.std.specs.Prelude.{◌≡◌, ◌%◌, None, true, IfErr, IfOk, OnOk};
-    ghost use Rattle.asking.specs.Setup.{IsSetUp};
+    ghost use Rattle.requester_core.specs.Setup.{IsSetUp};
     ghost use Rattle.mctp_framing.specs.Cutting.{route_of};
     ghost use Rattle.requester.specs.Config.{IsCause, config_fault};
     ghost use Rattle.requester.specs.SetUp.{IsPart, setup_of};

@@ -1,6 +1,6 @@
 ghost use Rattle.std.specs.Prelude.{◌≡◌, ◌≤◌, ◌<◌, ◌^◌, ◌+◌, ◌-◌, [], false, length};
-ghost use Rattle.asking.specs.Joined.{IsCommanded, command_of};
-ghost use Rattle.asking.specs.Joined as joined;
+ghost use Rattle.requester_core.specs.Joined.{IsCommanded, command_of};
+ghost use Rattle.requester_core.specs.Joined as joined;
 ghost use Rattle.session_keys.specs.Drawing.{draw_as, drawn_by};
 ghost use Rattle.requester.specs.SetUp.{IsPart};
 ghost use Rattle.requester.specs.Standing.{IsTold, StandsFor};
@@ -14,7 +14,7 @@ use crate::Requester;
 use crate::part::Part;
 use crate::sending::send;
 use crate::whole::WEAR_LIMIT;
-use asking::{Asking, Body, Command, FreeValues};
+use requester_core::{Asking, Body, Command, FreeValues};
 use hmac_hkdf::{DrawStream, Drawn};
 use mctp_framing::PacketList;
 use session_keys::context_of;

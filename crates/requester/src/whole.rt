@@ -1,6 +1,6 @@
 use crate::part::Part;
 use crate::{ReqConfig, ReqConfigFault};
-use asking::{Asking, Body};
+use requester_core::{Asking, Body};
 use hmac_hkdf::DrawStream;
 use mctp_framing::Assembler;
 use spdm_grammar::{Phase, SessionList};

@@ -1,14 +1,14 @@
 -- What a fault that is told says of the call.
 use Rattle.std.proofs.Common.{◌≡◌, ◌<◌, ℕ, List, [], ◌∷◌, Some, length, get_or, refl, ap, sym, subst, arith}
 use Rattle.std.specs.Option.{option_map}
-use Rattle.configured_ends.specs.Configured.{IsRequesterFault}
+use Rattle.script_ends.specs.Configured.{IsRequesterFault}
 use Rattle.requester.specs.declared.fault.ReqConfigFault.{ReqConfigFault}
 use Rattle.requester.specs.declared.fault.ReqConfigFault.TheVariants as asking
 use Rattle.requester_drive.specs.First.{first_of, first_requester, requester_as}
 use Rattle.requester_drive.specs.Told.{IsEarly, of_requester}
 use Rattle.requester_machine.specs.Requesting.{Requesting}
-use Rattle.script_text.specs.declared.config.ReqPart.{ReqPart}
-use Rattle.script_text.specs.declared.config.ScriptConfig.{ScriptConfig}
+use Rattle.script_text.specs.declared.configuration.config.ReqPart.{ReqPart}
+use Rattle.script_text.specs.declared.configuration.config.ScriptConfig.{ScriptConfig}
 
 -- the requester that is made is the first
 at_front : (qs : List ReqPart) (q : ReqPart) → 0 < length qs → q ≡ get_or qs 0 q → first_of qs ≡ Some q

@@ -16,7 +16,7 @@ use Rattle.requester_drive.specs.declared.fault.DriveFault.{DriveFault}
 use Rattle.requester_drive.specs.declared.fault.DriveFault.TheVariants as fault
 use Rattle.requester_drive.specs.declared.telling.Driver.{Driver}
 use Rattle.requester_machine.specs.Requesting.{Requesting}
-use Rattle.script_text.specs.declared.config.ScriptConfig.{ScriptConfig}
+use Rattle.script_text.specs.declared.configuration.config.ScriptConfig.{ScriptConfig}
 use Rattle.spdm_basis.specs.Stream.{HasFault, Takes, TakesPrefix}
 
 after_more : (c : ScriptConfig) (a : Requesting) (frames : List GivenFrame) (frame : GivenFrame) → after_frames c a (frames ++ frame ∷ []) ≡ (driven_by c (after_frames c a frames) frame).after

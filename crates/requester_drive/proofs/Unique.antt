@@ -9,7 +9,7 @@ use Rattle.frame_stream.specs.Frames.GivenFrame.{CommandOf}
 use Rattle.requester_drive.specs.Commands.{command_line}
 use Rattle.requester_drive.specs.Driven.{AreTold, HasNoCommand, IsStreamOf, IsTold, Stops, driven_kinds}
 use Rattle.requester_machine.specs.Message.{Command}
-use Rattle.script_text.specs.declared.config.ScriptConfig.{ScriptConfig}
+use Rattle.script_text.specs.declared.configuration.config.ScriptConfig.{ScriptConfig}
 use Rattle.std.specs.Prelude.{Option}
 
 not_told : (c : ScriptConfig) (frame : GivenFrame) (line : List ℕ) → frame ≡ CommandOf line → command_line c line ≡ None → IsTold c frame → ⊥

@@ -4,10 +4,10 @@ use Rattle.std.specs.Prelude.{OnErr, is_some}
 use Rattle.frame_stream.specs.Frames.{counted}
 use Rattle.frame_stream.specs.Packets.{packet_frames}
 use Rattle.requester.specs.Standing.{StandsFor, fault_in}
-use Rattle.configured_ends.proofs.Tells.{requester_tells}
+use Rattle.script_ends.proofs.Tells.{requester_tells}
 use Rattle.requester_drive.specs.Commands.{command_line}
 use Rattle.requester_drive.specs.Driven.{driven_by_command, driven_by_line, driven_by_packet, line_frame, line_frames, without_feed}
-use Rattle.configured_ends.specs.Told.{event_lines}
+use Rattle.script_ends.specs.Told.{event_lines}
 use Rattle.requester_drive.specs.Standing.{IsDrivenBy, IsObeyed, Written}
 use Rattle.requester_drive.specs.declared.fault.DriveFault.{DriveFault}
 use Rattle.requester_drive.specs.declared.fault.DriveFault.TheVariants as fault
@@ -15,13 +15,13 @@ use Rattle.requester_drive.specs.declared.telling.Driver.{Driver}
 use Rattle.requester_machine.specs.Message.{Command}
 use Rattle.requester_machine.specs.Requesting.{CommandStep, Requesting, requester_given, requester_told}
 use Rattle.requester_machine.specs.Shown.{last_data}
-use Rattle.script_text.specs.TraceLines.{line_text}
-use Rattle.script_text.specs.Whose.{fault_of}
-use Rattle.script_text.specs.declared.config.ScriptConfig.{ScriptConfig}
+use Rattle.trace_text.specs.TraceLines.{line_text}
+use Rattle.trace_text.specs.Whose.{fault_of}
+use Rattle.script_text.specs.declared.configuration.config.ScriptConfig.{ScriptConfig}
 use Rattle.spdm_basis.specs.Stream.{HasFault, Takes, TakesPrefix}
 use Rattle.spdm_grammar.specs.Lines.{Line}
-use Rattle.spdm_grammar.specs.declared.command_fault.CommandFault.{CommandFault}
-use Rattle.spdm_grammar.specs.declared.event.Event.{Event}
+use Rattle.spdm_grammar.specs.declared.told.command_fault.CommandFault.{CommandFault}
+use Rattle.spdm_grammar.specs.declared.told.event.Event.{Event}
 
 pub framed : (line : Line) (text : List ℕ) → text ≡ line_text line → 4 ∷ counted (without_feed text) ≡ line_frame line
 framed line text is = ap (λ (t : List ℕ). 4 ∷ counted (without_feed t)) is

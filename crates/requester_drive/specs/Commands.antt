@@ -1,15 +1,15 @@
 -- The lines that tell requester 1 a command. This project's own.
 use Rattle.std.specs.Prelude.{◌==◌, ℕ, List, length, if◌then◌else◌, Option, Some, None, Result, Ok, Err}
 use Rattle.std.specs.Option.{option_map}
-use Rattle.asking.specs.Joined.{command_of}
-use Rattle.asking.specs.declared.command.Command as declared
+use Rattle.requester_core.specs.Joined.{command_of}
+use Rattle.requester_core.specs.declared.command.Command as declared
 use Rattle.requester_machine.specs.Message.{Command}
 use Rattle.requester_machine.specs.Message.Command.{Beat, Connect, End, Measure, Open, Retry, Send, Update}
 use Rattle.script_text.specs.CommandText.{command_in}
-use Rattle.script_text.specs.declared.config.ScriptConfig.{ScriptConfig}
-use Rattle.script_text.specs.declared.event.LinkEvent.{LinkEvent}
-use Rattle.script_text.specs.declared.event.LinkEvent.TheVariants as event
-use Rattle.script_text.specs.declared.faults.ScriptFault.{ScriptFault}
+use Rattle.script_text.specs.declared.configuration.config.ScriptConfig.{ScriptConfig}
+use Rattle.script_text.specs.declared.events.event.LinkEvent.{LinkEvent}
+use Rattle.script_text.specs.declared.events.event.LinkEvent.TheVariants as event
+use Rattle.script_text.specs.declared.texts.faults.ScriptFault.{ScriptFault}
 
 -- A command, where it is told requester 1.
 abbrev pub for_first : (q : ℕ) → Command → Option Command

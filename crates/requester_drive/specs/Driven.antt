@@ -8,8 +8,8 @@ use Rattle.frame_stream.specs.declared.kinds.Kinds.{Kinds}
 use Rattle.requester_drive.specs.Commands.{command_line}
 use Rattle.requester_machine.specs.Message.{Command}
 use Rattle.requester_machine.specs.Requesting.{CommandStep, PacketStep, Requesting, requester_given, requester_told}
-use Rattle.script_text.specs.TraceLines.{line_text}
-use Rattle.script_text.specs.declared.config.ScriptConfig.{ScriptConfig}
+use Rattle.trace_text.specs.TraceLines.{line_text}
+use Rattle.script_text.specs.declared.configuration.config.ScriptConfig.{ScriptConfig}
 use Rattle.spdm_basis.specs.Stream.{Takes, TakesPrefix}
 use Rattle.spdm_grammar.specs.Lines.{Line, Whose}
 use Rattle.world_machine.specs.World.{data_lines, id_in_event, record_lines}

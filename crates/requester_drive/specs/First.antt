@@ -1,11 +1,11 @@
 -- The first requester of a configuration, which is the one that is driven. This project's own.
 use Rattle.std.specs.Prelude.{◌≡◌, ℕ, List, [], ◌∷◌, Option, Some, None}
 use Rattle.std.specs.Option.{option_map}
-use Rattle.configured_ends.specs.Configured.{HasRequesterFault, requester_end}
+use Rattle.script_ends.specs.Configured.{HasRequesterFault, requester_end}
 use Rattle.requester.specs.declared.fault.ReqConfigFault.{ReqConfigFault}
 use Rattle.requester_machine.specs.Requesting.{Requesting, new_requesting}
-use Rattle.script_text.specs.declared.config.ReqPart.{ReqPart}
-use Rattle.script_text.specs.declared.config.ScriptConfig.{ScriptConfig}
+use Rattle.script_text.specs.declared.configuration.config.ReqPart.{ReqPart}
+use Rattle.script_text.specs.declared.configuration.config.ScriptConfig.{ScriptConfig}
 
 -- The first of the requesters, if there is one.
 abbrev pub first_of : List ReqPart → Option ReqPart

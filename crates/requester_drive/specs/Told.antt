@@ -7,7 +7,7 @@ use Rattle.requester.specs.declared.fault.ReqConfigFault.TheVariants as asking
 use Rattle.requester_drive.specs.First.{HasFirstFault}
 use Rattle.requester_drive.specs.declared.fault.DriveFault.{DriveFault}
 use Rattle.requester_drive.specs.declared.fault.DriveFault.TheVariants.{BadFrame, OutOfMemory, ReadFault, Requester, TooLong}
-use Rattle.script_text.specs.declared.config.ScriptConfig.{ScriptConfig}
+use Rattle.script_text.specs.declared.configuration.config.ScriptConfig.{ScriptConfig}
 
 -- A fault of the stream.
 abbrev pub told_of : FrameFault → DriveFault

@@ -1,9 +1,9 @@
 ghost use Rattle.std.specs.Prelude.{◌≤◌, ◌++◌, [], ◌∷◌, OnOk, OnErr, length};
-ghost use Rattle.configured_ends.specs.Told.{event_data, event_lines};
+ghost use Rattle.script_ends.specs.Told.{event_data, event_lines};
 ghost use Rattle.frame_stream.specs.Frames.{counted};
 ghost use Rattle.frame_stream.specs.Packets.{AreShort, packet_frames};
 ghost use Rattle.requester_drive.specs.Driven.{line_frames, without_feed};
-ghost use Rattle.script_text.specs.Whose.{fault_of};
+ghost use Rattle.trace_text.specs.Whose.{fault_of};
 ghost use Rattle.spdm_basis.specs.Stream.{HasFault, Takes, TakesPrefix};
 ghost use Rattle.spdm_grammar.specs.Lines.Line.{Command, Data, Record};
 ghost use Rattle.spdm_grammar.specs.Lines.Whose.{Requester};

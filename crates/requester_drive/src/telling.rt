@@ -39,7 +39,7 @@ fn fault_of(fault: FrameFault) -> DriveFault
 
 impl Driver {
     ghost use Rattle.std.specs.Prelude.{◌≡◌, ◌≤◌, ◌<◌, Some, IfErr, IfOk, OnErr, length};
-    ghost use Rattle.asking.specs.Joined.{command_of};
+    ghost use Rattle.requester_core.specs.Joined.{command_of};
     ghost use Rattle.frame_stream.specs.Frames.{stream_limit};
     ghost use Rattle.frame_stream.specs.Standing.{IsNew, beginning_of, content_in};
     ghost use Rattle.requester.specs.Standing.{StandsFor};

@@ -7,9 +7,9 @@ use Rattle.std.proofs.lemmas.Grind.{common_steps}
 use Rattle.byteorder.specs.Endian.{little_number}
 use Rattle.negotiate.specs.Capabilities.{common_of, shared, psk_is, protects}
 use Rattle.negotiate.specs.declared.shared.Common.{Common}
-use Rattle.spdm_grammar.specs.declared.capabilities.Caps.{Caps}
-use Rattle.spdm_grammar.specs.declared.part_faults.CapsFault.{CapsFault}
-use Rattle.spdm_grammar.specs.declared.part_faults.CapsFault.TheVariants.{SizeTooSmall, SizesCrossed, NoPsk, NoProtection}
+use Rattle.spdm_grammar.specs.declared.messages.capabilities.Caps.{Caps}
+use Rattle.spdm_grammar.specs.declared.messages.part_faults.CapsFault.{CapsFault}
+use Rattle.spdm_grammar.specs.declared.messages.part_faults.CapsFault.TheVariants.{SizeTooSmall, SizesCrossed, NoPsk, NoProtection}
 use Rattle.spdm_grammar.specs.declared.names.TheConstants.{MIN_DATA_TRANSFER_SIZE, MAX_MESSAGE_SIZE}
 use Rattle.spdm_grammar.specs.declared.names.capability.TheConstants.{PSK_CAP, PSK_CAP_WITH_CONTEXT, HBEAT_CAP, KEY_UPD_CAP, CHUNK_CAP}
 use Rattle.spdm_grammar.specs.declared.names.response_code.TheConstants.{MEASUREMENTS, CAPABILITIES, ALGORITHMS, PSK_EXCHANGE_RSP, PSK_FINISH_RSP, HEARTBEAT_ACK, KEY_UPDATE_ACK, END_SESSION_ACK, ERROR, VERSION, CHUNK_SEND_ACK}

@@ -12,17 +12,17 @@ use Rattle.spdm_grammar.specs.Message.{RequestMessage, ResponseMessage, ChunkMes
 use Rattle.spdm_grammar.specs.Message.RequestMessage.{GetVersion, GetCapabilities, NegotiateAlgorithms, GetMeasurements, PskExchange}
 use Rattle.spdm_grammar.specs.Message.ResponseMessage.{Version, Capabilities, Algorithms, Measurements, PskExchangeRsp, ChunkSendAck, ChunkResponse, Error}
 use Rattle.spdm_grammar.specs.Requests.{canonical_request}
-use Rattle.spdm_grammar.specs.declared.capabilities.Caps.{Caps}
-use Rattle.spdm_grammar.specs.declared.choice.Choice.{Choice}
-use Rattle.spdm_grammar.specs.declared.event.Finished.{Finished}
-use Rattle.spdm_grammar.specs.declared.event.Finished.TheVariants as finished
-use Rattle.spdm_grammar.specs.declared.event.ReqIgnored.{ReqIgnored}
-use Rattle.spdm_grammar.specs.declared.event.ReqIgnored.TheVariants as ignored
-use Rattle.spdm_grammar.specs.declared.event.Stop.{Stop}
-use Rattle.spdm_grammar.specs.declared.event.Stop.TheVariants as stop
-use Rattle.spdm_grammar.specs.declared.malformed.Malformed.{Malformed}
-use Rattle.spdm_grammar.specs.declared.part_faults.CapsFault.{CapsFault}
-use Rattle.spdm_grammar.specs.declared.part_faults.ChunkFault.{ChunkFault}
+use Rattle.spdm_grammar.specs.declared.messages.capabilities.Caps.{Caps}
+use Rattle.spdm_grammar.specs.declared.messages.choice.Choice.{Choice}
+use Rattle.spdm_grammar.specs.declared.told.event.Finished.{Finished}
+use Rattle.spdm_grammar.specs.declared.told.event.Finished.TheVariants as finished
+use Rattle.spdm_grammar.specs.declared.told.event.ReqIgnored.{ReqIgnored}
+use Rattle.spdm_grammar.specs.declared.told.event.ReqIgnored.TheVariants as ignored
+use Rattle.spdm_grammar.specs.declared.told.event.Stop.{Stop}
+use Rattle.spdm_grammar.specs.declared.told.event.Stop.TheVariants as stop
+use Rattle.spdm_grammar.specs.declared.messages.malformed.Malformed.{Malformed}
+use Rattle.spdm_grammar.specs.declared.messages.part_faults.CapsFault.{CapsFault}
+use Rattle.spdm_grammar.specs.declared.messages.part_faults.ChunkFault.{ChunkFault}
 use Rattle.spdm_grammar.specs.declared.names.error_number.TheConstants.{LARGE_RESPONSE}
 use Rattle.requester_machine.specs.Setup.{ReqSetup, requester_caps}
 use Rattle.requester_machine.specs.Answers.{goes_on, is_done, is_refused, stopped, error_led, version_led, offer_led, caps_led, algorithms_led, measured_number, exchange_led, answer_led, answer_verify, with_answer, may_be_large}

@@ -1,7 +1,7 @@
 -- The counts of a session, computed over an update of all keys.
 use Rattle.std.proofs.Common.{refl, ◌≡◌, ℕ, [], ◌∷◌, true}
-use Rattle.spdm_grammar.specs.declared.phase.Stage.{Stage}
-use Rattle.spdm_grammar.specs.declared.phase.Stage.TheVariants as stage
+use Rattle.spdm_grammar.specs.declared.told.phase.Stage.{Stage}
+use Rattle.spdm_grammar.specs.declared.told.phase.Stage.TheVariants as stage
 use Rattle.spdm_machine.specs.Terms.{no_negotiation}
 use Rattle.requester_machine.specs.History.Effect.{Grants}
 use Rattle.requester_machine.specs.Message.Ask.{AskFinish, AskUpdate, AskVerify}

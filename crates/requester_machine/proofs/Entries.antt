@@ -3,7 +3,7 @@ use Rattle.std.proofs.Common.{refl, ◌≡◌, ℕ, List, [], ◌∷◌, true, f
 use Rattle.std.specs.Prelude.{if◌then◌else◌}
 use Rattle.std.proofs.lemmas.Option.{none-some, same_Some}
 use Rattle.spdm_grammar.specs.Message.{RequestMessage}
-use Rattle.spdm_grammar.specs.declared.command_fault.CommandFault.{CommandFault}
+use Rattle.spdm_grammar.specs.declared.told.command_fault.CommandFault.{CommandFault}
 use Rattle.negotiate.specs.declared.shared.Common.{Common}
 use Rattle.spdm_machine.specs.Keys.{Draw}
 use Rattle.requester_machine.specs.Setup.{ReqSetup}

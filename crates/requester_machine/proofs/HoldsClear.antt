@@ -9,10 +9,10 @@ use Rattle.spdm_grammar.specs.Message.{RequestMessage, ChunkMessage, OfferMessag
 use Rattle.spdm_grammar.specs.Message.RequestMessage.{GetVersion, GetCapabilities, NegotiateAlgorithms, GetMeasurements, PskExchange, PskFinish}
 use Rattle.spdm_grammar.specs.Message.ResponseMessage.{Capabilities}
 use Rattle.spdm_grammar.specs.Requests.{canonical_request}
-use Rattle.spdm_grammar.specs.declared.capabilities.Caps.{Caps}
-use Rattle.spdm_grammar.specs.declared.event.Finished.{Finished}
-use Rattle.spdm_grammar.specs.declared.event.Finished.TheVariants as finished
-use Rattle.spdm_grammar.specs.declared.event.Stop.{Stop}
+use Rattle.spdm_grammar.specs.declared.messages.capabilities.Caps.{Caps}
+use Rattle.spdm_grammar.specs.declared.told.event.Finished.{Finished}
+use Rattle.spdm_grammar.specs.declared.told.event.Finished.TheVariants as finished
+use Rattle.spdm_grammar.specs.declared.told.event.Stop.{Stop}
 use Rattle.spdm_machine.specs.Keys.{Draw}
 use Rattle.spdm_machine.specs.Terms.{hash_len}
 use Rattle.requester_machine.specs.Setup.{ReqSetup, requester_caps}

@@ -7,8 +7,8 @@ use Rattle.negotiate.specs.declared.shared.Common.{Common}
 use Rattle.spdm_grammar.specs.Message.{RequestMessage}
 use Rattle.spdm_grammar.specs.Message.RequestMessage.{GetVersion, GetMeasurements}
 use Rattle.spdm_grammar.specs.Requests.{canonical_request}
-use Rattle.spdm_grammar.specs.declared.phase.Phase.{Phase}
-use Rattle.spdm_grammar.specs.declared.phase.Phase.TheVariants.{Fresh, Versioned, Capable, Negotiated}
+use Rattle.spdm_grammar.specs.declared.told.phase.Phase.{Phase}
+use Rattle.spdm_grammar.specs.declared.told.phase.Phase.TheVariants.{Fresh, Versioned, Capable, Negotiated}
 use Rattle.spdm_machine.specs.Keys.{Draw}
 use Rattle.spdm_machine.specs.Terms.{terms_of}
 use Rattle.transcript.specs.Transcripts.{Negotiation}

@@ -3,11 +3,11 @@ use Rattle.std.proofs.Common.{refl, ◌≡◌, ℕ, List, [], ◌∷◌, true, f
 use Rattle.std.specs.Prelude.{⊤, ◌==◌, nat_lt, length, if◌then◌else◌, Result, Ok, Err, is_some, drop}
 use Rattle.std.proofs.lemmas.Bool.{false≢true}
 use Rattle.negotiate.specs.declared.shared.Common.{Common}
-use Rattle.spdm_basis.specs.declared.record_fault.RecordFault.{RecordFault}
+use Rattle.spdm_basis.specs.declared.causes.record_fault.RecordFault.{RecordFault}
 use Rattle.spdm_grammar.specs.Message.{RequestMessage}
 use Rattle.spdm_grammar.specs.Message.RequestMessage.{GetMeasurements}
 use Rattle.spdm_grammar.specs.Requests.{canonical_request}
-use Rattle.spdm_grammar.specs.declared.event.ReqIgnored.{ReqIgnored}
+use Rattle.spdm_grammar.specs.declared.told.event.ReqIgnored.{ReqIgnored}
 use Rattle.spdm_machine.specs.Keys.{Draw}
 use Rattle.spdm_machine.specs.Bodies.{clear_body, record_body}
 use Rattle.requester_machine.specs.Setup.{ReqSetup}

@@ -5,10 +5,10 @@ use Rattle.std.proofs.lemmas.Bool.{false≢true}
 use Rattle.chunking.specs.Collecting.{joined_with}
 use Rattle.spdm_grammar.specs.Message.{ResponseMessage, ChunkMessage}
 use Rattle.spdm_grammar.specs.Message.ResponseMessage.{Measurements, PskFinishRsp, HeartbeatAck, KeyUpdateAck, EndSessionAck, ChunkResponse, Error}
-use Rattle.spdm_grammar.specs.declared.event.BadReply.{BadReply}
-use Rattle.spdm_grammar.specs.declared.malformed.Malformed.{Malformed}
-use Rattle.spdm_grammar.specs.declared.part_faults.ChunkFault.{ChunkFault}
-use Rattle.spdm_grammar.specs.declared.phase.Stage.TheVariants as stage
+use Rattle.spdm_grammar.specs.declared.told.event.BadReply.{BadReply}
+use Rattle.spdm_grammar.specs.declared.messages.malformed.Malformed.{Malformed}
+use Rattle.spdm_grammar.specs.declared.messages.part_faults.ChunkFault.{ChunkFault}
+use Rattle.spdm_grammar.specs.declared.told.phase.Stage.TheVariants as stage
 use Rattle.requester_machine.specs.Setup.{ReqSetup}
 use Rattle.requester_machine.specs.Answers.{is_refused}
 use Rattle.requester_machine.specs.ClearAnswers.{get_fault}

@@ -9,7 +9,7 @@ use Rattle.spdm_grammar.specs.Message.{ResponseMessage, MeasuredMessage}
 use Rattle.spdm_grammar.specs.Message.ResponseMessage.{Capabilities, ChunkSendAck, Measurements, Error}
 use Rattle.spdm_grammar.specs.Reading.{front}
 use Rattle.spdm_grammar.specs.Responses.{IsResponseSpelling, response_reading, response_layout, response_body, psk_exchange_rsp_layout, version_layout, error_layout, capabilities_layout, algorithms_layout, measurements_layout, psk_finish_rsp_layout, heartbeat_ack_layout, key_update_ack_layout, end_session_ack_layout, chunk_send_ack_layout, chunk_response_layout}
-use Rattle.spdm_grammar.specs.declared.capabilities.Caps.{Caps}
+use Rattle.spdm_grammar.specs.declared.messages.capabilities.Caps.{Caps}
 use Rattle.spdm_grammar.specs.declared.names.error_number.TheConstants.{RESPONSE_TOO_LARGE, LARGE_RESPONSE}
 use Rattle.spdm_grammar.specs.declared.names.response_code.TheConstants.{PSK_EXCHANGE_RSP}
 use Rattle.spdm_grammar.proofs.Spellings.{read_spelling, spelling_read}

@@ -4,8 +4,8 @@ use Rattle.std.specs.Prelude.{◌==◌, if◌then◌else◌, bytes_eq}
 use Rattle.std.proofs.lemmas.Bool.{false≢true}
 use Rattle.key_schedule.specs.Purpose.{Purpose, application_record}
 use Rattle.key_schedule.specs.declared.direction.Direction.TheVariants.{Response}
-use Rattle.spdm_grammar.specs.declared.phase.Stage.{Stage}
-use Rattle.spdm_grammar.specs.declared.phase.Stage.TheVariants as stage
+use Rattle.spdm_grammar.specs.declared.told.phase.Stage.{Stage}
+use Rattle.spdm_grammar.specs.declared.told.phase.Stage.TheVariants as stage
 use Rattle.spdm_machine.specs.Sessions.{purpose_in}
 use Rattle.spdm_machine.specs.Sessions.{is_past_handshake}
 use Rattle.requester_machine.specs.History.{Effect}

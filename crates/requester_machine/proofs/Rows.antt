@@ -4,10 +4,10 @@ use Rattle.std.specs.Prelude.{replicate, option_map}
 use Rattle.spdm_grammar.specs.Reading.{field_at, number_at, optional_at, tables_at, behind_tables, behind_table}
 use Rattle.spdm_grammar.specs.Requests.{request_body, get_capabilities_layout, negotiate_algorithms_layout}
 use Rattle.spdm_grammar.specs.Responses.{response_body, version_layout, capabilities_layout, algorithms_layout, chunk_send_ack_layout, chunk_response_layout, error_layout}
-use Rattle.spdm_grammar.specs.declared.choice.Pick.TheVariants.{Small}
-use Rattle.spdm_grammar.specs.declared.event.Event.TheVariants as event
-use Rattle.spdm_grammar.specs.declared.event.Finished.TheVariants as finished
-use Rattle.spdm_grammar.specs.declared.phase.Phase.TheVariants.{Negotiated}
+use Rattle.spdm_grammar.specs.declared.messages.choice.Pick.TheVariants.{Small}
+use Rattle.spdm_grammar.specs.declared.told.event.Event.TheVariants as event
+use Rattle.spdm_grammar.specs.declared.told.event.Finished.TheVariants as finished
+use Rattle.spdm_grammar.specs.declared.told.phase.Phase.TheVariants.{Negotiated}
 use Rattle.spdm_machine.specs.Keys.{Draw}
 use Rattle.spdm_machine.specs.Bodies.{clear_body}
 use Rattle.requester_machine.specs.Setup.{ReqSetup}

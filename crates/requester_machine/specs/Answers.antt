@@ -10,15 +10,15 @@ use Rattle.spdm_grammar.specs.Message.{RequestMessage, ResponseMessage, OfferMes
 use Rattle.spdm_grammar.specs.Message.RequestMessage.{GetVersion, GetCapabilities, NegotiateAlgorithms, GetMeasurements, PskExchange}
 use Rattle.spdm_grammar.specs.Message.ResponseMessage.{Version, Capabilities, Algorithms, Measurements, PskExchangeRsp, Error}
 use Rattle.spdm_grammar.specs.Requests.{canonical_request}
-use Rattle.spdm_grammar.specs.declared.choice.Choice.{Choice}
-use Rattle.spdm_grammar.specs.declared.event.Event.TheVariants as event
-use Rattle.spdm_grammar.specs.declared.event.Finished.{Finished}
-use Rattle.spdm_grammar.specs.declared.event.Finished.TheVariants as finished
-use Rattle.spdm_grammar.specs.declared.event.ReqIgnored.{ReqIgnored}
-use Rattle.spdm_grammar.specs.declared.event.ReqIgnored.TheVariants as ignored
-use Rattle.spdm_grammar.specs.declared.event.Stop.{Stop}
-use Rattle.spdm_grammar.specs.declared.event.Stop.TheVariants as stop
-use Rattle.spdm_grammar.specs.declared.part_faults.CapsFault.{CapsFault}
+use Rattle.spdm_grammar.specs.declared.messages.choice.Choice.{Choice}
+use Rattle.spdm_grammar.specs.declared.told.event.Event.TheVariants as event
+use Rattle.spdm_grammar.specs.declared.told.event.Finished.{Finished}
+use Rattle.spdm_grammar.specs.declared.told.event.Finished.TheVariants as finished
+use Rattle.spdm_grammar.specs.declared.told.event.ReqIgnored.{ReqIgnored}
+use Rattle.spdm_grammar.specs.declared.told.event.ReqIgnored.TheVariants as ignored
+use Rattle.spdm_grammar.specs.declared.told.event.Stop.{Stop}
+use Rattle.spdm_grammar.specs.declared.told.event.Stop.TheVariants as stop
+use Rattle.spdm_grammar.specs.declared.messages.part_faults.CapsFault.{CapsFault}
 use Rattle.spdm_machine.specs.Keys.{verify_data}
 use Rattle.requester_machine.specs.Setup.{ReqSetup, requester_caps}
 use Rattle.requester_machine.specs.Commands.{Free}

@@ -6,7 +6,7 @@ use Rattle.requester_machine.specs.Message.{Sent}
 use Rattle.requester_machine.specs.Session.{is_live, session_negotiation, session_of}
 use Rattle.requester_machine.specs.Setup.{ReqSetup}
 use Rattle.requester_machine.specs.UnderWay.{HasSizes, IsCommon, IsOutstanding, is_capable}
-use Rattle.spdm_grammar.specs.declared.phase.Phase.TheVariants.{Negotiated}
+use Rattle.spdm_grammar.specs.declared.told.phase.Phase.TheVariants.{Negotiated}
 
 -- A message that is outstanding is as one is that the history made.
 abbrev pub Waits : ReqSetup → History → Option Sent → Type 0

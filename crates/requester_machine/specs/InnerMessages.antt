@@ -6,12 +6,12 @@ use Rattle.chunking.specs.Collecting.{joined_with}
 use Rattle.spdm_grammar.specs.Message.{ResponseMessage, ChunkMessage}
 use Rattle.spdm_grammar.specs.Message.ResponseMessage.{Measurements, PskFinishRsp, HeartbeatAck, KeyUpdateAck, EndSessionAck, ChunkResponse, Error}
 use Rattle.spdm_grammar.specs.Responses.{response_reading}
-use Rattle.spdm_grammar.specs.declared.event.BadReply.{BadReply}
-use Rattle.spdm_grammar.specs.declared.event.BadReply.TheVariants as bad
-use Rattle.spdm_grammar.specs.declared.event.Event.TheVariants as event
-use Rattle.spdm_grammar.specs.declared.event.Finished.TheVariants as finished
-use Rattle.spdm_grammar.specs.declared.malformed.Malformed.{Malformed}
-use Rattle.spdm_grammar.specs.declared.part_faults.ChunkFault.{ChunkFault}
+use Rattle.spdm_grammar.specs.declared.told.event.BadReply.{BadReply}
+use Rattle.spdm_grammar.specs.declared.told.event.BadReply.TheVariants as bad
+use Rattle.spdm_grammar.specs.declared.told.event.Event.TheVariants as event
+use Rattle.spdm_grammar.specs.declared.told.event.Finished.TheVariants as finished
+use Rattle.spdm_grammar.specs.declared.messages.malformed.Malformed.{Malformed}
+use Rattle.spdm_grammar.specs.declared.messages.part_faults.ChunkFault.{ChunkFault}
 use Rattle.requester_machine.specs.Setup.{ReqSetup}
 use Rattle.spdm_machine.specs.Terms.{hash_len}
 use Rattle.requester_machine.specs.Answers.{goes_on, is_done, is_refused, measured_led}

@@ -2,10 +2,10 @@
 use Rattle.std.specs.Prelude.{⊤, ◌≡◌, ◌≤◌, ◌+◌, ◌==◌, ◌&&◌, ℕ, List, [], ◌∷◌, drop, length, if◌then◌else◌, Bool, true, false, Some, bytes_eq}
 use Rattle.key_schedule.specs.Purpose.{Purpose, Kind}
 use Rattle.key_schedule.specs.Purpose.Kind.{Verify, HandshakeRecord, ApplicationRecord}
-use Rattle.spdm_basis.specs.declared.record_fault.RecordFault.{RecordFault}
+use Rattle.spdm_basis.specs.declared.causes.record_fault.RecordFault.{RecordFault}
 use Rattle.spdm_grammar.specs.Requests.{canonical_request}
-use Rattle.spdm_grammar.specs.declared.command_fault.CommandFault.{CommandFault}
-use Rattle.spdm_grammar.specs.declared.event.ReqIgnored.{ReqIgnored}
+use Rattle.spdm_grammar.specs.declared.told.command_fault.CommandFault.{CommandFault}
+use Rattle.spdm_grammar.specs.declared.told.event.ReqIgnored.{ReqIgnored}
 use Rattle.spdm_machine.specs.Keys.{Draw}
 use Rattle.requester_machine.specs.Setup.{ReqSetup}
 use Rattle.spdm_machine.specs.TagLog.{Act}

@@ -3,7 +3,7 @@
 use Rattle.std.specs.Prelude.{◌+◌, ℕ, List, Option, Bool, false, if◌then◌else◌}
 use Rattle.key_schedule.specs.Purpose.{Purpose}
 use Rattle.key_schedule.specs.declared.direction.Direction.TheVariants.{Request, Response}
-use Rattle.spdm_basis.specs.declared.record_fault.RecordFault.{RecordFault}
+use Rattle.spdm_basis.specs.declared.causes.record_fault.RecordFault.{RecordFault}
 use Rattle.spdm_machine.specs.Keys.{record_fault, inner_message, sealed_of}
 use Rattle.spdm_machine.specs.Sessions.{purpose_in}
 use Rattle.requester_machine.specs.Message.{Ask}

@@ -10,10 +10,10 @@ use Rattle.requester_machine.specs.Message.{Command, Sent, body_of}
 use Rattle.requester_machine.specs.RequesterLog.{acts_of}
 use Rattle.requester_machine.specs.Shown.{after, sent_by, event_of, fault_of, data_of, record_of}
 use Rattle.spdm_basis.specs.declared.PacketFault.{PacketFault}
-use Rattle.spdm_grammar.specs.declared.command_fault.CommandFault.{CommandFault}
-use Rattle.spdm_grammar.specs.declared.event.Event.{Event}
-use Rattle.spdm_grammar.specs.declared.event.Event.TheVariants as event
-use Rattle.spdm_grammar.specs.declared.event.ReqIgnored.TheVariants as ignored
+use Rattle.spdm_grammar.specs.declared.told.command_fault.CommandFault.{CommandFault}
+use Rattle.spdm_grammar.specs.declared.told.event.Event.{Event}
+use Rattle.spdm_grammar.specs.declared.told.event.Event.TheVariants as event
+use Rattle.spdm_grammar.specs.declared.told.event.ReqIgnored.TheVariants as ignored
 use Rattle.spdm_machine.specs.Keys.{Draw, draw_of}
 use Rattle.requester_machine.specs.Setup.{ReqSetup, ReqEnd}
 use Rattle.spdm_machine.specs.TagLog.{Act}

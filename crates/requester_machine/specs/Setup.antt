@@ -1,8 +1,8 @@
 -- How a requester is set up, and which capabilities it announces.
 use Rattle.std.specs.Prelude.{◌+◌, ℕ, List}
-use Rattle.spdm_grammar.specs.declared.capabilities.Caps.{Caps}
-use Rattle.spdm_grammar.specs.declared.choice.FlagSet.{FlagSet}
-use Rattle.spdm_grammar.specs.declared.choice.Suites.{Suites}
+use Rattle.spdm_grammar.specs.declared.messages.capabilities.Caps.{Caps}
+use Rattle.spdm_grammar.specs.declared.messages.choice.FlagSet.{FlagSet}
+use Rattle.spdm_grammar.specs.declared.messages.choice.Suites.{Suites}
 use Rattle.spdm_grammar.specs.declared.names.capability.TheConstants.{PSK_CAP}
 use Rattle.spdm_machine.specs.Setup.{protection_flags, optional_flags}
 

@@ -5,10 +5,10 @@ use Rattle.std.specs.Option.{option_or}
 use Rattle.spdm_grammar.specs.Message.{ResponseMessage}
 use Rattle.spdm_grammar.specs.Message.RequestMessage.{GetMeasurements}
 use Rattle.spdm_grammar.specs.Message.ResponseMessage.{Measurements}
-use Rattle.spdm_grammar.specs.declared.command_fault.CommandFault.{CommandFault}
-use Rattle.spdm_grammar.specs.declared.event.Event.{Event}
-use Rattle.spdm_grammar.specs.declared.event.Event.TheVariants as event
-use Rattle.spdm_grammar.specs.declared.session_view.SessionView.{SessionView}
+use Rattle.spdm_grammar.specs.declared.told.command_fault.CommandFault.{CommandFault}
+use Rattle.spdm_grammar.specs.declared.told.event.Event.{Event}
+use Rattle.spdm_grammar.specs.declared.told.event.Event.TheVariants as event
+use Rattle.spdm_grammar.specs.declared.told.session_view.SessionView.{SessionView}
 use Rattle.spdm_machine.specs.Sessions.{transcript_in}
 use Rattle.spdm_machine.specs.Terms.{response_value}
 use Rattle.requester_machine.specs.Asking.{Outcome}

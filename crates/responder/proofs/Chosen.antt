@@ -1,7 +1,7 @@
 -- The values that are handed to a connection are those that the responder chooses.
 use Rattle.std.proofs.Common.{◌≡◌, ℕ, List, [], sym}
-use Rattle.connection.specs.Free.{IsFree}
-use Rattle.connection.specs.declared.free_values.FreeValues.{FreeValues}
+use Rattle.responder_core.specs.Free.{IsFree}
+use Rattle.responder_core.specs.declared.free_values.FreeValues.{FreeValues}
 use Rattle.responder_machine.specs.Does.{chosen, clear_chosen, first_queued, record_chosen}
 use Rattle.responder_machine.specs.History.{History, clear_turns, negotiation_of, queue_of}
 use Rattle.responder_machine.specs.LargeMessages.{next_handle}

@@ -3,8 +3,8 @@ use Rattle.std.proofs.Common.{refl, ◌∙◌, ◌≡◌, ◌≤◌, ℕ, List, 
 use Rattle.std.proofs.lemmas.Bool.{false≢true, ltb-false}
 use Rattle.std.proofs.lemmas.List.{length-drop}
 use Rattle.std.specs.Prelude.{◌==◌, ◌&&◌, ◌||◌, nat_lt, not, if◌then◌else◌, slice_index}
-use Rattle.connection.proofs.Outcomes.{by_clear, by_record}
-use Rattle.connection.proofs.Whole.{no_data}
+use Rattle.responder_core.proofs.Outcomes.{by_clear, by_record}
+use Rattle.responder_core.proofs.Whole.{no_data}
 use Rattle.responder.specs.Came.{IsShort, data_or, last_for}
 use Rattle.responder_machine.proofs.Entries.{session_of-Sealed}
 use Rattle.responder_machine.proofs.Opened.{taken_record_opened}
@@ -26,13 +26,13 @@ use Rattle.responder_machine.specs.Session.Event.{Heard}
 use Rattle.responder_machine.specs.Turn.{Effect, Turn, code_in, is_data}
 use Rattle.responder_machine.specs.Turn.Effect.{NoEffect, Took, TookData}
 use Rattle.responder_session.specs.Data as sessions
-use Rattle.spdm_basis.specs.declared.session_id.SessionId.{SessionId}
+use Rattle.spdm_basis.specs.declared.values.session_id.SessionId.{SessionId}
 use Rattle.spdm_grammar.specs.Message.{ChunkMessage}
-use Rattle.spdm_grammar.specs.declared.error_code.ErrorCode.{ErrorCode}
-use Rattle.spdm_grammar.specs.declared.error_code.ErrorCode.TheVariants.{InvalidRequest, RequestTooLarge, UnexpectedRequest}
-use Rattle.spdm_grammar.specs.declared.heard.Heard.TheVariants as heard
+use Rattle.spdm_grammar.specs.declared.messages.error_code.ErrorCode.{ErrorCode}
+use Rattle.spdm_grammar.specs.declared.messages.error_code.ErrorCode.TheVariants.{InvalidRequest, RequestTooLarge, UnexpectedRequest}
+use Rattle.spdm_grammar.specs.declared.told.heard.Heard.TheVariants as heard
 use Rattle.spdm_grammar.specs.declared.names.request_code.TheConstants.{END_SESSION}
-use Rattle.spdm_grammar.specs.declared.phase.Stage.{Stage}
+use Rattle.spdm_grammar.specs.declared.told.phase.Stage.{Stage}
 use Rattle.spdm_machine.specs.Keys.{Draw}
 use Rattle.spdm_basis.proofs.Bools.{and_rest}
 

@@ -1,8 +1,8 @@
 -- A packet whose request is refused is harmless, and one of which nothing is taken changes no connection.
 use Rattle.std.proofs.Common.{refl, ◌≡◌, ◌∙◌, ℕ, List, [], ◌∷◌, drop, Bool, true, false, cond, not, Option, Some, None, ap, sym, subst}
 use Rattle.std.specs.Prelude.{◌==◌, ◌||◌, slice_index}
-use Rattle.connection.proofs.Harmless.{clear_harmless, record_harmless}
-use Rattle.connection.proofs.Outcomes.{by_clear, by_record}
+use Rattle.responder_core.proofs.Harmless.{clear_harmless, record_harmless}
+use Rattle.responder_core.proofs.Outcomes.{by_clear, by_record}
 use Rattle.mctp_framing.specs.Gathering.{Gathered}
 use Rattle.mctp_framing.specs.Gathering.Gathered.{Dropped, More, Whole}
 use Rattle.mctp_framing.specs.Packet.{PacketFields, fields_of, packet_fault, fault_or, parsed}
@@ -13,8 +13,8 @@ use Rattle.responder_machine.specs.EndLaws.{source_of}
 use Rattle.responder_machine.specs.Heard.{heard_in, heard_of, no_id, record_id}
 use Rattle.responder_machine.specs.Refusal.{code_of}
 use Rattle.responder_machine.specs.Turn.{Turn, is_data}
-use Rattle.spdm_basis.specs.declared.session_id.SessionId.{SessionId}
-use Rattle.spdm_grammar.specs.declared.error_code.ErrorCode.{ErrorCode}
+use Rattle.spdm_basis.specs.declared.values.session_id.SessionId.{SessionId}
+use Rattle.spdm_grammar.specs.declared.messages.error_code.ErrorCode.{ErrorCode}
 use Rattle.std.proofs.lemmas.Bool.{true≢false}
 use Rattle.responder_machine.specs.History.{History, kept_of}
 use Rattle.responder_machine.specs.Place.{clear_place}
@@ -28,9 +28,9 @@ use Rattle.responder_machine.specs.Session.{Events, session_of}
 use Rattle.responder_machine.specs.Setup.{RspSetup}
 use Rattle.spdm_basis.specs.declared.DropCause.TheVariants.{NotOurs}
 use Rattle.spdm_basis.specs.declared.PacketFault.{PacketFault}
-use Rattle.spdm_grammar.specs.declared.heard.Heard.{Heard}
-use Rattle.spdm_grammar.specs.declared.heard.Heard.TheVariants as heard
-use Rattle.spdm_grammar.specs.declared.heard.RspIgnored.TheVariants as ignored
+use Rattle.spdm_grammar.specs.declared.told.heard.Heard.{Heard}
+use Rattle.spdm_grammar.specs.declared.told.heard.Heard.TheVariants as heard
+use Rattle.spdm_grammar.specs.declared.told.heard.RspIgnored.TheVariants as ignored
 use Rattle.spdm_machine.specs.Bodies.{clear_body, record_body}
 use Rattle.spdm_machine.specs.Keys.{Draw}
 use Rattle.spdm_machine.specs.Packets.{body_type, gathered_from}

@@ -6,8 +6,8 @@ use Rattle.responder.specs.Came.{came_whole}
 use Rattle.responder.specs.Came.Came.{Does, Told}
 use Rattle.responder_machine.specs.Does.{responder_does}
 use Rattle.responder_machine.specs.Responding.{Connection}
-use Rattle.spdm_grammar.specs.declared.heard.Heard.TheVariants as heard
-use Rattle.spdm_grammar.specs.declared.heard.RspIgnored.TheVariants as ignored
+use Rattle.spdm_grammar.specs.declared.told.heard.Heard.TheVariants as heard
+use Rattle.spdm_grammar.specs.declared.told.heard.RspIgnored.TheVariants as ignored
 use Rattle.spdm_machine.specs.Keys.{Draw}
 use Rattle.spdm_machine.specs.Packets.{body_type}
 

@@ -1,7 +1,7 @@
 -- What a responder keeps over every step.
 use Rattle.std.proofs.Common.{◌≡◌, ◌≢◌, ◌≤◌, ◌<◌, ◌∙◌, ◌+◌, ◌-◌, ◌^◌, ℕ, List, [], ◌∷◌, map, ap, sym, subst, inl, inr, arith, lit<}
 use Rattle.std.specs.List.{AllByRecursion}
-use Rattle.connection.specs.ClearPart.{is_drawn}
+use Rattle.responder_core.specs.ClearPart.{is_drawn}
 use Rattle.responder.specs.Came.{Came, draws_in, history_after}
 use Rattle.responder.specs.Came.Came.{Does, Told}
 use Rattle.responder.specs.Standing.{AreApart, IsReached, last_first}

@@ -27,10 +27,10 @@ use Rattle.responder_machine.specs.Responding.{Connection, Responding, RspStep, 
 use Rattle.responder_machine.specs.Setup.{RspSetup}
 use Rattle.spdm_basis.specs.declared.DropCause.TheVariants.{NotOurs}
 use Rattle.spdm_basis.specs.declared.PacketFault.{PacketFault}
-use Rattle.spdm_basis.specs.declared.session_id.SessionId.{SessionId}
-use Rattle.spdm_grammar.specs.declared.heard.Heard.{Heard}
-use Rattle.spdm_grammar.specs.declared.heard.Heard.TheVariants as heard
-use Rattle.spdm_grammar.specs.declared.heard.RspIgnored.TheVariants as ignored
+use Rattle.spdm_basis.specs.declared.values.session_id.SessionId.{SessionId}
+use Rattle.spdm_grammar.specs.declared.told.heard.Heard.{Heard}
+use Rattle.spdm_grammar.specs.declared.told.heard.Heard.TheVariants as heard
+use Rattle.spdm_grammar.specs.declared.told.heard.RspIgnored.TheVariants as ignored
 use Rattle.spdm_machine.proofs.Members.{IsIn, found_in}
 use Rattle.spdm_machine.specs.Keys.{Draw, draw_of}
 use Rattle.spdm_machine.specs.Packets.{body_type, fields_in, fields_with, gathered_from}

@@ -1,8 +1,8 @@
 -- A packet of a requester, where its bodies are gathered.
 use Rattle.std.proofs.Common.{refl, ◌≡◌, ◌∙◌, ℕ, List, [], ◌∷◌, Bool, true, false, cond, not, Option, Some, None, ap, sym, arith, eqb-true, filter}
 use Rattle.std.specs.Prelude.{◌==◌}
-use Rattle.connection.specs.Connected as connected
-use Rattle.connection.specs.declared.connected.Connection as kept
+use Rattle.responder_core.specs.Connected as connected
+use Rattle.responder_core.specs.declared.connected.Connection as kept
 use Rattle.mctp_framing.specs.Gathering.{Gathered, Receiver, answer_from, answer_of, belongs_to, broken_rule, gathered, group_of, is_ours, joined}
 use Rattle.mctp_framing.specs.Gathering.Gathered.{Dropped, More, Whole}
 use Rattle.mctp_framing.specs.Packet.{PacketFields}
@@ -18,7 +18,7 @@ use Rattle.responder_machine.specs.Setup.{RspPart}
 use Rattle.spdm_basis.proofs.Bools.{and_first, and_second}
 use Rattle.spdm_basis.specs.declared.DropCause.{DropCause}
 use Rattle.spdm_basis.specs.declared.DropCause.TheVariants.{NoStart, NotOurs}
-use Rattle.spdm_grammar.specs.declared.heard.Heard.{Heard}
+use Rattle.spdm_grammar.specs.declared.told.heard.Heard.{Heard}
 
 -- A whole body goes from the peer to the own end point.
 abbrev pub EndsAt : Receiver → Gathered → Type 0

@@ -23,8 +23,8 @@ use Rattle.responder_machine.specs.Setup.{RspPart}
 use Rattle.responder_session.specs.Queue.{queue_fault}
 use Rattle.responder_session.specs.declared.queue.QueueFault.{QueueFault}
 use Rattle.responder_session.specs.declared.queue.QueueFault.TheVariants as queue
-use Rattle.spdm_grammar.specs.declared.heard.ReplyFault.{ReplyFault}
-use Rattle.spdm_grammar.specs.declared.heard.ReplyFault.TheVariants as reply
+use Rattle.spdm_grammar.specs.declared.told.heard.ReplyFault.{ReplyFault}
+use Rattle.spdm_grammar.specs.declared.told.heard.ReplyFault.TheVariants as reply
 use Rattle.spdm_machine.proofs.Members.{found_in}
 use Rattle.spdm_machine.specs.Packets.{fields_in}
 use Rattle.responder_machine.proofs.Runs.{ticked_draws}

@@ -1,8 +1,8 @@
 -- What a packet leads to at one connection.
 use Rattle.std.specs.Prelude.{◌≡◌, ◌==◌, ◌||◌, ◌+◌, ◌≤◌, length, not, false, ℕ, List, [], if◌then◌else◌, Option, Some, None}
-use Rattle.connection.specs.ClearPart.{is_drawn}
-use Rattle.connection.specs.Connected as connected
-use Rattle.connection.specs.declared.connected.Connection as kept
+use Rattle.responder_core.specs.ClearPart.{is_drawn}
+use Rattle.responder_core.specs.Connected as connected
+use Rattle.responder_core.specs.declared.connected.Connection as kept
 use Rattle.mctp_framing.specs.Cutting.{RouteFields}
 use Rattle.mctp_framing.specs.Gathering.{Gathered}
 use Rattle.mctp_framing.specs.Gathering.Gathered.{Whole, More, Dropped}
@@ -14,10 +14,10 @@ use Rattle.responder_machine.specs.Responder.{Outcome, after, body_of}
 use Rattle.responder_machine.specs.Responding.{Connection, Responding, RspStep, answers, data_of, ignores}
 use Rattle.responder_machine.specs.Session.{session_of}
 use Rattle.responder_session.specs.Data as sessions
-use Rattle.spdm_basis.specs.declared.session_id.SessionId.{SessionId}
-use Rattle.spdm_grammar.specs.declared.heard.Heard.{Heard}
-use Rattle.spdm_grammar.specs.declared.heard.Heard.TheVariants as heard
-use Rattle.spdm_grammar.specs.declared.heard.RspIgnored.TheVariants as ignored
+use Rattle.spdm_basis.specs.declared.values.session_id.SessionId.{SessionId}
+use Rattle.spdm_grammar.specs.declared.told.heard.Heard.{Heard}
+use Rattle.spdm_grammar.specs.declared.told.heard.Heard.TheVariants as heard
+use Rattle.spdm_grammar.specs.declared.told.heard.RspIgnored.TheVariants as ignored
 use Rattle.spdm_machine.specs.Keys.{Draw}
 use Rattle.spdm_machine.specs.Packets.{body_type, packets_to}
 use Rattle.session_keys.specs.Drawing.{drawn_by}

@@ -1,6 +1,6 @@
 -- What the program keeps of a requester.
 use Rattle.std.specs.Prelude.{◌≡◌, ◌∷◌, ℕ, List, Some, None}
-use Rattle.connection.specs.Connected as connected
+use Rattle.responder_core.specs.Connected as connected
 use Rattle.mctp_framing.specs.Assembling as assembling
 use Rattle.mctp_framing.specs.Gathering.{Gathered, gathered}
 use Rattle.mctp_framing.specs.Packet.{PacketFields}
@@ -12,8 +12,8 @@ use Rattle.responder_machine.specs.EndLaws.{receiver_of}
 use Rattle.responder_machine.specs.History.Entry.{Queued}
 use Rattle.responder_machine.specs.Responding.{Connection, changed, reply_fault_of}
 use Rattle.responder_machine.specs.Setup.{RspPart, towards}
-use Rattle.spdm_grammar.specs.declared.heard.Heard.{Heard}
-use Rattle.spdm_grammar.specs.declared.heard.ReplyFault.{ReplyFault}
+use Rattle.spdm_grammar.specs.declared.told.heard.Heard.{Heard}
+use Rattle.spdm_grammar.specs.declared.told.heard.ReplyFault.{ReplyFault}
 use Rattle.spdm_machine.specs.Keys.{draw_of}
 
 -- It is kept of this connection, at a responder with this set-up that was given these packets, the newest first.

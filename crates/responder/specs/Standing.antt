@@ -1,7 +1,7 @@
 -- The whole responder, as the program keeps it.
 use Rattle.std.specs.Prelude.{◌≡◌, ◌≢◌, ◌≤◌, ◌+◌, ◌-◌, ◌*◌, ◌^◌, ◌==◌, Bool, ℕ, List, [], ◌∷◌, length, Option, Some, None}
 use Rattle.std.specs.List.{AllByRecursion}
-use Rattle.connection.specs.Sessions.{IsViewOf}
+use Rattle.responder_core.specs.Sessions.{IsViewOf}
 use Rattle.mctp_framing.specs.Packet.{PacketFields}
 use Rattle.responder.specs.Peers as peers
 use Rattle.responder.specs.SetUp.{IsPart}
@@ -11,8 +11,8 @@ use Rattle.responder_machine.specs.Independence.{AreKnownApart, Given, run_of}
 use Rattle.responder_machine.specs.Responding.{Connection, Responding, RspStep, all_draws, last_data}
 use Rattle.responder_machine.specs.Session.{session_of}
 use Rattle.responder_machine.specs.Setup.{RspEnd, RspPart}
-use Rattle.spdm_grammar.specs.declared.heard.Heard.{Heard}
-use Rattle.spdm_grammar.specs.declared.session_view.SessionView.{SessionView}
+use Rattle.spdm_grammar.specs.declared.told.heard.Heard.{Heard}
+use Rattle.spdm_grammar.specs.declared.told.session_view.SessionView.{SessionView}
 use Rattle.spdm_machine.specs.Packets.{fields_in}
 use Rattle.responder_machine.specs.Heard.{views_of}
 

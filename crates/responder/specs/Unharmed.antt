@@ -7,9 +7,9 @@ use Rattle.responder_machine.specs.Responding.{Connection, Responding, connectio
 use Rattle.responder_machine.specs.SameSession.{IsSameConnection, IsSameSession}
 use Rattle.responder_machine.specs.Session.{session_of}
 use Rattle.spdm_grammar.specs.ErrorNumber.{error_number}
-use Rattle.spdm_grammar.specs.declared.error_code.ErrorCode.{ErrorCode}
-use Rattle.spdm_grammar.specs.declared.heard.Heard.{Heard}
-use Rattle.spdm_grammar.specs.declared.heard.Heard.TheVariants as heard
+use Rattle.spdm_grammar.specs.declared.messages.error_code.ErrorCode.{ErrorCode}
+use Rattle.spdm_grammar.specs.declared.told.heard.Heard.{Heard}
+use Rattle.spdm_grammar.specs.declared.told.heard.Heard.TheVariants as heard
 
 -- An outcome that is told as refused with this code: each session is what it was but for the numbers, the kept reply and
 -- the clock of the one that a record names, and so is the rest of the connection.

@@ -1,5 +1,5 @@
 ghost use Rattle.std.specs.Prelude.{◌≡◌, ◌≤◌, ◌∷◌, length};
-ghost use Rattle.connection.specs.Sessions.{body_by};
+ghost use Rattle.responder_core.specs.Sessions.{body_by};
 
 use spdm_basis::Buffer;
 use spdm_grammar::Heard;

@@ -1,7 +1,7 @@
 ghost use Rattle.std.specs.Prelude.{◌≡◌, ◌≤◌, ◌<◌, ◌^◌, ◌-◌, ℕ, length};
-ghost use Rattle.connection.specs.ClearPart.{is_drawn};
-ghost use Rattle.connection.specs.Connected.{IsDone, StandsFor};
-ghost use Rattle.connection.specs.Setup.{IsSetUp};
+ghost use Rattle.responder_core.specs.ClearPart.{is_drawn};
+ghost use Rattle.responder_core.specs.Connected.{IsDone, StandsFor};
+ghost use Rattle.responder_core.specs.Setup.{IsSetUp};
 ghost use Rattle.session_keys.specs.Drawing.{draw_as};
 ghost use Rattle.responder_machine.specs.BoundLaws.{messages_of};
 ghost use Rattle.responder_machine.specs.Does.{IsMade, clear_does, first_queued, record_does};
@@ -10,7 +10,7 @@ ghost use Rattle.responder_machine.specs.Setup.{RspSetup};
 
 use crate::body::{SPDM, write_body, write_reply};
 use crate::room::Room;
-use connection::{Connection, FreeValues, Setup, record_id};
+use responder_core::{Connection, FreeValues, Setup, record_id};
 use hmac_hkdf::Drawn;
 use responder_session::RecordFree;
 use session_keys::context_of;

@@ -1,7 +1,7 @@
 ghost use Rattle.std.specs.Prelude.{◌≤◌, length};
 
 use crate::{Known, RspConfig, RspConfigFault};
-use connection::Setup;
+use responder_core::Setup;
 use measurements::Inventory;
 use spdm_basis::{Bytes, Eid};
 use spdm_grammar::{FlagSet, Suites};
@@ -26,7 +26,7 @@ pub struct Part {
 
 impl Part {
     ghost use Rattle.std.specs.Prelude.{◌≡◌, ◌≤◌, None, IfErr, IfOk, OnOk, length};
-    ghost use Rattle.connection.specs.Setup.{IsSetUp};
+    ghost use Rattle.responder_core.specs.Setup.{IsSetUp};
     ghost use Rattle.responder.specs.Config.{IsCause, config_fault};
     ghost use Rattle.responder.specs.SetUp.{IsPart, known_of, part_of};
     ghost use Rattle.responder_machine.specs.Setup.{RspPart, towards};

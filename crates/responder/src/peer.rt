@@ -13,7 +13,7 @@ use crate::Known;
 use crate::part::Part;
 use crate::shared::Shared;
 use crate::whole::hear_whole;
-use connection::Connection;
+use responder_core::Connection;
 use mctp_framing::{Assembler, Fed, PacketList, PacketView};
 use responder_session::QueueFault;
 use spdm_basis::{Bytes, OutOfMemory, Psk};

@@ -1,12 +1,12 @@
 ghost use Rattle.std.specs.Prelude.{◌≡◌, ◌<◌, ◌+◌, ◌-◌, ◌^◌};
-ghost use Rattle.connection.specs.Connected.{StandsFor};
+ghost use Rattle.responder_core.specs.Connected.{StandsFor};
 ghost use Rattle.responder.specs.Came.{IsShort, last_for};
 ghost use Rattle.session_keys.specs.Drawing.{drawn_by};
 ghost use Rattle.responder_machine.specs.History.{History};
 ghost use Rattle.responder_machine.specs.Setup.{RspSetup};
 
 use crate::room::Room;
-use connection::Connection;
+use responder_core::Connection;
 use hmac_hkdf::DrawStream;
 use spdm_basis::Buffer;
 use spdm_grammar::Heard;

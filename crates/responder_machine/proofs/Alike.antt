@@ -14,9 +14,9 @@ use Rattle.responder_machine.specs.Responder.{Outcome, after}
 use Rattle.responder_machine.proofs.Others.{found}
 use Rattle.responder_machine.specs.EndLaws.{AreAlike, LeadAlike, OwnDecide, source_of, receiver_of}
 use Rattle.spdm_machine.specs.Packets.{fields_in, fields_with, gathered_from, body_type}
-use Rattle.spdm_grammar.specs.declared.heard.Heard.{Heard}
-use Rattle.spdm_grammar.specs.declared.heard.Heard.TheVariants as heard
-use Rattle.spdm_grammar.specs.declared.heard.RspIgnored.TheVariants as ignored
+use Rattle.spdm_grammar.specs.declared.told.heard.Heard.{Heard}
+use Rattle.spdm_grammar.specs.declared.told.heard.Heard.TheVariants as heard
+use Rattle.spdm_grammar.specs.declared.told.heard.RspIgnored.TheVariants as ignored
 use Rattle.responder_machine.specs.Setup.{RspPart}
 use Rattle.responder_machine.specs.Responding.{Connection, Responding, RspStep, connection_of, changed, with_history, ignores, answers, hears_whole, hears_gathered, hears_from, hears_packet, is_worn, worn_step, next_draw, responder_hears}
 

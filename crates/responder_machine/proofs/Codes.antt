@@ -13,9 +13,9 @@ use Rattle.spdm_grammar.specs.Reading.{read, and_then, ended, ended_sized, all_u
 use Rattle.spdm_grammar.specs.Reading as reading
 use Rattle.spdm_grammar.specs.Requests.{request_in, request_body, get_version_layout, get_capabilities_layout, negotiate_algorithms_layout, get_measurements_layout, psk_exchange_layout, psk_finish_layout, heartbeat_layout, key_update_layout, end_session_layout, chunk_send_layout, chunk_get_layout}
 use Rattle.spdm_grammar.specs.Codes.{is_request_code}
-use Rattle.spdm_grammar.specs.declared.malformed.Malformed.{Malformed}
+use Rattle.spdm_grammar.specs.declared.messages.malformed.Malformed.{Malformed}
 use Rattle.byteorder.specs.Endian.{little_number}
-use Rattle.spdm_grammar.specs.declared.malformed.Part.TheVariants.{End, Field}
+use Rattle.spdm_grammar.specs.declared.messages.malformed.Part.TheVariants.{End, Field}
 use Rattle.responder_machine.specs.Answer.{request_at}
 use Rattle.responder_machine.specs.Place.{Place, place_terms}
 use Rattle.spdm_machine.specs.Terms.{hash_len}

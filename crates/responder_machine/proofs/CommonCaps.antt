@@ -8,10 +8,10 @@ use Rattle.negotiate.specs.declared.shared.Common.{Common}
 use Rattle.spdm_grammar.specs.Fields.{FitsCaps}
 use Rattle.spdm_grammar.specs.Message.{RequestMessage, ChunkMessage}
 use Rattle.spdm_grammar.specs.Message.RequestMessage.{GetVersion, GetCapabilities, NegotiateAlgorithms}
-use Rattle.spdm_grammar.specs.declared.capabilities.Caps.{Caps}
-use Rattle.spdm_grammar.specs.declared.error_code.ErrorCode.{ErrorCode}
-use Rattle.spdm_grammar.specs.declared.phase.Phase.{Phase}
-use Rattle.spdm_grammar.specs.declared.phase.Phase.TheVariants.{Capable}
+use Rattle.spdm_grammar.specs.declared.messages.capabilities.Caps.{Caps}
+use Rattle.spdm_grammar.specs.declared.messages.error_code.ErrorCode.{ErrorCode}
+use Rattle.spdm_grammar.specs.declared.told.phase.Phase.{Phase}
+use Rattle.spdm_grammar.specs.declared.told.phase.Phase.TheVariants.{Capable}
 use Rattle.responder_machine.proofs.Made.{made_clear}
 use Rattle.responder_machine.proofs.Phased.{IsPhased, made_phased}
 use Rattle.responder_machine.proofs.Settled.{common_settled}

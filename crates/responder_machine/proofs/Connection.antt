@@ -1,7 +1,7 @@
 -- A refused clear request changes nothing that is counted for the connection.
 use Rattle.std.proofs.Common.{refl, ℕ, List, ◌∷◌, true, false, Bool, sym, subst}
 use Rattle.std.specs.Prelude.{if◌then◌else◌}
-use Rattle.spdm_grammar.specs.declared.error_code.ErrorCode.{ErrorCode}
+use Rattle.spdm_grammar.specs.declared.messages.error_code.ErrorCode.{ErrorCode}
 use Rattle.responder_machine.proofs.Turns.{turn_of-refused}
 use Rattle.responder_machine.specs.Answer.{Free}
 use Rattle.responder_machine.specs.Handling.{turn_of, refused_turn}

@@ -9,9 +9,9 @@ use Rattle.key_schedule.specs.declared.direction.Direction.{Direction}
 use Rattle.key_schedule.specs.declared.direction.Direction.TheVariants.{Request, Response}
 use Rattle.spdm_grammar.specs.Message.{ChunkMessage}
 use Rattle.spdm_grammar.specs.Message.RequestMessage.{PskFinish, KeyUpdate}
-use Rattle.spdm_grammar.specs.declared.error_code.ErrorCode.{ErrorCode}
-use Rattle.spdm_grammar.specs.declared.phase.Stage.{Stage}
-use Rattle.spdm_grammar.specs.declared.phase.Stage.TheVariants.{Handshake, Open, Verifying}
+use Rattle.spdm_grammar.specs.declared.messages.error_code.ErrorCode.{ErrorCode}
+use Rattle.spdm_grammar.specs.declared.told.phase.Stage.{Stage}
+use Rattle.spdm_grammar.specs.declared.told.phase.Stage.TheVariants.{Handshake, Open, Verifying}
 use Rattle.responder_machine.proofs.Repeats.{bytes_eq-refl}
 use Rattle.responder_machine.specs.Counts.{same_purpose, same_kind, same_direction, taken_under, sealed_under, IsStaged}
 use Rattle.spdm_machine.specs.Sessions.{purpose_in}

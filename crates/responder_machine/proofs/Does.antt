@@ -7,8 +7,8 @@ use Rattle.std.specs.Prelude.{if◌then◌else◌, ◌==◌, slice_index, replic
 use Rattle.byteorder.specs.Endian.{little_bytes}
 use Rattle.byteorder.specs.Numbers.{length-bytes_low_first}
 use Rattle.spdm_basis.specs.Sizes.{hash_size}
-use Rattle.spdm_basis.specs.declared.hash_alg.HashAlg.{HashAlg}
-use Rattle.spdm_basis.specs.declared.hash_alg.HashAlg.TheVariants.{Sha256, Sha384}
+use Rattle.spdm_basis.specs.declared.values.hash_alg.HashAlg.{HashAlg}
+use Rattle.spdm_basis.specs.declared.values.hash_alg.HashAlg.TheVariants.{Sha256, Sha384}
 use Rattle.responder_machine.proofs.Within.{queue_within}
 use Rattle.responder_machine.proofs.Ids.{free_id-range, free_id-unheld, not_four}
 use Rattle.responder_machine.specs.Does.{chosen, first_queued, clear_does, record_does}

@@ -3,7 +3,7 @@ use Rattle.std.proofs.Common.{◌≡◌, ◌≢◌, ℕ, List, [], ◌∷◌, �
 use Rattle.std.proofs.lemmas.List.{append-nil}
 use Rattle.std.specs.Option.{option_map, option_to_list}
 use Rattle.mctp_framing.specs.Packet.{parsed}
-use Rattle.spdm_grammar.specs.declared.heard.ReplyFault.{ReplyFault}
+use Rattle.spdm_grammar.specs.declared.told.heard.ReplyFault.{ReplyFault}
 use Rattle.responder_machine.proofs.Alike.{lead}
 use Rattle.responder_machine.proofs.Others.{found, kept, others}
 use Rattle.responder_machine.specs.EndLaws.{AreAlike, LeadAlike, source_of}

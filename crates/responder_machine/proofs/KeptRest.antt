@@ -2,7 +2,7 @@
 use Rattle.std.proofs.Common.{refl, ◌∙◌, ◌≡◌, ℕ, List, [], ◌∷◌, true, false, Bool, Option, Some, ap, sym, subst}
 use Rattle.std.specs.Prelude.{if◌then◌else◌}
 use Rattle.spdm_grammar.specs.Message.{ChunkMessage}
-use Rattle.spdm_grammar.specs.declared.error_code.ErrorCode.{ErrorCode}
+use Rattle.spdm_grammar.specs.declared.messages.error_code.ErrorCode.{ErrorCode}
 use Rattle.spdm_machine.specs.Bodies.{clear_body}
 use Rattle.spdm_machine.specs.Keys.{Draw}
 use Rattle.responder_machine.proofs.Refused.{turn_in, on_record-harmless}

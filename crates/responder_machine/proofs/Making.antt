@@ -1,10 +1,10 @@
 -- Whatever a responder does adds to a history that it made, and takes one draw at most.
 use Rattle.std.proofs.Common.{◌≡◌, ℕ, ◌≤◌, ◌+◌, List, [], ◌∷◌, drop, Bool, true, false, cond, Option, Some, None, ◌==◌, refl, ap, ◌∙◌, arith}
 use Rattle.std.specs.Prelude.{slice_index}
-use Rattle.spdm_basis.specs.declared.record_fault.RecordFault.{RecordFault}
+use Rattle.spdm_basis.specs.declared.causes.record_fault.RecordFault.{RecordFault}
 use Rattle.spdm_grammar.specs.Message.{ChunkMessage}
-use Rattle.spdm_grammar.specs.declared.error_code.ErrorCode.{ErrorCode}
-use Rattle.spdm_grammar.specs.declared.phase.Phase.{Phase}
+use Rattle.spdm_grammar.specs.declared.messages.error_code.ErrorCode.{ErrorCode}
+use Rattle.spdm_grammar.specs.declared.told.phase.Phase.{Phase}
 use Rattle.responder_machine.specs.Answer.{Free, request_at}
 use Rattle.responder_machine.specs.Does.{IsMade, responder_does, clear_does, record_does, clear_chosen, record_chosen}
 use Rattle.responder_machine.specs.Handling.{turn_of, turn_by, chunk_in, chunk_turn, carried_turn, taken_chunk, last_chunk_turn}

@@ -3,9 +3,9 @@ use Rattle.std.proofs.Common.{refl, ◌≡◌, ◌≤◌, ℕ, ◌+◌, List, []
 use Rattle.std.proofs.lemmas.Bool.Decides.{nat_tests}
 use Rattle.std.proofs.lemmas.Option.{none-some, same_Some}
 use Rattle.std.specs.Prelude.{if◌then◌else◌, ◌==◌, ◌||◌, ◌*◌, not, nat_le}
-use Rattle.spdm_basis.specs.declared.record_fault.RecordFault.{RecordFault}
-use Rattle.spdm_basis.specs.declared.record_fault.RecordFault.TheVariants.{KeySpent}
-use Rattle.spdm_grammar.specs.declared.phase.Phase.{Phase}
+use Rattle.spdm_basis.specs.declared.causes.record_fault.RecordFault.{RecordFault}
+use Rattle.spdm_basis.specs.declared.causes.record_fault.RecordFault.TheVariants.{KeySpent}
+use Rattle.spdm_grammar.specs.declared.told.phase.Phase.{Phase}
 use Rattle.responder_machine.proofs.Refused.{turn_in}
 use Rattle.responder_machine.proofs.Repeats.{not_first}
 use Rattle.responder_machine.specs.Answer.{Free}

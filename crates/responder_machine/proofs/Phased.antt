@@ -4,9 +4,9 @@ use Rattle.std.proofs.lemmas.Bool.{false≢true}
 use Rattle.std.specs.Prelude.{if◌then◌else◌, not}
 use Rattle.spdm_grammar.specs.Message.{RequestMessage, ChunkMessage}
 use Rattle.spdm_grammar.specs.Message.RequestMessage.{GetCapabilities, NegotiateAlgorithms, PskExchange}
-use Rattle.spdm_grammar.specs.declared.error_code.ErrorCode.{ErrorCode}
-use Rattle.spdm_grammar.specs.declared.phase.Phase.{Phase}
-use Rattle.spdm_grammar.specs.declared.phase.Phase.TheVariants.{Fresh, Versioned, Capable, Negotiated}
+use Rattle.spdm_grammar.specs.declared.messages.error_code.ErrorCode.{ErrorCode}
+use Rattle.spdm_grammar.specs.declared.told.phase.Phase.{Phase}
+use Rattle.spdm_grammar.specs.declared.told.phase.Phase.TheVariants.{Fresh, Versioned, Capable, Negotiated}
 use Rattle.responder_machine.proofs.Codes.{asked-code}
 use Rattle.responder_machine.proofs.Made.{made_clear}
 use Rattle.responder_machine.proofs.Tests.{form_shown}

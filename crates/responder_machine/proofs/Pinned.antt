@@ -10,12 +10,12 @@ use Rattle.spdm_grammar.specs.Message.ResponseMessage.{Capabilities}
 use Rattle.spdm_grammar.specs.Reading.{field_at, number_at, optional_at, tables_at, behind_tables, behind_table}
 use Rattle.spdm_grammar.specs.Requests.{canonical_request, request_body, get_version_layout, get_capabilities_layout, negotiate_algorithms_layout, get_measurements_layout, psk_exchange_layout, psk_finish_layout, heartbeat_layout, key_update_layout, end_session_layout, chunk_send_layout, chunk_get_layout}
 use Rattle.spdm_grammar.specs.Responses.{canonical_response, response_body, version_layout, capabilities_layout, algorithms_layout}
-use Rattle.spdm_grammar.specs.declared.capabilities.Caps.{Caps}
-use Rattle.spdm_grammar.specs.declared.choice.Pick.TheVariants.{Small}
+use Rattle.spdm_grammar.specs.declared.messages.capabilities.Caps.{Caps}
+use Rattle.spdm_grammar.specs.declared.messages.choice.Pick.TheVariants.{Small}
 use Rattle.spdm_grammar.specs.declared.names.capability.TheConstants.{PSK_CAP, HBEAT_CAP, KEY_UPD_CAP, CHUNK_CAP}
-use Rattle.spdm_grammar.specs.declared.error_code.ErrorCode.{ErrorCode}
-use Rattle.spdm_grammar.specs.declared.phase.Phase.{Phase}
-use Rattle.spdm_grammar.specs.declared.phase.Phase.TheVariants.{Fresh, Versioned, Capable, Negotiated}
+use Rattle.spdm_grammar.specs.declared.messages.error_code.ErrorCode.{ErrorCode}
+use Rattle.spdm_grammar.specs.declared.told.phase.Phase.{Phase}
+use Rattle.spdm_grammar.specs.declared.told.phase.Phase.TheVariants.{Fresh, Versioned, Capable, Negotiated}
 use Rattle.spdm_machine.specs.Setup.{protection_flags}
 use Rattle.spdm_machine.specs.Terms.{no_negotiation, terms_of}
 use Rattle.transcript.specs.Transcripts.{Negotiation}

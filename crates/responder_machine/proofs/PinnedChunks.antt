@@ -3,8 +3,8 @@ use Rattle.std.proofs.Common.{refl, ℕ, List, [], ◌∷◌, true, false, repli
 use Rattle.spdm_grammar.specs.Message.{ChunkMessage}
 use Rattle.spdm_grammar.specs.Message.RequestMessage.{GetMeasurements, ChunkSend, ChunkGet}
 use Rattle.spdm_grammar.specs.Requests.{canonical_request}
-use Rattle.spdm_grammar.specs.declared.error_code.ErrorCode.TheVariants.{InvalidRequest, UnexpectedRequest, RequestTooLarge}
-use Rattle.spdm_grammar.specs.declared.phase.Phase.TheVariants.{Negotiated}
+use Rattle.spdm_grammar.specs.declared.messages.error_code.ErrorCode.TheVariants.{InvalidRequest, UnexpectedRequest, RequestTooLarge}
+use Rattle.spdm_grammar.specs.declared.told.phase.Phase.TheVariants.{Negotiated}
 use Rattle.spdm_grammar.specs.declared.names.capability.TheConstants.{CHUNK_CAP}
 use Rattle.responder_machine.proofs.Pinned.{computed, setup, IsTable, clear_with, negotiation, negotiation_with, caps_with, offer, took, large, opened_with, with_large, after_taking, chunk_get}
 use Rattle.responder_machine.specs.Place.{Place, session_place}

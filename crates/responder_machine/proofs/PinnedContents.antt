@@ -4,9 +4,9 @@ use Rattle.sha2.proofs.Facts256.{length-sha256}
 use Rattle.spdm_grammar.specs.Message.{OfferMessage, ExchangeMessage}
 use Rattle.spdm_grammar.specs.Message.RequestMessage.{GetCapabilities, NegotiateAlgorithms, PskExchange}
 use Rattle.spdm_grammar.specs.Requests.{canonical_request}
-use Rattle.spdm_grammar.specs.declared.capabilities.Caps.{Caps}
-use Rattle.spdm_grammar.specs.declared.error_code.ErrorCode.TheVariants.{InvalidRequest, UnexpectedRequest, SessionLimitExceeded}
-use Rattle.spdm_grammar.specs.declared.phase.Phase.TheVariants.{Negotiated}
+use Rattle.spdm_grammar.specs.declared.messages.capabilities.Caps.{Caps}
+use Rattle.spdm_grammar.specs.declared.messages.error_code.ErrorCode.TheVariants.{InvalidRequest, UnexpectedRequest, SessionLimitExceeded}
+use Rattle.spdm_grammar.specs.declared.told.phase.Phase.TheVariants.{Negotiated}
 use Rattle.spdm_grammar.specs.declared.names.capability.TheConstants.{ENCRYPT_CAP, MAC_CAP, PSK_CAP, PSK_CAP_WITH_CONTEXT}
 use Rattle.responder_machine.proofs.Pinned.{computed, setup, free, IsTable, versioned, capable, negotiated, clear_with, negotiation_with, all_caps, offer, exchange, caps_with, opened, verifying, get_capabilities, negotiate_algorithms, get_measurements, psk_exchange, key_update}
 use Rattle.responder_machine.proofs.VerifyLength.{length_verify}

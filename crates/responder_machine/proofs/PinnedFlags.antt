@@ -1,7 +1,7 @@
 -- What was not negotiated is not supported, and each wrong SPDMVersion is a mismatch.
 use Rattle.std.proofs.Common.{refl, ◌+◌, ℕ, List, [], ◌∷◌, drop, Some, None}
-use Rattle.spdm_grammar.specs.declared.error_code.ErrorCode.TheVariants.{UnsupportedRequest, VersionMismatch}
-use Rattle.spdm_grammar.specs.declared.phase.Phase.TheVariants.{Negotiated}
+use Rattle.spdm_grammar.specs.declared.messages.error_code.ErrorCode.TheVariants.{UnsupportedRequest, VersionMismatch}
+use Rattle.spdm_grammar.specs.declared.told.phase.Phase.TheVariants.{Negotiated}
 use Rattle.transcript.specs.Transcripts.{Negotiation}
 use Rattle.spdm_grammar.specs.declared.names.spdm_version.TheConstants.{V1_0, V1_2}
 use Rattle.spdm_grammar.specs.declared.names.capability.TheConstants.{CHUNK_CAP, HBEAT_CAP, KEY_UPD_CAP}

@@ -1,7 +1,7 @@
 -- Each of the eleven requests in each phase, where it came by chunks.
 use Rattle.std.proofs.Common.{refl, ◌≡◌, [], ◌∷◌, Some, None}
-use Rattle.spdm_grammar.specs.declared.error_code.ErrorCode.TheVariants.{UnexpectedRequest, SessionRequired, VersionMismatch}
-use Rattle.spdm_grammar.specs.declared.phase.Phase.TheVariants.{Fresh, Versioned, Capable, Negotiated}
+use Rattle.spdm_grammar.specs.declared.messages.error_code.ErrorCode.TheVariants.{UnexpectedRequest, SessionRequired, VersionMismatch}
+use Rattle.spdm_grammar.specs.declared.told.phase.Phase.TheVariants.{Fresh, Versioned, Capable, Negotiated}
 use Rattle.responder_machine.proofs.Pinned.{computed, setup, free, IsTable, fresh, versioned, capable, negotiated, clear_with, negotiation, large, misversioned, get_version, get_capabilities, negotiate_algorithms, get_measurements, psk_exchange, psk_finish, heartbeat, key_update, end_session, chunk_send, chunk_get}
 use Rattle.responder_machine.proofs.VerifyLength.{length_verify}
 use Rattle.responder_machine.specs.Place.{inside}

@@ -2,7 +2,7 @@
 use Rattle.std.proofs.Common.{refl, ◌≡◌, List, [], ◌∷◌, true, false, Bool, Some, None}
 use Rattle.std.specs.Prelude.{if◌then◌else◌, map, replicate, bytes_eq}
 use Rattle.key_schedule.specs.declared.direction.Direction.TheVariants as direction
-use Rattle.spdm_grammar.specs.declared.error_code.ErrorCode.TheVariants.{InvalidRequest, UnexpectedRequest, DecryptError, UnsupportedRequest, RequestTooLarge, VersionMismatch}
+use Rattle.spdm_grammar.specs.declared.messages.error_code.ErrorCode.TheVariants.{InvalidRequest, UnexpectedRequest, DecryptError, UnsupportedRequest, RequestTooLarge, VersionMismatch}
 use Rattle.spdm_machine.specs.Keys.{verify_data}
 use Rattle.spdm_machine.specs.Terms.{terms_of}
 use Rattle.responder_machine.proofs.Pinned.{computed, setup, free, IsTable, Row, negotiation, begun, opened, verifying, with_large, misversioned, get_version, get_capabilities, negotiate_algorithms, get_measurements, psk_exchange, psk_finish, heartbeat, key_update, end_session, chunk_send, chunk_get}

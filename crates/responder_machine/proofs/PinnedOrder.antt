@@ -5,9 +5,9 @@ use Rattle.std.specs.Prelude.{◌==◌, map, not}
 use Rattle.std.specs.List.{filter, range_with_len}
 use Rattle.spdm_grammar.specs.Message.RequestMessage.{PskExchange, ChunkSend}
 use Rattle.spdm_grammar.specs.Requests.{canonical_request}
-use Rattle.spdm_grammar.specs.declared.error_code.ErrorCode.{ErrorCode}
-use Rattle.spdm_grammar.specs.declared.error_code.ErrorCode.TheVariants.{InvalidRequest, UnexpectedRequest, UnsupportedRequest, SessionRequired, ResponseTooLarge, RequestTooLarge, VersionMismatch}
-use Rattle.spdm_grammar.specs.declared.phase.Phase.TheVariants.{Negotiated}
+use Rattle.spdm_grammar.specs.declared.messages.error_code.ErrorCode.{ErrorCode}
+use Rattle.spdm_grammar.specs.declared.messages.error_code.ErrorCode.TheVariants.{InvalidRequest, UnexpectedRequest, UnsupportedRequest, SessionRequired, ResponseTooLarge, RequestTooLarge, VersionMismatch}
+use Rattle.spdm_grammar.specs.declared.told.phase.Phase.TheVariants.{Negotiated}
 use Rattle.transcript.specs.Transcripts.{Negotiation}
 use Rattle.responder_machine.proofs.Pinned.{computed, setup, free, IsTable, clear_with, negotiation_with, caps_with, all_caps, offer, exchange, only_chunk, large, fresh, capable, negotiated, begun, opened, opened_with, misversioned, get_version, get_capabilities, negotiate_algorithms, get_measurements, psk_exchange, psk_finish, heartbeat, key_update, end_session, chunk_send, chunk_get}
 use Rattle.responder_machine.proofs.VerifyLength.{length_verify}

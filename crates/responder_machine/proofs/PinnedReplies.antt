@@ -4,7 +4,7 @@ use Rattle.std.proofs.Common.{refl, ◌≡◌, ℕ, List, [], ◌∷◌, ◌++�
 use Rattle.std.specs.Prelude.{map}
 use Rattle.spdm_grammar.specs.Message.RequestMessage.{ChunkSend}
 use Rattle.spdm_grammar.specs.Requests.{canonical_request}
-use Rattle.spdm_grammar.specs.declared.phase.Phase.TheVariants.{Capable}
+use Rattle.spdm_grammar.specs.declared.told.phase.Phase.TheVariants.{Capable}
 use Rattle.spdm_grammar.specs.declared.names.capability.TheConstants.{CHUNK_CAP}
 use Rattle.responder_machine.proofs.Pinned.{computed, setup, free, clear_with, negotiation_with, caps_with, offer, fresh, versioned, capable, negotiated, opened, verifying, opened_with, misversioned, get_version, get_capabilities, negotiate_algorithms, get_measurements, psk_exchange, psk_finish, heartbeat, key_update, end_session, chunk_send}
 use Rattle.responder_machine.proofs.VerifyLength.{length_verify}

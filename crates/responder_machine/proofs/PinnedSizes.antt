@@ -3,9 +3,9 @@ use Rattle.std.proofs.Common.{refl, ◌≡◌, ℕ, List, [], ◌∷◌, ◌++�
 use Rattle.std.specs.Prelude.{if◌then◌else◌, map}
 use Rattle.spdm_grammar.specs.Message.RequestMessage.{ChunkSend, GetMeasurements}
 use Rattle.spdm_grammar.specs.Requests.{canonical_request}
-use Rattle.spdm_grammar.specs.declared.error_code.ErrorCode.{ErrorCode}
-use Rattle.spdm_grammar.specs.declared.error_code.ErrorCode.TheVariants.{InvalidRequest, ResponseTooLarge, RequestTooLarge}
-use Rattle.spdm_grammar.specs.declared.phase.Phase.TheVariants.{Capable, Negotiated}
+use Rattle.spdm_grammar.specs.declared.messages.error_code.ErrorCode.{ErrorCode}
+use Rattle.spdm_grammar.specs.declared.messages.error_code.ErrorCode.TheVariants.{InvalidRequest, ResponseTooLarge, RequestTooLarge}
+use Rattle.spdm_grammar.specs.declared.told.phase.Phase.TheVariants.{Capable, Negotiated}
 use Rattle.transcript.specs.Transcripts.{Negotiation}
 use Rattle.spdm_grammar.specs.declared.names.capability.TheConstants.{CHUNK_CAP}
 use Rattle.responder_machine.proofs.Pinned.{computed, setup, free, IsTable, clear_with, negotiation_with, caps_with, offer, fresh, versioned, capable, opened, opened_with, get_version, get_capabilities, negotiate_algorithms, get_measurements, heartbeat, chunk_get, took}

@@ -2,9 +2,9 @@
 use Rattle.std.proofs.Common.{refl, ◌∙◌, ◌≡◌, ℕ, List, [], ◌∷◌, true, false, Bool, Option, Some, None, ap, sym}
 use Rattle.std.proofs.lemmas.Option.{none-some, same_Some}
 use Rattle.std.specs.Prelude.{if◌then◌else◌, ◌==◌}
-use Rattle.spdm_basis.specs.declared.record_fault.RecordFault.{RecordFault}
-use Rattle.spdm_grammar.specs.declared.error_code.ErrorCode.{ErrorCode}
-use Rattle.spdm_grammar.specs.declared.phase.Phase.{Phase}
+use Rattle.spdm_basis.specs.declared.causes.record_fault.RecordFault.{RecordFault}
+use Rattle.spdm_grammar.specs.declared.messages.error_code.ErrorCode.{ErrorCode}
+use Rattle.spdm_grammar.specs.declared.told.phase.Phase.{Phase}
 use Rattle.responder_machine.proofs.Entries.{session_of-no_effect, session_of-Sealed}
 use Rattle.responder_machine.proofs.Turns.{turn_of-refused, turn_of-carried, session_turn-effect}
 use Rattle.responder_machine.specs.Answer.{Free}

@@ -3,8 +3,8 @@ use Rattle.std.proofs.Common.{refl, ◌∙◌, ◌≡◌, ◌⊎◌, ℕ, List, 
 use Rattle.std.proofs.lemmas.Bool.{false≢true}
 use Rattle.std.proofs.lemmas.Option.{none-some}
 use Rattle.std.specs.Prelude.{if◌then◌else◌, bytes_eq}
-use Rattle.spdm_basis.specs.declared.record_fault.RecordFault.{RecordFault}
-use Rattle.spdm_grammar.specs.declared.phase.Phase.{Phase}
+use Rattle.spdm_basis.specs.declared.causes.record_fault.RecordFault.{RecordFault}
+use Rattle.spdm_grammar.specs.declared.told.phase.Phase.{Phase}
 use Rattle.responder_machine.specs.Answer.{Free}
 use Rattle.responder_machine.specs.History.{History, Entry, Kept, KeptRecord, kept_of, ended_of, phase_of, clear_turns}
 use Rattle.responder_machine.specs.History.Entry.{Clear, Sealed}

@@ -4,10 +4,10 @@ use Rattle.std.specs.Prelude.{replicate, codes, Option}
 use Rattle.spdm_grammar.specs.Reading.{field_at, number_at, optional_at, tables_at, behind_tables, behind_table}
 use Rattle.spdm_grammar.specs.Requests.{request_body, get_version_layout, get_capabilities_layout, negotiate_algorithms_layout, psk_finish_layout, chunk_send_layout, chunk_get_layout}
 use Rattle.spdm_grammar.specs.Responses.{response_body, version_layout, capabilities_layout, algorithms_layout}
-use Rattle.spdm_grammar.specs.declared.error_code.ErrorCode.{ErrorCode}
-use Rattle.spdm_grammar.specs.declared.error_code.ErrorCode.TheVariants.{InvalidRequest, UnexpectedRequest, UnsupportedRequest, SessionRequired, VersionMismatch}
-use Rattle.spdm_grammar.specs.declared.phase.Phase.TheVariants.{Fresh, Negotiated}
-use Rattle.spdm_grammar.specs.declared.choice.Pick.TheVariants.{Small}
+use Rattle.spdm_grammar.specs.declared.messages.error_code.ErrorCode.{ErrorCode}
+use Rattle.spdm_grammar.specs.declared.messages.error_code.ErrorCode.TheVariants.{InvalidRequest, UnexpectedRequest, UnsupportedRequest, SessionRequired, VersionMismatch}
+use Rattle.spdm_grammar.specs.declared.told.phase.Phase.TheVariants.{Fresh, Negotiated}
+use Rattle.spdm_grammar.specs.declared.messages.choice.Pick.TheVariants.{Small}
 use Rattle.responder_machine.specs.Answer.{answer_bytes}
 use Rattle.responder_machine.specs.Does.{chosen, clear_does}
 use Rattle.responder_machine.specs.Handling.{turn_of}

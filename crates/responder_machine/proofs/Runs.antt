@@ -20,11 +20,11 @@ use Rattle.responder_machine.specs.Responding.{Connection, Responding, RspStep, 
 use Rattle.responder_machine.specs.Setup.{Known, RspEnd, RspPart}
 use Rattle.spdm_basis.specs.declared.DropCause.TheVariants.{NotOurs}
 use Rattle.spdm_basis.specs.declared.PacketFault.{PacketFault}
-use Rattle.spdm_grammar.specs.declared.heard.Heard.{Heard}
-use Rattle.spdm_grammar.specs.declared.heard.Heard.TheVariants as heard
-use Rattle.spdm_grammar.specs.declared.heard.ReplyFault.{ReplyFault}
-use Rattle.spdm_grammar.specs.declared.heard.ReplyFault.TheVariants as reply_fault
-use Rattle.spdm_grammar.specs.declared.heard.RspIgnored.TheVariants as ignored
+use Rattle.spdm_grammar.specs.declared.told.heard.Heard.{Heard}
+use Rattle.spdm_grammar.specs.declared.told.heard.Heard.TheVariants as heard
+use Rattle.spdm_grammar.specs.declared.told.heard.ReplyFault.{ReplyFault}
+use Rattle.spdm_grammar.specs.declared.told.heard.ReplyFault.TheVariants as reply_fault
+use Rattle.spdm_grammar.specs.declared.told.heard.RspIgnored.TheVariants as ignored
 use Rattle.spdm_machine.proofs.Members.{IsIn, found_in, in_map}
 use Rattle.spdm_machine.specs.Packets.{body_type, gathered_from, wear_limit}
 

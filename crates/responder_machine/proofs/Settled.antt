@@ -11,8 +11,8 @@ use Rattle.negotiate.specs.Capabilities.{common_of}
 use Rattle.negotiate.specs.Choosing.{selected, agreed, hash_bit}
 use Rattle.negotiate.specs.Reply.{reply_of, measurement_hash_bit, answered_kinds}
 use Rattle.negotiate.specs.declared.shared.Common.{Common}
-use Rattle.spdm_basis.specs.declared.hash_alg.HashAlg.{HashAlg}
-use Rattle.spdm_basis.specs.declared.hash_alg.HashAlg.TheVariants.{Sha256, Sha384}
+use Rattle.spdm_basis.specs.declared.values.hash_alg.HashAlg.{HashAlg}
+use Rattle.spdm_basis.specs.declared.values.hash_alg.HashAlg.TheVariants.{Sha256, Sha384}
 use Rattle.spdm_grammar.proofs.CanonicalResponses.{response_spelled}
 use Rattle.spdm_grammar.proofs.Spellings.{spelling_read}
 use Rattle.spdm_grammar.specs.Layout.{Layout}
@@ -25,10 +25,10 @@ use Rattle.spdm_grammar.specs.Reading.{read, and_then, number_at, field_at}
 use Rattle.spdm_grammar.specs.Requests.{request_in, request_body}
 use Rattle.spdm_grammar.specs.Codes.{is_request_code}
 use Rattle.spdm_grammar.specs.Responses.{response_layout, canonical_response, FitsResponse, IsSoundResponse, FitsReply, IsSoundReply}
-use Rattle.spdm_grammar.specs.declared.capabilities.Caps.{Caps}
-use Rattle.spdm_grammar.specs.declared.choice.Choice.{Choice}
-use Rattle.spdm_grammar.specs.declared.malformed.Malformed.{Malformed}
-use Rattle.spdm_grammar.specs.declared.malformed.Part.TheVariants.{Field}
+use Rattle.spdm_grammar.specs.declared.messages.capabilities.Caps.{Caps}
+use Rattle.spdm_grammar.specs.declared.messages.choice.Choice.{Choice}
+use Rattle.spdm_grammar.specs.declared.messages.malformed.Malformed.{Malformed}
+use Rattle.spdm_grammar.specs.declared.messages.malformed.Part.TheVariants.{Field}
 use Rattle.responder_machine.proofs.Codes.{number_at-cons, sized-code, is_version, one_byte}
 use Rattle.responder_machine.specs.Answer.{Free, answer_bytes, answer_to, request_at, answer_of}
 use Rattle.responder_machine.specs.Place.{Place, place_terms}

@@ -4,7 +4,7 @@ use Rattle.std.proofs.lemmas.Option.{none-some}
 use Rattle.std.specs.Prelude.{if◌then◌else◌, ◌==◌, slice_index, drop}
 use Rattle.spdm_grammar.specs.Message.{RequestMessage, ChunkMessage}
 use Rattle.spdm_grammar.specs.Message.RequestMessage.{ChunkSend}
-use Rattle.spdm_grammar.specs.declared.error_code.ErrorCode.{ErrorCode}
+use Rattle.spdm_grammar.specs.declared.messages.error_code.ErrorCode.{ErrorCode}
 use Rattle.responder_machine.specs.Answer.{Free, answer_bytes, request_at}
 use Rattle.responder_machine.specs.Handling.{turn_of, turn_by, refused_turn, carried_turn, chunk_turn, last_chunk_turn, taken_chunk, plain_turn, handle_for, request_reply, effect_of, chunk_in}
 use Rattle.responder_machine.specs.Laws.{completed_at}

@@ -5,8 +5,8 @@ use Rattle.std.specs.Prelude.{if◌then◌else◌, ◌==◌, ◌||◌}
 use Rattle.key_schedule.specs.declared.direction.Direction.TheVariants.{Response}
 use Rattle.spdm_grammar.specs.Message.{ChunkMessage}
 use Rattle.spdm_grammar.specs.Message.RequestMessage.{KeyUpdate}
-use Rattle.spdm_grammar.specs.declared.error_code.ErrorCode.{ErrorCode}
-use Rattle.spdm_grammar.specs.declared.phase.Stage.TheVariants.{Open, Verifying}
+use Rattle.spdm_grammar.specs.declared.messages.error_code.ErrorCode.{ErrorCode}
+use Rattle.spdm_grammar.specs.declared.told.phase.Stage.TheVariants.{Open, Verifying}
 use Rattle.responder_machine.proofs.Counts.{reply_by, past_purpose, requests_counted, responses_counted, none_sealed_later}
 use Rattle.responder_machine.specs.Counts.{sealed_under}
 use Rattle.responder_machine.specs.NumberLaws.{NextNumbersAreCounts, ReplyNumberIsCount, FinishBeginsAtZero, UpdateBeginsAtZero, UpdateAllIsAnsweredAtZero}

@@ -5,7 +5,7 @@ use Rattle.key_schedule.specs.Purpose.{Purpose, Kind}
 use Rattle.key_schedule.specs.Purpose.Kind.{Verify, HandshakeRecord, ApplicationRecord}
 use Rattle.key_schedule.specs.declared.direction.Direction.{Direction}
 use Rattle.key_schedule.specs.declared.direction.Direction.TheVariants.{Request, Response}
-use Rattle.spdm_grammar.specs.declared.phase.Stage.TheVariants.{Handshake}
+use Rattle.spdm_grammar.specs.declared.told.phase.Stage.TheVariants.{Handshake}
 use Rattle.responder_machine.specs.Records.{request_purpose, reply_purpose}
 use Rattle.responder_machine.specs.Session.{Events, stage_of}
 use Rattle.spdm_machine.specs.Sessions.{is_past_handshake}

@@ -1,13 +1,13 @@
 -- What is told of a packet that a responder was given, and what is seen of its sessions. This project's own.
 use Rattle.std.specs.Prelude.{ℕ, List, [], ◌∷◌, ◌++◌, if◌then◌else◌, Option, Some, None}
-use Rattle.spdm_basis.specs.declared.session_id.SessionId.{SessionId}
+use Rattle.spdm_basis.specs.declared.values.session_id.SessionId.{SessionId}
 use Rattle.spdm_grammar.specs.ErrorNumber.{error_number}
-use Rattle.spdm_grammar.specs.declared.error_code.ErrorCode.{ErrorCode}
-use Rattle.spdm_grammar.specs.declared.heard.Heard.{Heard}
-use Rattle.spdm_grammar.specs.declared.heard.Heard.TheVariants as heard
+use Rattle.spdm_grammar.specs.declared.messages.error_code.ErrorCode.{ErrorCode}
+use Rattle.spdm_grammar.specs.declared.told.heard.Heard.{Heard}
+use Rattle.spdm_grammar.specs.declared.told.heard.Heard.TheVariants as heard
 use Rattle.byteorder.specs.Endian.{little_number}
 use Rattle.std.specs.Prelude.{drop}
-use Rattle.spdm_grammar.specs.declared.session_view.SessionView.{SessionView}
+use Rattle.spdm_grammar.specs.declared.told.session_view.SessionView.{SessionView}
 use Rattle.spdm_machine.specs.Sessions.{transcript_in}
 use Rattle.responder_machine.specs.History.{History, Entry}
 use Rattle.responder_machine.specs.History.Entry.{Clear, Sealed}

@@ -1,7 +1,7 @@
 -- What a responder took from one requester, and what of it is counted for the whole connection.
 use Rattle.std.specs.Prelude.{◌||◌, ◌+◌, ℕ, List, [], ◌∷◌, ◌++◌, drop, if◌then◌else◌, Option, Some, None}
-use Rattle.spdm_grammar.specs.declared.phase.Phase.{Phase}
-use Rattle.spdm_grammar.specs.declared.phase.Phase.TheVariants.{Fresh, Versioned, Capable, Negotiated}
+use Rattle.spdm_grammar.specs.declared.told.phase.Phase.{Phase}
+use Rattle.spdm_grammar.specs.declared.told.phase.Phase.TheVariants.{Fresh, Versioned, Capable, Negotiated}
 use Rattle.spdm_machine.specs.Keys.{Draw}
 use Rattle.spdm_machine.specs.Terms.{no_negotiation}
 use Rattle.responder_machine.specs.Turn.{Turn, is_taken, takes, takes_draw, is_data, request_in, answer_in}

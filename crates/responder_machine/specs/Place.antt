@@ -1,7 +1,7 @@
 -- A place of a responder, and what a test may look at there. This project's own.
 use Rattle.std.specs.Prelude.{◌+◌, ◌&&◌, not, ℕ, List, [], if◌then◌else◌, Bool}
-use Rattle.spdm_grammar.specs.declared.phase.Phase.{Phase}
-use Rattle.spdm_grammar.specs.declared.phase.Phase.TheVariants.{Negotiated}
+use Rattle.spdm_grammar.specs.declared.told.phase.Phase.{Phase}
+use Rattle.spdm_grammar.specs.declared.told.phase.Phase.TheVariants.{Negotiated}
 use Rattle.responder_machine.specs.History.{History, clear_turns, phase_of, negotiation_of}
 use Rattle.responder_machine.specs.Session.{Events, session_of, is_live, stage_of, turns_of, session_negotiation}
 use Rattle.spdm_machine.specs.Sessions.{is_past_handshake, one_if}

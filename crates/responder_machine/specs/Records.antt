@@ -3,8 +3,8 @@
 use Rattle.std.specs.Prelude.{ℕ, List, length, take, not, nat_lt, Option, Some, if◌then◌else◌, ◌+◌, bytes_eq}
 use Rattle.key_schedule.specs.Purpose.{Purpose}
 use Rattle.key_schedule.specs.declared.direction.Direction.TheVariants.{Request, Response}
-use Rattle.spdm_basis.specs.declared.record_fault.RecordFault.{RecordFault}
-use Rattle.spdm_basis.specs.declared.record_fault.RecordFault.TheVariants.{KeySpent, Short, WrongId, WrongNumber}
+use Rattle.spdm_basis.specs.declared.causes.record_fault.RecordFault.{RecordFault}
+use Rattle.spdm_basis.specs.declared.causes.record_fault.RecordFault.TheVariants.{KeySpent, Short, WrongId, WrongNumber}
 use Rattle.spdm_machine.specs.Keys.{record_fault, inner_message, sealed_of}
 use Rattle.responder_machine.specs.Session.{Events, stage_of, t1_of, t2_of, request_epoch, response_epoch, request_next, response_next, id_bytes, session_terms, is_spent}
 use Rattle.responder_machine.specs.Turn.{Turn, updates}

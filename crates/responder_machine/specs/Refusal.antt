@@ -12,14 +12,14 @@ use Rattle.negotiate.specs.Choosing.{selected}
 use Rattle.spdm_grammar.specs.Codes.{is_one_of, request_codes}
 use Rattle.spdm_grammar.specs.Message.{RequestMessage}
 use Rattle.spdm_grammar.specs.Message.RequestMessage.{GetCapabilities, NegotiateAlgorithms, GetMeasurements, PskExchange, PskFinish, KeyUpdate, ChunkSend, ChunkGet}
-use Rattle.spdm_grammar.specs.declared.error_code.ErrorCode.{ErrorCode}
-use Rattle.spdm_grammar.specs.declared.error_code.ErrorCode.TheVariants.{InvalidRequest, UnexpectedRequest, DecryptError, UnsupportedRequest, SessionLimitExceeded, SessionRequired, ResponseTooLarge, RequestTooLarge, VersionMismatch}
-use Rattle.spdm_grammar.specs.declared.part_faults.ChunkFault.{ChunkFault}
-use Rattle.spdm_grammar.specs.declared.part_faults.ChunkFault.TheVariants as fault
-use Rattle.spdm_grammar.specs.declared.phase.Phase.{Phase}
-use Rattle.spdm_grammar.specs.declared.phase.Phase.TheVariants.{Fresh, Versioned, Capable, Negotiated}
-use Rattle.spdm_grammar.specs.declared.phase.Stage.{Stage}
-use Rattle.spdm_grammar.specs.declared.phase.Stage.TheVariants.{Handshake, Open, Verifying}
+use Rattle.spdm_grammar.specs.declared.messages.error_code.ErrorCode.{ErrorCode}
+use Rattle.spdm_grammar.specs.declared.messages.error_code.ErrorCode.TheVariants.{InvalidRequest, UnexpectedRequest, DecryptError, UnsupportedRequest, SessionLimitExceeded, SessionRequired, ResponseTooLarge, RequestTooLarge, VersionMismatch}
+use Rattle.spdm_grammar.specs.declared.messages.part_faults.ChunkFault.{ChunkFault}
+use Rattle.spdm_grammar.specs.declared.messages.part_faults.ChunkFault.TheVariants as fault
+use Rattle.spdm_grammar.specs.declared.told.phase.Phase.{Phase}
+use Rattle.spdm_grammar.specs.declared.told.phase.Phase.TheVariants.{Fresh, Versioned, Capable, Negotiated}
+use Rattle.spdm_grammar.specs.declared.told.phase.Stage.{Stage}
+use Rattle.spdm_grammar.specs.declared.told.phase.Stage.TheVariants.{Handshake, Open, Verifying}
 use Rattle.responder_machine.specs.Answer.{Free, answer_bytes, request_at}
 use Rattle.spdm_machine.specs.Keys.{verify_data}
 use Rattle.responder_machine.specs.LargeMessages.{pending_of, given_of, handle_of, chunks_of}

@@ -4,7 +4,7 @@ use Rattle.std.specs.Prelude.{◌≡◌, ℕ, List, [], ◌∷◌, true, false, 
 use Rattle.chunking.specs.Collecting.{under_way}
 use Rattle.spdm_grammar.specs.Message.{ChunkMessage}
 use Rattle.spdm_grammar.specs.Message.RequestMessage.{ChunkSend}
-use Rattle.spdm_grammar.specs.declared.error_code.ErrorCode.{ErrorCode}
+use Rattle.spdm_grammar.specs.declared.messages.error_code.ErrorCode.{ErrorCode}
 use Rattle.spdm_machine.specs.Keys.{Draw}
 use Rattle.responder_machine.specs.Answer.{Free, request_at}
 use Rattle.responder_machine.specs.Handling.{acknowledged, error_bytes}

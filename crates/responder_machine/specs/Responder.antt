@@ -1,14 +1,14 @@
 -- What a responder does with a whole message body from a requester, and which entry that adds to the history.
 use Rattle.std.specs.Prelude.{◌==◌, ◌&&◌, ◌||◌, not, nat_lt, ℕ, List, [], ◌∷◌, length, slice_index, drop, if◌then◌else◌, Bool, true, false, Option, Some, None, bytes_eq}
-use Rattle.spdm_basis.specs.declared.record_fault.RecordFault.{RecordFault}
+use Rattle.spdm_basis.specs.declared.causes.record_fault.RecordFault.{RecordFault}
 use Rattle.spdm_grammar.specs.ErrorNumber.{error_number}
 use Rattle.spdm_grammar.specs.Message.ResponseMessage.{Error}
 use Rattle.spdm_grammar.specs.Responses.{canonical_response}
-use Rattle.spdm_grammar.specs.declared.error_code.ErrorCode.{ErrorCode}
-use Rattle.spdm_grammar.specs.declared.error_code.ErrorCode.TheVariants.{InvalidRequest, UnexpectedRequest, DecryptError, RequestTooLarge}
-use Rattle.spdm_grammar.specs.declared.phase.Phase.{Phase}
-use Rattle.spdm_grammar.specs.declared.phase.Stage.{Stage}
-use Rattle.spdm_grammar.specs.declared.phase.Stage.TheVariants.{Handshake, Open, Verifying}
+use Rattle.spdm_grammar.specs.declared.messages.error_code.ErrorCode.{ErrorCode}
+use Rattle.spdm_grammar.specs.declared.messages.error_code.ErrorCode.TheVariants.{InvalidRequest, UnexpectedRequest, DecryptError, RequestTooLarge}
+use Rattle.spdm_grammar.specs.declared.told.phase.Phase.{Phase}
+use Rattle.spdm_grammar.specs.declared.told.phase.Stage.{Stage}
+use Rattle.spdm_grammar.specs.declared.told.phase.Stage.TheVariants.{Handshake, Open, Verifying}
 use Rattle.responder_machine.specs.Answer.{Free}
 use Rattle.responder_machine.specs.Handling.{turn_of, refused_turn, version_in}
 use Rattle.responder_machine.specs.History.{History, Entry, Kept, KeptRecord, kept_of, ended_of, phase_of, clear_turns}

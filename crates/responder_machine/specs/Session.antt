@@ -4,8 +4,8 @@ use Rattle.std.specs.Prelude.{◌+◌, ◌*◌, ◌==◌, ◌&&◌, ◌||◌, no
 use Rattle.byteorder.specs.Endian.{little_number}
 use Rattle.running_hash.specs.Hash.{Hash, hash_of}
 use Rattle.spdm_basis.specs.SessionIdBytes.{session_id_bytes}
-use Rattle.spdm_grammar.specs.declared.phase.Stage.{Stage}
-use Rattle.spdm_grammar.specs.declared.phase.Stage.TheVariants.{Handshake, Open, Verifying}
+use Rattle.spdm_grammar.specs.declared.told.phase.Stage.{Stage}
+use Rattle.spdm_grammar.specs.declared.told.phase.Stage.TheVariants.{Handshake, Open, Verifying}
 use Rattle.responder_machine.specs.History.{History, KeptRecord, clear_turns, negotiation_of}
 use Rattle.responder_machine.specs.History.Entry.{Clear, Sealed, Queued, Ticked, Dropped}
 use Rattle.spdm_machine.specs.Terms.{Terms, no_negotiation, terms_of}

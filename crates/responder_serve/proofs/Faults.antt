@@ -1,6 +1,6 @@
 -- What a fault that is told says of the call.
 use Rattle.std.proofs.Common.{ℕ, List, Option, refl}
-use Rattle.configured_ends.specs.Configured.{IsResponderFault}
+use Rattle.script_ends.specs.Configured.{IsResponderFault}
 use Rattle.frame_stream.specs.Runs.{Counts}
 use Rattle.responder.specs.declared.fault.RspConfigFault.{RspConfigFault}
 use Rattle.responder.specs.declared.fault.RspConfigFault.TheVariants as answering
@@ -11,7 +11,7 @@ use Rattle.responder_serve.specs.declared.answering.Server.{Server}
 use Rattle.responder_serve.specs.declared.fault.ServeFault.{ServeFault}
 use Rattle.responder_serve.specs.declared.fault.ServeFault.TheVariants as fault
 use Rattle.responder_machine.specs.Responding.{Responding}
-use Rattle.script_text.specs.declared.config.ScriptConfig.{ScriptConfig}
+use Rattle.script_text.specs.declared.configuration.config.ScriptConfig.{ScriptConfig}
 
 pub responder_cause : (c : ScriptConfig) (f : RspConfigFault) → IsResponderFault c f → IsEarly c (of_responder f)
 responder_cause c answering.TooManyRequesters is = is

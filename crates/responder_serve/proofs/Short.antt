@@ -16,8 +16,8 @@ use Rattle.responder_machine.specs.Setup.{RspPart, RspSetup}
 use Rattle.responder_machine.specs.Does.{responder_does}
 use Rattle.responder_machine.specs.Responder.{body_of}
 use Rattle.spdm_basis.specs.declared.DropCause.TheVariants.{NotOurs}
-use Rattle.spdm_grammar.specs.declared.heard.Heard.TheVariants as heard
-use Rattle.spdm_grammar.specs.declared.heard.RspIgnored.TheVariants as ignored
+use Rattle.spdm_grammar.specs.declared.told.heard.Heard.TheVariants as heard
+use Rattle.spdm_grammar.specs.declared.told.heard.RspIgnored.TheVariants as ignored
 use Rattle.spdm_machine.specs.Packets.{body_type, fields_in, gathered_from}
 use Rattle.spdm_basis.specs.declared.PacketFault.{PacketFault}
 use Rattle.spdm_machine.specs.Keys.{Draw}

@@ -1,12 +1,12 @@
 -- What a responder writes on a stream of frames. This project's own.
 use Rattle.std.specs.Prelude.{◌≡◌, ◌++◌, ℕ, List, [], ◌∷◌, true, false, Option, Some}
-use Rattle.configured_ends.specs.Configured.{responder_end}
+use Rattle.script_ends.specs.Configured.{responder_end}
 use Rattle.frame_stream.specs.Frames.{Begin, Ending, GivenFrame, IsStream, stream_limit}
 use Rattle.frame_stream.specs.Frames.GivenFrame.{PacketOf, TicksOf, CommandOf}
 use Rattle.frame_stream.specs.Packets.{packet_frames}
 use Rattle.frame_stream.specs.declared.kinds.Kinds.{Kinds}
 use Rattle.responder_machine.specs.Responding.{Responding, new_responding, responder_hears, ticks}
-use Rattle.script_text.specs.declared.config.ScriptConfig.{ScriptConfig}
+use Rattle.script_text.specs.declared.configuration.config.ScriptConfig.{ScriptConfig}
 use Rattle.spdm_basis.specs.Stream.{Takes, TakesPrefix}
 
 -- A responder reads packets and seconds that passed, and no commands.

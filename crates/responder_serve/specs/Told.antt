@@ -1,13 +1,13 @@
 -- Faults of what stands below, as they are told of serving a stream. This project's own.
 use Rattle.std.specs.Prelude.{◌≡◌, ℕ, List, Option, Some}
-use Rattle.configured_ends.specs.Configured.{HasResponderFault}
+use Rattle.script_ends.specs.Configured.{HasResponderFault}
 use Rattle.frame_stream.specs.declared.kinds.FrameFault.{FrameFault}
 use Rattle.frame_stream.specs.declared.kinds.FrameFault.TheVariants as frame
 use Rattle.responder_serve.specs.declared.fault.ServeFault.{ServeFault}
 use Rattle.responder.specs.declared.fault.RspConfigFault.{RspConfigFault}
 use Rattle.responder.specs.declared.fault.RspConfigFault.TheVariants as answering
 use Rattle.responder_serve.specs.declared.fault.ServeFault.TheVariants.{BadFrame, OutOfMemory, ReadFault, Responder, TooLong}
-use Rattle.script_text.specs.declared.config.ScriptConfig.{ScriptConfig}
+use Rattle.script_text.specs.declared.configuration.config.ScriptConfig.{ScriptConfig}
 
 -- A fault of the stream.
 abbrev pub told_of : FrameFault → ServeFault

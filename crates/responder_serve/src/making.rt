@@ -4,7 +4,7 @@ ghost use Rattle.responder_serve.specs.Served.{responder_of};
 ghost use Rattle.responder_serve.specs.Told.{IsEarly, of_responder};
 
 use crate::ServeFault;
-use configured_ends::make_responder;
+use script_ends::make_responder;
 use responder::{Responder, RspConfigFault};
 use script_text::ScriptConfig;
 use std::alloc::Global;

@@ -15,10 +15,10 @@ use Rattle.responder_machine.specs.SizeLaws.{HasSizes}
 use Rattle.responder_machine.specs.Turn.{updates}
 use Rattle.spdm_grammar.specs.Message.{ChunkMessage, RequestMessage, request_message}
 use Rattle.spdm_grammar.specs.Message.RequestMessage.{ChunkSend, KeyUpdate}
-use Rattle.spdm_grammar.specs.declared.error_code.ErrorCode.{ErrorCode}
-use Rattle.spdm_grammar.specs.declared.phase.Stage.{Stage}
-use Rattle.spdm_grammar.specs.declared.request.Request.{Request}
-use Rattle.spdm_grammar.specs.declared.request.Request.TheVariants as request
+use Rattle.spdm_grammar.specs.declared.messages.error_code.ErrorCode.{ErrorCode}
+use Rattle.spdm_grammar.specs.declared.told.phase.Stage.{Stage}
+use Rattle.spdm_grammar.specs.declared.messages.request.Request.{Request}
+use Rattle.spdm_grammar.specs.declared.messages.request.Request.TheVariants as request
 use Rattle.responder_session.proofs.Allowed.{is_handled, only_handled}
 use Rattle.responder_session.proofs.Contents.{inner-refused}
 use Rattle.responder_session.proofs.Finish.{allowed_code}

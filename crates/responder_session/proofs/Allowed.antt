@@ -15,10 +15,10 @@ use Rattle.spdm_basis.specs.Sizes.{hash_size}
 use Rattle.responder_machine.specs.Answer.{request_at}
 use Rattle.spdm_grammar.specs.Message.{RequestMessage, request_message}
 use Rattle.spdm_grammar.specs.Message.RequestMessage.{GetVersion, GetCapabilities, NegotiateAlgorithms, GetMeasurements, PskExchange, PskFinish, Heartbeat, KeyUpdate, EndSession, ChunkSend, ChunkGet}
-use Rattle.spdm_grammar.specs.declared.phase.Stage.{Stage}
-use Rattle.spdm_grammar.specs.declared.phase.Stage.TheVariants.{Handshake, Open, Verifying}
-use Rattle.spdm_grammar.specs.declared.request.Request.{Request}
-use Rattle.spdm_grammar.specs.declared.request.Request.TheVariants as request
+use Rattle.spdm_grammar.specs.declared.told.phase.Stage.{Stage}
+use Rattle.spdm_grammar.specs.declared.told.phase.Stage.TheVariants.{Handshake, Open, Verifying}
+use Rattle.spdm_grammar.specs.declared.messages.request.Request.{Request}
+use Rattle.spdm_grammar.specs.declared.messages.request.Request.TheVariants as request
 use Rattle.responder_session.proofs.Finish.{allowed_code}
 use Rattle.responder_session.specs.Deeds.{IsAllowed}
 

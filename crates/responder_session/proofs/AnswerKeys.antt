@@ -5,7 +5,7 @@ use Rattle.key_schedule.specs.Purpose.{Purpose}
 use Rattle.responder_machine.specs.Records.{reply_number, response_purpose}
 use Rattle.responder_machine.specs.Session.{Events, id_bytes, response_epoch, response_next, session_terms}
 use Rattle.responder_machine.specs.Turn.{Turn, updates}
-use Rattle.spdm_basis.specs.declared.record_fault.RecordFault.{RecordFault}
+use Rattle.spdm_basis.specs.declared.causes.record_fault.RecordFault.{RecordFault}
 use Rattle.responder_session.proofs.Moves.{if_no}
 use Rattle.responder_session.specs.OwnAnswers.{IsAnswerKey, IsKeyOfNext, IsKeyOfReply}
 use Rattle.responder_session.specs.declared.answer_key.AnswerKey.{AnswerKey}

@@ -4,7 +4,7 @@ use Rattle.std.proofs.Math.Seq.{take-append_seam}
 use Rattle.byteorder.specs.Numbers.{little_number-reads_back}
 use Rattle.running_hash.specs.Hash.{hash_of}
 use Rattle.spdm_basis.specs.Sizes.{hash_size}
-use Rattle.spdm_basis.specs.declared.hash_alg.HashAlg.{HashAlg}
+use Rattle.spdm_basis.specs.declared.values.hash_alg.HashAlg.{HashAlg}
 use Rattle.spdm_machine.specs.Sessions.{id_in_exchange}
 use Rattle.transcript.specs.Transcripts.{without_verify}
 use Rattle.responder_session.specs.Exchange.{answer_with}

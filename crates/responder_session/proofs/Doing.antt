@@ -15,9 +15,9 @@ use Rattle.spdm_grammar.specs.Message.{RequestMessage, request_message}
 use Rattle.spdm_grammar.specs.Message.RequestMessage.{GetMeasurements, Heartbeat, KeyUpdate, EndSession, PskFinish}
 use Rattle.spdm_grammar.specs.Message.ResponseMessage.{HeartbeatAck, EndSessionAck, KeyUpdateAck, PskFinishRsp}
 use Rattle.spdm_grammar.specs.Responses.{canonical_response}
-use Rattle.spdm_grammar.specs.declared.request.Request.{Request}
-use Rattle.spdm_grammar.specs.declared.error_code.ErrorCode.{ErrorCode}
-use Rattle.spdm_grammar.specs.declared.error_code.ErrorCode.TheVariants.{DecryptError, InvalidRequest, UnexpectedRequest, UnsupportedRequest, ResponseTooLarge}
+use Rattle.spdm_grammar.specs.declared.messages.request.Request.{Request}
+use Rattle.spdm_grammar.specs.declared.messages.error_code.ErrorCode.{ErrorCode}
+use Rattle.spdm_grammar.specs.declared.messages.error_code.ErrorCode.TheVariants.{DecryptError, InvalidRequest, UnexpectedRequest, UnsupportedRequest, ResponseTooLarge}
 use Rattle.spdm_grammar.specs.declared.names.TheConstants.{MAX_MESSAGE_SIZE}
 use Rattle.responder_session.proofs.Allowed.{has_flag, verify_in_verifying, update_in_open}
 use Rattle.responder_session.proofs.Contents.{turn-refused, turn-answered, turn-large, short_fits, short_is_small}

@@ -21,9 +21,9 @@ use Rattle.spdm_grammar.specs.Message.{RequestMessage}
 use Rattle.spdm_grammar.specs.Message.RequestMessage.{PskFinish}
 use Rattle.spdm_grammar.specs.Message.ResponseMessage.{PskFinishRsp}
 use Rattle.spdm_grammar.specs.Responses.{canonical_response}
-use Rattle.spdm_grammar.specs.declared.error_code.ErrorCode.{ErrorCode}
-use Rattle.spdm_grammar.specs.declared.error_code.ErrorCode.TheVariants.{DecryptError, ResponseTooLarge}
-use Rattle.spdm_grammar.specs.declared.phase.Stage.{Stage}
+use Rattle.spdm_grammar.specs.declared.messages.error_code.ErrorCode.{ErrorCode}
+use Rattle.spdm_grammar.specs.declared.messages.error_code.ErrorCode.TheVariants.{DecryptError, ResponseTooLarge}
+use Rattle.spdm_grammar.specs.declared.told.phase.Stage.{Stage}
 use Rattle.responder_session.proofs.Contents.{turn-refused, turn-answered, short_fits, short_is_small}
 use Rattle.responder_session.specs.Kept.{Keeps, kept_record}
 use Rattle.responder_session.specs.declared.kept.Kept.{Kept}

@@ -16,7 +16,7 @@ use Rattle.spdm_grammar.specs.declared.names.TheConstants.{MAX_MESSAGE_SIZE, MIN
 use Rattle.spdm_grammar.specs.Message.RequestMessage.{ChunkGet}
 use Rattle.spdm_grammar.specs.Message.ResponseMessage.{ChunkResponse}
 use Rattle.spdm_grammar.specs.Responses.{canonical_response}
-use Rattle.spdm_grammar.specs.declared.error_code.ErrorCode.TheVariants.{InvalidRequest}
+use Rattle.spdm_grammar.specs.declared.messages.error_code.ErrorCode.TheVariants.{InvalidRequest}
 use Rattle.responder_session.proofs.Contents.{turn-refused, turn-answered}
 use Rattle.responder_session.proofs.Allowed.{has_flag}
 use Rattle.responder_session.proofs.Doing.{measured_by}

@@ -4,8 +4,8 @@ use Rattle.std.specs.Prelude.{◌==◌, ◌||◌, if◌then◌else◌, None, Som
 use Rattle.responder_machine.specs.Records.{opening_fault, opened, request_purpose}
 use Rattle.responder_machine.specs.Session.{Events, session_terms, request_next, is_spent, id_bytes}
 use Rattle.spdm_basis.specs.SessionIdBytes.{session_id_bytes}
-use Rattle.spdm_basis.specs.declared.record_fault.RecordFault.{RecordFault}
-use Rattle.spdm_basis.specs.declared.record_fault.RecordFault.TheVariants.{KeySpent}
+use Rattle.spdm_basis.specs.declared.causes.record_fault.RecordFault.{RecordFault}
+use Rattle.spdm_basis.specs.declared.causes.record_fault.RecordFault.TheVariants.{KeySpent}
 use Rattle.spdm_machine.specs.Keys.{record_fault, inner_message}
 use Rattle.responder_session.specs.Kept.{Keeps}
 use Rattle.responder_session.specs.declared.kept.Kept.{Kept}

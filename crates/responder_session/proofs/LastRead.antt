@@ -10,9 +10,9 @@ use Rattle.responder_session.specs.Kept.{Keeps}
 use Rattle.responder_session.specs.LastRead.{last_opened, opens_last, opens_reply, reply_opened}
 use Rattle.responder_session.specs.declared.kept.Kept.{Kept}
 use Rattle.spdm_basis.specs.SessionIdBytes.{session_id_bytes}
-use Rattle.spdm_basis.specs.declared.record_fault.RecordFault.{RecordFault}
-use Rattle.spdm_basis.specs.declared.session_id.SessionId.{SessionId}
-use Rattle.spdm_grammar.specs.declared.choice.Choice.{Choice}
+use Rattle.spdm_basis.specs.declared.causes.record_fault.RecordFault.{RecordFault}
+use Rattle.spdm_basis.specs.declared.values.session_id.SessionId.{SessionId}
+use Rattle.spdm_grammar.specs.declared.messages.choice.Choice.{Choice}
 use Rattle.spdm_machine.specs.Keys.{inner_message, record_fault}
 
 -- ---- Under a purpose, by the number before this one.

@@ -3,8 +3,8 @@ use Rattle.std.proofs.Common.{refl, ◌≡◌, ◌∙◌, ◌+◌, ap, sym, subs
 use Rattle.std.proofs.lemmas.Bool.{false≢true}
 use Rattle.std.specs.Prelude.{◌||◌, ◌==◌, ◌%◌, not, if◌then◌else◌, Option, Some, None, is_some, unwrap_or}
 use Rattle.chunking.specs.Cutting.{chunks_of}
-use Rattle.request_rules.specs.LargeAnswer as large_answers
-use Rattle.request_rules.specs.LargeAnswer.{last_takes, left_by}
+use Rattle.responder_rules.specs.LargeAnswer as large_answers
+use Rattle.responder_rules.specs.LargeAnswer.{last_takes, left_by}
 use Rattle.responder_machine.specs.LargeMessages.{given_of, handle_of, large_of, larges_of}
 use Rattle.responder_machine.specs.Session.{Events, turns_of}
 use Rattle.responder_machine.specs.Session.Event.{Began, Heard, Waited}

@@ -11,7 +11,7 @@ use Rattle.responder_machine.specs.Turn.{Turn, is_data, takes, updates, request_
 use Rattle.session_keys.specs.Keys.{IsKeyOf}
 use Rattle.spdm_basis.specs.SessionIdBytes.{session_id_bytes}
 use Rattle.spdm_grammar.specs.declared.names.request_code.TheConstants.{PSK_FINISH, KEY_UPDATE}
-use Rattle.spdm_grammar.specs.declared.phase.Stage.TheVariants.{Open, Verifying}
+use Rattle.spdm_grammar.specs.declared.told.phase.Stage.TheVariants.{Open, Verifying}
 use Rattle.spdm_machine.specs.Keys.{sealed_of}
 use Rattle.spdm_machine.specs.Sessions.{purpose_in, transcript_in}
 use Rattle.transcript.specs.Transcripts as transcript

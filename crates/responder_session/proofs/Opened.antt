@@ -4,7 +4,7 @@ use Rattle.std.proofs.lemmas.Bool.Decides.{nat_tests}
 use Rattle.std.proofs.lemmas.Option.{none-some}
 use Rattle.std.specs.Prelude.{◌==◌, ◌&&◌, ◌||◌, not, nat_lt, Option, Some, None, slice_index}
 use Rattle.spdm_basis.specs.Tests.{first_of_tests}
-use Rattle.spdm_grammar.specs.declared.error_code.ErrorCode.TheVariants.{InvalidRequest, UnexpectedRequest, RequestTooLarge}
+use Rattle.spdm_grammar.specs.declared.messages.error_code.ErrorCode.TheVariants.{InvalidRequest, UnexpectedRequest, RequestTooLarge}
 use Rattle.responder_machine.specs.Answer.{Free}
 use Rattle.responder_machine.specs.Handling.{error_bytes, turn_of}
 use Rattle.responder_machine.specs.Place.{session_place}
@@ -12,9 +12,9 @@ use Rattle.responder_machine.specs.Refusal.{refused_form}
 use Rattle.responder_machine.specs.Responder.{session_turn, inner_refusal, is_open}
 use Rattle.responder_machine.specs.Session.{Events, stage_of}
 use Rattle.responder_machine.specs.Setup.{RspSetup}
-use Rattle.spdm_grammar.specs.declared.error_code.ErrorCode.{ErrorCode}
-use Rattle.spdm_grammar.specs.declared.phase.Stage.{Stage}
-use Rattle.spdm_grammar.specs.declared.phase.Stage.TheVariants.{Handshake, Open, Verifying}
+use Rattle.spdm_grammar.specs.declared.messages.error_code.ErrorCode.{ErrorCode}
+use Rattle.spdm_grammar.specs.declared.told.phase.Stage.{Stage}
+use Rattle.spdm_grammar.specs.declared.told.phase.Stage.TheVariants.{Handshake, Open, Verifying}
 use Rattle.responder_session.proofs.Contents.{inner-data, inner-refused, inner-spoken, turn-misfit}
 use Rattle.responder_session.specs.Deeds.{IsDeed, IsInnerDeed}
 use Rattle.responder_session.specs.declared.deed.Deed.{Deed}

@@ -4,8 +4,8 @@ use Rattle.std.proofs.lemmas.Bool.{false≢true}
 use Rattle.std.specs.Prelude.{◌||◌, ◌==◌, ◌%◌, ◌^◌, not, if◌then◌else◌, Option, Some, None}
 use Rattle.key_schedule.specs.Purpose.{Purpose}
 use Rattle.key_schedule.specs.declared.direction.Direction.TheVariants.{Request, Response}
-use Rattle.request_rules.specs.LargeAnswer as large_answers
-use Rattle.request_rules.specs.LargeAnswer.{effect_unseen, effect_with, last_takes, turn_unseen, turn_with, turns_unseen, turns_with}
+use Rattle.responder_rules.specs.LargeAnswer as large_answers
+use Rattle.responder_rules.specs.LargeAnswer.{effect_unseen, effect_with, last_takes, turn_unseen, turn_with, turns_unseen, turns_with}
 use Rattle.responder_machine.specs.Records.{request_purpose, response_purpose}
 use Rattle.responder_machine.specs.Session.{Events, exchange_answer, exchange_of, finish_answer, finish_of, idle_of, is_live, last_of, request_epoch, request_next, response_epoch, response_next, session_negotiation, session_terms, session_vca, stage_of, t1_of, t2_of, taken_of, turns_of}
 use Rattle.responder_machine.specs.Session.Event.{Began, Heard, Waited}
@@ -16,10 +16,10 @@ use Rattle.session_keys.specs.Handshake.{IsHandshakeOf}
 use Rattle.session_keys.specs.Keys.{IsKeyOf}
 use Rattle.spdm_grammar.specs.Codes.{code_for}
 use Rattle.spdm_grammar.specs.Message.{RequestMessage}
-use Rattle.spdm_grammar.specs.declared.choice.Choice.{Choice}
+use Rattle.spdm_grammar.specs.declared.messages.choice.Choice.{Choice}
 use Rattle.spdm_grammar.specs.declared.names.request_code.TheConstants.{CHUNK_GET, GET_MEASUREMENTS, KEY_UPDATE, PSK_FINISH}
-use Rattle.spdm_grammar.specs.declared.phase.Stage.{Stage}
-use Rattle.spdm_grammar.specs.declared.phase.Stage.TheVariants.{Handshake, Open, Verifying}
+use Rattle.spdm_grammar.specs.declared.told.phase.Stage.{Stage}
+use Rattle.spdm_grammar.specs.declared.told.phase.Stage.TheVariants.{Handshake, Open, Verifying}
 use Rattle.spdm_machine.specs.Sessions.{id_in_exchange, purpose_in, transcript_in}
 use Rattle.spdm_machine.specs.Terms.{terms_of}
 use Rattle.transcript.specs.Lane as lanes

@@ -13,9 +13,9 @@ use Rattle.responder_machine.specs.Session.{Events, session_of, id_in_record, is
 use Rattle.responder_machine.specs.Session.Event.{Began, Heard, Waited}
 use Rattle.responder_machine.specs.Setup.{RspSetup}
 use Rattle.responder_machine.specs.Turn.{Turn, is_data}
-use Rattle.spdm_basis.specs.declared.session_id.SessionId.{SessionId}
-use Rattle.spdm_grammar.specs.declared.error_code.ErrorCode.{ErrorCode}
-use Rattle.spdm_grammar.specs.declared.phase.Phase.{Phase}
+use Rattle.spdm_basis.specs.declared.values.session_id.SessionId.{SessionId}
+use Rattle.spdm_grammar.specs.declared.messages.error_code.ErrorCode.{ErrorCode}
+use Rattle.spdm_grammar.specs.declared.told.phase.Phase.{Phase}
 use Rattle.spdm_machine.specs.Bodies.{record_body}
 use Rattle.spdm_machine.specs.Keys.{Draw}
 use Rattle.responder_session.specs.Laws.{ToldIsRecord, TookIsRecord, told_as}
@@ -23,7 +23,7 @@ use Rattle.responder_session.specs.Staged.{BehindHasReply}
 use Rattle.responder_session.specs.Took.{act_by, turn_in, reply_in}
 use Rattle.responder_session.specs.declared.told.RspAct.TheVariants as act
 use Rattle.responder_session.specs.declared.told.RspTold.TheVariants as told
-use Rattle.spdm_grammar.specs.declared.heard.Heard.TheVariants as heard
+use Rattle.spdm_grammar.specs.declared.told.heard.Heard.TheVariants as heard
 use Rattle.responder_machine.specs.Refusal.{code_of}
 use Rattle.responder_session.specs.declared.took.RspTook.TheVariants as took
 

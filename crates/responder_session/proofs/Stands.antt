@@ -2,14 +2,14 @@
 use Rattle.std.proofs.Common.{◌≡◌, ◌∙◌, ◌++◌, ap, sym, subst, ℕ, ◌+◌, List, ◌∷◌, true, false}
 use Rattle.std.proofs.lemmas.Bool.{false≢true}
 use Rattle.std.specs.Prelude.{Some}
-use Rattle.request_rules.specs.LargeAnswer as large_answers
+use Rattle.responder_rules.specs.LargeAnswer as large_answers
 use Rattle.responder_machine.specs.Responder.{is_open}
 use Rattle.responder_machine.specs.Session.{Events, stage_of, session_terms, session_vca, exchange_of, exchange_answer, t1_of, turns_of, taken_of}
 use Rattle.responder_machine.specs.Session.Event.{Heard}
 use Rattle.responder_machine.specs.Turn.{Turn, is_data}
 use Rattle.session_keys.specs.Handshake.{IsHandshakeOf}
-use Rattle.spdm_grammar.specs.declared.phase.Stage.{Stage}
-use Rattle.spdm_grammar.specs.declared.phase.Stage.TheVariants as stages
+use Rattle.spdm_grammar.specs.declared.told.phase.Stage.{Stage}
+use Rattle.spdm_grammar.specs.declared.told.phase.Stage.TheVariants as stages
 use Rattle.spdm_machine.specs.Sessions.{is_past_handshake}
 use Rattle.transcript.specs.Lane as lanes
 use Rattle.responder_session.proofs.Moves.{if_no, same_stage, same_request_epoch, same_response_epoch}

@@ -15,7 +15,7 @@ use Rattle.spdm_basis.specs.SessionIdBytes.{session_id_bytes}
 use Rattle.spdm_grammar.specs.Message.{RequestMessage}
 use Rattle.spdm_grammar.specs.Message.RequestMessage.{GetMeasurements, Heartbeat}
 use Rattle.spdm_grammar.specs.declared.names.request_code.TheConstants.{CHUNK_GET}
-use Rattle.spdm_grammar.specs.declared.phase.Stage.TheVariants.{Open}
+use Rattle.spdm_grammar.specs.declared.told.phase.Stage.TheVariants.{Open}
 use Rattle.spdm_machine.specs.Keys.{sealed_of}
 use Rattle.responder_session.proofs.Moves.{kept_by}
 use Rattle.responder_session.proofs.Updating.{past_purpose, past_hash}

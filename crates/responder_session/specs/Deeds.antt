@@ -14,7 +14,7 @@ use Rattle.spdm_grammar.specs.Message.{RequestMessage}
 use Rattle.spdm_grammar.specs.Message.RequestMessage.{GetMeasurements, Heartbeat, EndSession, ChunkGet, PskFinish}
 use Rattle.spdm_grammar.specs.Message.ResponseMessage.{KeyUpdateAck, PskFinishRsp}
 use Rattle.spdm_grammar.specs.Responses.{canonical_response}
-use Rattle.spdm_grammar.specs.declared.phase.Stage.TheVariants as stage
+use Rattle.spdm_grammar.specs.declared.told.phase.Stage.TheVariants as stage
 use Rattle.responder_session.specs.Turns.{answered_turn}
 use Rattle.responder_session.specs.Updates.{HasEpochs, update_turn}
 use Rattle.responder_session.specs.declared.deed.Deed.{Deed}

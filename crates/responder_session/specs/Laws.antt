@@ -9,9 +9,9 @@ use Rattle.responder_machine.specs.Responder.{on_record, repeats, kept_record, d
 use Rattle.responder_machine.specs.Responder.Outcome.{Adds as AddsEntry, Same as SendsAgain, Unopened as StaysUnopened}
 use Rattle.responder_machine.specs.Session.{session_of, id_in_record, is_live, last_of, after_record}
 use Rattle.responder_machine.specs.Setup.{RspSetup}
-use Rattle.spdm_basis.specs.declared.session_id.SessionId.{SessionId}
-use Rattle.spdm_grammar.specs.declared.heard.Heard.{Heard}
-use Rattle.spdm_grammar.specs.declared.heard.Heard.TheVariants as heard
+use Rattle.spdm_basis.specs.declared.values.session_id.SessionId.{SessionId}
+use Rattle.spdm_grammar.specs.declared.told.heard.Heard.{Heard}
+use Rattle.spdm_grammar.specs.declared.told.heard.Heard.TheVariants as heard
 use Rattle.spdm_machine.specs.Bodies.{record_body}
 use Rattle.spdm_machine.specs.Keys.{Draw}
 use Rattle.responder_session.specs.Took.{IsTold, IsTook, turn_in, reply_in}

@@ -7,7 +7,7 @@ use Rattle.responder_machine.specs.Session.{Events, id_bytes, last_of, response_
 use Rattle.responder_machine.specs.Turn.{Turn}
 use Rattle.session_keys.specs.Keys.{IsKeyOf}
 use Rattle.spdm_basis.specs.SessionIdBytes.{session_id_bytes}
-use Rattle.spdm_grammar.specs.declared.choice.Choice.{Choice}
+use Rattle.spdm_grammar.specs.declared.messages.choice.Choice.{Choice}
 use Rattle.responder_session.specs.declared.answer_key.AnswerKey.{AnswerKey}
 
 -- It opens the record of this number in the session of this id, under the key of this purpose.

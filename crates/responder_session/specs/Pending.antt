@@ -1,8 +1,8 @@
 -- A session whose pending answer gets other bytes, or was never seen, for one who judges answers whose bytes come
 -- chunk by chunk. This project's own.
 use Rattle.std.specs.Prelude.{◌≡◌, ◌||◌, not, if◌then◌else◌, ℕ, List, [], ◌∷◌}
-use Rattle.request_rules.specs.LargeAnswer as large_answers
-use Rattle.request_rules.specs.LargeAnswer.{turn_unseen, turn_with}
+use Rattle.responder_rules.specs.LargeAnswer as large_answers
+use Rattle.responder_rules.specs.LargeAnswer.{turn_unseen, turn_with}
 use Rattle.responder_machine.specs.Session.{Events, exchange_answer, exchange_of, finish_answer, finish_of, idle_of, is_live, last_of, request_epoch, request_next, response_epoch, response_next, session_negotiation, session_terms, stage_of, taken_of, turns_of}
 use Rattle.responder_machine.specs.Session.Event.{Heard}
 use Rattle.responder_machine.specs.Turn.{Turn, is_taken, takes}

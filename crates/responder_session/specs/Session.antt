@@ -1,10 +1,10 @@
 -- A session at the responder in every stage.
 use Rattle.std.specs.Prelude.{◌≡◌, ◌++◌, ℕ, List, Some, None}
-use Rattle.request_rules.specs.LargeAnswer as large_answers
+use Rattle.responder_rules.specs.LargeAnswer as large_answers
 use Rattle.responder_machine.specs.Session.{Events, stage_of, session_terms, session_vca, exchange_of, exchange_answer, t1_of, turns_of, request_epoch, response_epoch, taken_of}
 use Rattle.session_keys.specs.Handshake.{IsHandshakeOf}
 use Rattle.spdm_basis.specs.SessionIdBytes.{session_id_bytes}
-use Rattle.spdm_grammar.specs.declared.phase.Stage.TheVariants.{Handshake}
+use Rattle.spdm_grammar.specs.declared.told.phase.Stage.TheVariants.{Handshake}
 use Rattle.transcript.specs.Lane as lanes
 use Rattle.responder_session.specs.Data.{data_of}
 use Rattle.responder_session.specs.Kept.{Keeps, kept_record}

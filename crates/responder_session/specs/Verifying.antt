@@ -1,7 +1,7 @@
 -- A session at the responder whose keys were updated, and that awaits VerifyNewKey.
 use Rattle.std.specs.Prelude.{◌≡◌, ℕ, List}
 use Rattle.responder_machine.specs.Session.{Events, stage_of}
-use Rattle.spdm_grammar.specs.declared.phase.Stage.TheVariants as stage
+use Rattle.spdm_grammar.specs.declared.told.phase.Stage.TheVariants as stage
 use Rattle.responder_session.specs.Session as sessions
 use Rattle.responder_session.specs.declared.verifying.RspVerifying.{RspVerifying}
 

@@ -18,7 +18,7 @@ impl AnswerKey {
     ghost use Rattle.std.specs.Prelude.{◌≡◌, ◌≤◌, ◌<◌, ◌+◌, ◌-◌, ◌^◌, ℕ, List, None, Some, OnErr, OnOk, MatchResult, length};
     ghost use Rattle.key_schedule.specs.Purpose.{Purpose, iv_of, key_of};
     ghost use Rattle.secured_record.specs.Faults.{opened_text};
-    ghost use Rattle.spdm_grammar.specs.declared.choice.Choice.{Choice};
+    ghost use Rattle.spdm_grammar.specs.declared.messages.choice.Choice.{Choice};
     ghost use Rattle.spdm_machine.specs.Keys.{inner_message, record_fault};
     ghost use Rattle.responder_session.specs.OwnAnswers.{IsAnswerKey};
 

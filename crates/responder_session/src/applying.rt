@@ -2,7 +2,7 @@ ghost use Rattle.std.specs.Prelude.{◌≡◌, ◌≤◌, length};
 
 use crate::deed::Deed;
 use crate::{RspAct, RspSession};
-use request_rules::write_large_response;
+use responder_rules::write_large_response;
 use session_keys::{APP_DATA, SPDM_MESSAGE, byte_at};
 use spdm_basis::{Buffer, Frame, RecordFrame};
 use spdm_grammar::Stage;
@@ -37,9 +37,9 @@ impl RspSession {
     ghost use Rattle.spdm_grammar.specs.Message.RequestMessage.{GetMeasurements, EndSession, ChunkGet, PskFinish};
     ghost use Rattle.spdm_grammar.specs.Message.ResponseMessage.{KeyUpdateAck, PskFinishRsp};
     ghost use Rattle.spdm_grammar.specs.Responses.{canonical_response};
-    ghost use Rattle.spdm_grammar.specs.declared.error_code.ErrorCode.{ErrorCode};
+    ghost use Rattle.spdm_grammar.specs.declared.messages.error_code.ErrorCode.{ErrorCode};
     ghost use Rattle.spdm_grammar.specs.declared.names.TheConstants.{MAX_MESSAGE_SIZE};
-    ghost use Rattle.spdm_grammar.specs.declared.phase.Stage.TheVariants.{Handshake, Open, Verifying};
+    ghost use Rattle.spdm_grammar.specs.declared.told.phase.Stage.TheVariants.{Handshake, Open, Verifying};
     ghost use Rattle.responder_session.specs.Deeds.{IsFit, is_quiet, is_whole, large_turn, turn_for};
     ghost use Rattle.responder_session.specs.Session.{StandsFor, IsEnded};
     ghost use Rattle.responder_session.specs.Took.{IsMoved};

@@ -102,7 +102,7 @@ impl Exchange {
     ghost use Rattle.running_hash.specs.Hash.{hash_of};
     ghost use Rattle.session_keys.specs.Handshake.{IsHandshakeOf};
     ghost use Rattle.spdm_basis.specs.Sizes.{hash_size};
-    ghost use Rattle.spdm_grammar.specs.declared.choice.Choice.{Choice};
+    ghost use Rattle.spdm_grammar.specs.declared.messages.choice.Choice.{Choice};
     ghost use Rattle.spdm_machine.specs.Keys.{verify_data};
     ghost use Rattle.transcript.specs.Lane as lanes;
     ghost use Rattle.transcript.specs.Transcripts.{without_verify};

@@ -5,8 +5,8 @@ ghost use Rattle.responder_machine.specs.Place.{session_place};
 ghost use Rattle.responder_machine.specs.Responder.{inner_refusal};
 ghost use Rattle.responder_machine.specs.Session.{Events};
 ghost use Rattle.responder_machine.specs.Setup.{RspSetup};
-ghost use Rattle.request_rules.specs.Place.{IsPlace};
-ghost use Rattle.spdm_grammar.specs.declared.error_code.ErrorCode.TheVariants.{ResponseTooLarge};
+ghost use Rattle.responder_rules.specs.Place.{IsPlace};
+ghost use Rattle.spdm_grammar.specs.declared.messages.error_code.ErrorCode.TheVariants.{ResponseTooLarge};
 ghost use Rattle.responder_session.specs.declared.deed.Deed.TheVariants as deed;
 
 use crate::answers::{write_alive, write_data, write_ended, write_finish_answer};
@@ -14,7 +14,7 @@ use crate::deed::Deed;
 use crate::requests::{give, measure, update};
 use crate::{RecordFree, RspSession};
 use measurements::Inventory;
-use request_rules::Place;
+use responder_rules::Place;
 use session_keys::{APP_DATA, MOST_DATA, SPDM_MESSAGE, behind_type, byte_at};
 use spdm_basis::Frame;
 use spdm_grammar::{ErrorCode, Request, Stage};
@@ -52,14 +52,14 @@ pub fn refused<'a>(place: &Place, code: ErrorCode, message: &[u8], out: &mut Fra
 
 impl RspSession {
     ghost use Rattle.std.specs.Prelude.{◌≡◌, ◌≤◌, ℕ, List, MatchOption, Ok, drop, length};
-    ghost use Rattle.request_rules.specs.Place.{IsPlace, IsRead};
+    ghost use Rattle.responder_rules.specs.Place.{IsPlace, IsRead};
     ghost use Rattle.responder_machine.specs.Answer.{Free};
     ghost use Rattle.responder_machine.specs.Place.{session_place};
     ghost use Rattle.responder_machine.specs.Session.{Events, session_terms, stage_of};
     ghost use Rattle.responder_machine.specs.Setup.{RspSetup, inventory_of};
     ghost use Rattle.responder_machine.specs.SizeLaws.{HasSizes};
     ghost use Rattle.spdm_grammar.specs.Message.RequestMessage.{PskFinish};
-    ghost use Rattle.spdm_grammar.specs.declared.phase.Stage.TheVariants.{Open};
+    ghost use Rattle.spdm_grammar.specs.declared.told.phase.Stage.TheVariants.{Open};
     ghost use Rattle.responder_session.specs.Deeds.{AreGiven, IsAllowed, IsDeed, IsInnerDeed};
     ghost use Rattle.responder_session.specs.Session.{StandsFor};
 

@@ -1,13 +1,13 @@
 ghost use Rattle.std.specs.Prelude.{◌≡◌, ◌<◌, ◌+◌, ◌-◌, ◌^◌};
 ghost use Rattle.key_schedule.specs.Purpose.{Purpose};
 ghost use Rattle.session_keys.specs.Keys.{IsKeyOf};
-ghost use Rattle.spdm_grammar.specs.declared.choice.Choice.{Choice};
+ghost use Rattle.spdm_grammar.specs.declared.messages.choice.Choice.{Choice};
 
 use crate::answers::write_inner;
 use crate::last::LastRecord;
 use crate::number::NextNumber;
 use key_schedule::AppKeys;
-use request_rules::{Place, Where};
+use responder_rules::{Place, Where};
 use secured_record::{RecordFault, RecordKey};
 use session_keys::{Handshake, SessionTerms, open_record, seal_record};
 use spdm_basis::{HashBytes, RecordFrame, SessionId};
@@ -51,7 +51,7 @@ impl Kept {
     ghost use Rattle.std.specs.Prelude.{◌≡◌, ◌≤◌, ◌<◌, ◌+◌, ◌-◌, ◌∷◌, ◌^◌, ◌==◌, ◌||◌, ℕ, List, None, Some, false, OnOk, MatchResult, length};
     ghost use Rattle.key_schedule.specs.Purpose.{Purpose, application_record};
     ghost use Rattle.key_schedule.specs.declared.direction.Direction.TheVariants.{Request, Response};
-    ghost use Rattle.request_rules.specs.Place.{IsPlace};
+    ghost use Rattle.responder_rules.specs.Place.{IsPlace};
     ghost use Rattle.responder_machine.specs.Heard.{view_of};
     ghost use Rattle.responder_machine.specs.Place.{session_place};
     ghost use Rattle.responder_machine.specs.Records.{opening_fault, opened, reply_record};
@@ -63,7 +63,7 @@ impl Kept {
     ghost use Rattle.session_keys.specs.Keys.{IsKeyOf};
     ghost use Rattle.session_keys.specs.Terms.{AreTermsOf};
     ghost use Rattle.spdm_basis.specs.SessionIdBytes.{session_id_bytes};
-    ghost use Rattle.spdm_grammar.specs.declared.choice.Choice.{Choice};
+    ghost use Rattle.spdm_grammar.specs.declared.messages.choice.Choice.{Choice};
     ghost use Rattle.spdm_grammar.specs.declared.names.TheConstants.{MAX_MESSAGE_SIZE};
     ghost use Rattle.spdm_machine.specs.Keys.{sealed_of};
     ghost use Rattle.spdm_machine.specs.Sessions.{id_in_exchange};

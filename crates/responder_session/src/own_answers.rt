@@ -1,5 +1,5 @@
 ghost use Rattle.std.specs.Prelude.{◌≡◌, ℕ, None, Some, Ok};
-ghost use Rattle.request_rules.specs.Place.{IsPlace, IsRead};
+ghost use Rattle.responder_rules.specs.Place.{IsPlace, IsRead};
 ghost use Rattle.responder_machine.specs.Answer.{Free, request_at};
 ghost use Rattle.responder_machine.specs.Handling.{turn_of};
 ghost use Rattle.responder_machine.specs.Place.{session_place};
@@ -14,7 +14,7 @@ use crate::judging::inner_refusal;
 use crate::requests::{UPDATE_ALL_KEYS, fits_stage};
 use crate::session::ended_fault;
 use crate::{AnswerKey, RspSession};
-use request_rules::Place;
+use responder_rules::Place;
 use secured_record::RecordFault;
 use session_keys::{SPDM_MESSAGE, behind_type, byte_at};
 use spdm_basis::RecordFrame;

@@ -3,7 +3,7 @@ use crate::RspSession;
 // A large answer whose bytes come chunk by chunk, for one who judges it.
 impl RspSession {
     ghost use Rattle.std.specs.Prelude.{◌≡◌, ◌≤◌, ◌<◌, ◌+◌, ℕ, List, is_some, length, true};
-    ghost use Rattle.request_rules.specs.LargeAnswer.{last_takes};
+    ghost use Rattle.responder_rules.specs.LargeAnswer.{last_takes};
     ghost use Rattle.responder_machine.specs.LargeMessages.{large_of};
     ghost use Rattle.responder_machine.specs.Place.{session_place};
     ghost use Rattle.responder_machine.specs.Refusal.{has_pending};

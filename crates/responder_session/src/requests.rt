@@ -1,13 +1,13 @@
 ghost use Rattle.std.specs.Prelude.{◌≡◌, ◌≤◌, MatchOption, length};
-ghost use Rattle.request_rules.specs.LargeAnswer as large_answers;
-ghost use Rattle.request_rules.specs.Place.{IsPlace};
+ghost use Rattle.responder_rules.specs.LargeAnswer as large_answers;
+ghost use Rattle.responder_rules.specs.Place.{IsPlace};
 ghost use Rattle.responder_machine.specs.Answer.{Free};
 ghost use Rattle.responder_machine.specs.Place.{session_place};
 ghost use Rattle.responder_machine.specs.Refusal as refusal;
 ghost use Rattle.responder_machine.specs.Session.{Events, session_terms, stage_of, turns_of};
 ghost use Rattle.responder_machine.specs.Setup.{RspSetup, inventory_of};
 ghost use Rattle.spdm_grammar.specs.Message.RequestMessage.{ChunkGet, GetMeasurements, KeyUpdate};
-ghost use Rattle.spdm_grammar.specs.declared.phase.Stage.TheVariants.{Open};
+ghost use Rattle.spdm_grammar.specs.declared.told.phase.Stage.TheVariants.{Open};
 ghost use Rattle.responder_session.specs.Deeds.{AreFree, AreGiven, IsAllowed, IsDeed};
 ghost use Rattle.responder_session.specs.Updates.{HasEpochs};
 
@@ -16,7 +16,7 @@ use crate::answers::{write_chunk, write_update_answer};
 use crate::deed::Deed;
 use crate::judging::refused;
 use measurements::Inventory;
-use request_rules::{LargeAnswer, Place, write_measurements};
+use responder_rules::{LargeAnswer, Place, write_measurements};
 use spdm_basis::Frame;
 use spdm_grammar::{ErrorCode, Stage};
 

@@ -7,7 +7,7 @@ use crate::exchange::{Exchange, handshake_with, write_answer};
 use crate::kept::Kept;
 use crate::{ExchangeParts, RecordFree, RspTold, Work};
 use measurements::Inventory;
-use request_rules::{LargeAnswer, Place};
+use responder_rules::{LargeAnswer, Place};
 use secured_record::RecordFault;
 use session_keys::{SessionTerms, behind_type, same_bytes};
 use spdm_basis::{Buffer, Frame, Psk, SessionId};
@@ -53,7 +53,7 @@ pub fn ended_fault(id: SessionId, sealed: &[u8]) -> RecordFault
 
 impl RspSession {
     ghost use Rattle.std.specs.Prelude.{◌≡◌, ◌≤◌, ◌<◌, ◌^◌, ℕ, List, None, Some, MatchOption, length};
-    ghost use Rattle.request_rules.specs.Place.{IsPlace};
+    ghost use Rattle.responder_rules.specs.Place.{IsPlace};
     ghost use Rattle.responder_machine.specs.Answer.{Free};
     ghost use Rattle.responder_machine.specs.Heard.{view_of};
     ghost use Rattle.responder_machine.specs.Place.{session_place};
@@ -62,7 +62,7 @@ impl RspSession {
     ghost use Rattle.responder_machine.specs.Setup.{RspSetup, inventory_of};
     ghost use Rattle.responder_machine.specs.SizeLaws.{HasSizes};
     ghost use Rattle.session_keys.specs.Terms.{AreTermsOf};
-    ghost use Rattle.spdm_grammar.specs.declared.phase.Stage.TheVariants.{Handshake, Open};
+    ghost use Rattle.spdm_grammar.specs.declared.told.phase.Stage.TheVariants.{Handshake, Open};
     ghost use Rattle.transcript.specs.Transcripts.{Negotiation, vca_of};
     ghost use Rattle.responder_session.specs.Deeds.{AreGiven};
     ghost use Rattle.responder_session.specs.EndedTook.{IsEndedTold};

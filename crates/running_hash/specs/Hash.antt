@@ -3,8 +3,8 @@ use Rattle.std.specs.Prelude.{ℕ, List}
 use Rattle.sha2.specs.Sha256.{sha256}
 use Rattle.sha2.specs.Sha512.{sha384}
 use Rattle.spdm_basis.specs.Sizes.{hash_size}
-use Rattle.spdm_basis.specs.declared.hash_alg.HashAlg.{HashAlg}
-use Rattle.spdm_basis.specs.declared.hash_alg.HashAlg.TheVariants.{Sha256, Sha384}
+use Rattle.spdm_basis.specs.declared.values.hash_alg.HashAlg.{HashAlg}
+use Rattle.spdm_basis.specs.declared.values.hash_alg.HashAlg.TheVariants.{Sha256, Sha384}
 
 -- A hash function, with the length of its output and of the blocks that it takes its input in, in bytes.
 pub record Hash : Type 0 where

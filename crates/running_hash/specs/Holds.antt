@@ -1,8 +1,8 @@
 -- What a running hash runs, and what it was given so far. This project's own.
 use Rattle.std.specs.Prelude.{ℕ, List}
 use Rattle.sha2.specs.Hashers.{Holds256, Holds384}
-use Rattle.spdm_basis.specs.declared.hash_alg.HashAlg.{HashAlg}
-use Rattle.spdm_basis.specs.declared.hash_alg.HashAlg.TheVariants.{Sha256, Sha384}
+use Rattle.spdm_basis.specs.declared.values.hash_alg.HashAlg.{HashAlg}
+use Rattle.spdm_basis.specs.declared.values.hash_alg.HashAlg.TheVariants.{Sha256, Sha384}
 use Rattle.running_hash.specs.declared.RunningHash.{RunningHash}
 use Rattle.running_hash.specs.declared.RunningHash.TheVariants.{Small, Large}
 

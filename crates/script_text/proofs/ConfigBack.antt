@@ -5,10 +5,10 @@ use Rattle.std.proofs.lemmas.Bool.{and_parts, ne_eqb}
 use Rattle.std.proofs.lemmas.Bool.Decides.{nat_tests}
 use Rattle.std.proofs.lemmas.List.{append-nil, map-append, length-map}
 use Rattle.std.specs.Str.{bytes_eq}
-use Rattle.spdm_grammar.specs.declared.block_spec.BlockSpec.{BlockSpec}
-use Rattle.spdm_grammar.specs.declared.choice.Pick.{Pick}
-use Rattle.spdm_grammar.specs.declared.choice.Pick.TheVariants.{Small, Large, Both}
-use Rattle.spdm_grammar.specs.declared.choice.Suites.{Suites}
+use Rattle.spdm_grammar.specs.declared.told.block_spec.BlockSpec.{BlockSpec}
+use Rattle.spdm_grammar.specs.declared.messages.choice.Pick.{Pick}
+use Rattle.spdm_grammar.specs.declared.messages.choice.Pick.TheVariants.{Small, Large, Both}
+use Rattle.spdm_grammar.specs.declared.messages.choice.Suites.{Suites}
 use Rattle.script_text.specs.Choices.{small_suites}
 use Rattle.script_text.specs.Configuring.{config_of, nothing_given, has_block, requester_has_eid, has_psk, with_suites}
 use Rattle.script_text.specs.Lines.{lines_of, words_of, word, is_too_long, is_passed_over}
@@ -17,13 +17,13 @@ use Rattle.script_text.specs.Printing.{with_line, with_seed, with_opaque, with_b
 use Rattle.script_text.specs.Reading.{line_fault, after_line}
 use Rattle.script_text.specs.ScriptText.{script_fault, after_script, script_in}
 use Rattle.script_text.specs.Sound.{IsSoundConfig, is_sound_block, are_sound_blocks, is_sound_requester, are_sound_requesters, are_bytes_in, is_sound_end, are_sound_events, AreNumbered}
-use Rattle.script_text.specs.Spelling.{with_words, requester_word}
-use Rattle.script_text.specs.declared.config.ReqPart.{ReqPart}
-use Rattle.script_text.specs.declared.config.ScriptConfig.{ScriptConfig}
-use Rattle.script_text.specs.declared.given.Given.{Given}
-use Rattle.script_text.specs.declared.given.RspLine.{RspLine}
-use Rattle.script_text.specs.declared.script.Script.{Script}
-use Rattle.script_text.specs.declared.script_lines.ScriptReader.{ScriptReader}
+use Rattle.trace_text.specs.Spelling.{with_words, requester_word}
+use Rattle.script_text.specs.declared.configuration.config.ReqPart.{ReqPart}
+use Rattle.script_text.specs.declared.configuration.config.ScriptConfig.{ScriptConfig}
+use Rattle.script_text.specs.declared.configuration.given.Given.{Given}
+use Rattle.script_text.specs.declared.configuration.given.RspLine.{RspLine}
+use Rattle.script_text.specs.declared.texts.script.Script.{Script}
+use Rattle.script_text.specs.declared.texts.script_lines.ScriptReader.{ScriptReader}
 use Rattle.script_text.proofs.PlainWords.{length-with_words, long_words}
 use Rattle.script_text.proofs.PrintedConfig.{IsTaken, seed_taken, opaque_taken, block_taken, end_taken}
 use Rattle.script_text.proofs.PrintedEnds.{small, line_of_responder, responder_taken, requester_taken, responder_suite_taken, requester_suite_taken}

@@ -1,8 +1,8 @@
 -- One more event of a generated script.
 use Rattle.std.proofs.Common.{◌≡◌, ℕ, suc, ◌+◌, ◌++◌, List, [], ◌∷◌, add-one, ap, ◌∙◌}
 use Rattle.script_text.specs.Generator.{drawn, next_drawn, events_up_to, generated_event, entry_at}
-use Rattle.script_text.specs.declared.event.Entry.{Entry}
-use Rattle.script_text.specs.declared.event.LinkEvent.{LinkEvent}
+use Rattle.script_text.specs.declared.events.event.Entry.{Entry}
+use Rattle.script_text.specs.declared.events.event.LinkEvent.{LinkEvent}
 
 pub drawn-more : (seed i x y : ℕ) → x ≡ drawn seed i → y ≡ next_drawn x → y ≡ drawn seed (i + 1)
 unfolding drawn

@@ -2,7 +2,7 @@
 use Rattle.std.proofs.Common.{◌≡◌, ◌∙◌, ℕ, ◌≤◌, ◌<◌, ap, subst, arith, Option, Some, None}
 use Rattle.std.specs.Prelude.{IfSome}
 use Rattle.std.proofs.Math.Bridge.{le_prop}
-use Rattle.spdm_basis.specs.declared.eid.Eid.{Eid}
+use Rattle.spdm_basis.specs.declared.values.eid.Eid.{Eid}
 use Rattle.script_text.specs.EndPoints.{eid_of}
 
 abbrev end_point : (n : ℕ) → 8 ≤ n → n < 255 → Eid

@@ -4,9 +4,6 @@ mod LineWords
 mod HexLengths
 mod Requesters
 mod Letters
-mod Decimals
-pub mod HexText
-mod Folding
 mod Drawn
 mod PrintedNumbers
 mod PrintedLines
@@ -19,4 +16,3 @@ mod PrintedConfig
 mod PrintedEnds
 mod ConfigBack
 mod Searching
-mod PairDigits

@@ -8,10 +8,10 @@ use Rattle.std.proofs.lemmas.List.Sums.{AllPass-from_list_all}
 use Rattle.hex.specs.Hex.{lower_digits}
 use Rattle.script_text.specs.Printing.{event_words}
 use Rattle.script_text.specs.Sound.{is_within, is_sound_event, fits_word, are_bytes}
-use Rattle.script_text.specs.Spelling.{hex_word, requester_word, with_words}
-use Rattle.script_text.specs.declared.event.LinkEvent.{LinkEvent}
-use Rattle.script_text.specs.declared.event.LinkEvent.TheVariants as event
-use Rattle.script_text.proofs.Decimals.{decimal_short}
+use Rattle.trace_text.specs.Spelling.{hex_word, requester_word, with_words}
+use Rattle.script_text.specs.declared.events.event.LinkEvent.{LinkEvent}
+use Rattle.script_text.specs.declared.events.event.LinkEvent.TheVariants as event
+use Rattle.trace_text.proofs.Decimals.{decimal_short}
 use Rattle.script_text.proofs.PrintedNumbers.{all_of_decimal}
 use Rattle.script_text.proofs.PrintedBytes.{all_of_hex_word, length-hex_word}
 use Rattle.script_text.proofs.PrintedLines.{is_plain, is_plain_word, are_plain}

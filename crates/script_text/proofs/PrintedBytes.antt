@@ -10,7 +10,7 @@ use Rattle.hex.specs.declared.error.FromHexError.{FromHexError}
 use Rattle.hex.proofs.HexLemmas.{decode_of-encode_lower, length-encode_with, IsDigits-lower_digits}
 use Rattle.script_text.specs.HexWords.{bytes_of, is_pairs, is_none_word, is_hex_in}
 use Rattle.script_text.specs.Sound.{are_bytes}
-use Rattle.script_text.specs.Spelling.{hex_word}
+use Rattle.trace_text.specs.Spelling.{hex_word}
 
 bytes_from : (bytes : List ℕ) → are_bytes bytes ≡ true → IsBytes bytes
 bytes_from [] h i = omega arith

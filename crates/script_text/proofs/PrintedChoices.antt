@@ -1,8 +1,8 @@
 -- Capabilities and algorithms as they are printed are read back.
 use Rattle.std.proofs.Common.{◌≡◌, ◌≤◌, length, refl, Bool, true, false, Some, arith}
-use Rattle.spdm_grammar.specs.declared.choice.FlagSet.{FlagSet}
-use Rattle.spdm_grammar.specs.declared.choice.Pick.{Pick}
-use Rattle.spdm_grammar.specs.declared.choice.Pick.TheVariants.{Small, Large, Both}
+use Rattle.spdm_grammar.specs.declared.messages.choice.FlagSet.{FlagSet}
+use Rattle.spdm_grammar.specs.declared.messages.choice.Pick.{Pick}
+use Rattle.spdm_grammar.specs.declared.messages.choice.Pick.TheVariants.{Small, Large, Both}
 use Rattle.script_text.specs.Choices.{is_flags, flags_of, hash_in, aead_in}
 use Rattle.script_text.specs.Printing.{flags_word, hash_word, aead_word}
 use Rattle.script_text.proofs.PrintedLines.{is_plain_word}

@@ -4,7 +4,7 @@ use Rattle.std.specs.Prelude.{nat_le, ◌==◌, codes}
 use Rattle.std.specs.Fmt.{decimal}
 use Rattle.std.proofs.lemmas.Bool.{and_parts, ne_eqb}
 use Rattle.std.proofs.lemmas.Bool.Decides.{nat_tests}
-use Rattle.spdm_grammar.specs.declared.block_spec.BlockSpec.{BlockSpec}
+use Rattle.spdm_grammar.specs.declared.told.block_spec.BlockSpec.{BlockSpec}
 use Rattle.script_text.specs.Configuring.{config_kind, config_fault, after_config, seed_fault, after_seed, opaque_fault, after_opaque, block_fault, after_block, block_of, has_block, end_fault, after_end}
 use Rattle.script_text.specs.HexWords.{is_hex_in, bytes_of}
 use Rattle.script_text.specs.Lines.{words_of}
@@ -12,13 +12,13 @@ use Rattle.script_text.specs.Measured.{block_size, sizes_of}
 use Rattle.script_text.specs.Numbers.{is_number, is_number_in, value_of}
 use Rattle.script_text.specs.Printing.{seed_words, opaque_words, block_words, tcb_word}
 use Rattle.script_text.specs.Sound.{is_within, are_bytes, are_bytes_in, fits_word, is_sound_block}
-use Rattle.script_text.specs.Spelling.{hex_word}
-use Rattle.script_text.specs.declared.config_kind.ConfigKind.{ConfigKind}
-use Rattle.script_text.specs.declared.config_kind.ConfigKind.TheVariants as kind
-use Rattle.script_text.specs.declared.config.ReqPart.{ReqPart}
-use Rattle.script_text.specs.declared.given.Given.{Given}
-use Rattle.script_text.specs.declared.given.RspLine.{RspLine}
-use Rattle.script_text.proofs.Decimals.{decimal_short}
+use Rattle.trace_text.specs.Spelling.{hex_word}
+use Rattle.script_text.specs.declared.configuration.config_kind.ConfigKind.{ConfigKind}
+use Rattle.script_text.specs.declared.configuration.config_kind.ConfigKind.TheVariants as kind
+use Rattle.script_text.specs.declared.configuration.config.ReqPart.{ReqPart}
+use Rattle.script_text.specs.declared.configuration.given.Given.{Given}
+use Rattle.script_text.specs.declared.configuration.given.RspLine.{RspLine}
+use Rattle.trace_text.proofs.Decimals.{decimal_short}
 use Rattle.script_text.proofs.PlainWords.{long_words, plain_decimal, plain_hex}
 use Rattle.script_text.proofs.PrintedBytes.{bytes_of-hex_word, is_hex_in-hex_word, length-hex_word}
 use Rattle.script_text.proofs.PrintedEvents.{number_in-decimal}

@@ -4,31 +4,31 @@ use Rattle.std.specs.Prelude.{nat_le, codes}
 use Rattle.std.specs.Fmt.{decimal}
 use Rattle.std.proofs.lemmas.Bool.{and_parts}
 use Rattle.std.proofs.lemmas.Bool.Decides.{nat_tests}
-use Rattle.spdm_basis.specs.declared.eid.Eid.{Eid}
-use Rattle.spdm_grammar.specs.declared.choice.FlagSet.{FlagSet}
+use Rattle.spdm_basis.specs.declared.values.eid.Eid.{Eid}
+use Rattle.spdm_grammar.specs.declared.messages.choice.FlagSet.{FlagSet}
 use Rattle.spdm_grammar.specs.declared.names.TheConstants.{MIN_DATA_TRANSFER_SIZE, MAX_MESSAGE_SIZE}
 use Rattle.script_text.specs.Configuring.{config_kind, responder_fault, after_responder}
 use Rattle.script_text.specs.EndPoints.{eid_of}
 use Rattle.script_text.specs.Lines.{words_of}
 use Rattle.script_text.specs.Printing.{responder_words}
 use Rattle.script_text.specs.Sound.{is_within, are_bytes_in, is_sound_end}
-use Rattle.script_text.specs.Spelling.{hex_word}
-use Rattle.script_text.specs.declared.config_kind.ConfigKind.TheVariants as kind
-use Rattle.script_text.specs.declared.config.ReqPart.{ReqPart}
-use Rattle.script_text.specs.declared.config.RspPart.{RspPart}
-use Rattle.script_text.specs.declared.given.Given.{Given}
-use Rattle.script_text.specs.declared.given.RspLine.{RspLine}
-use Rattle.script_text.proofs.Decimals.{decimal_short}
+use Rattle.trace_text.specs.Spelling.{hex_word}
+use Rattle.script_text.specs.declared.configuration.config_kind.ConfigKind.TheVariants as kind
+use Rattle.script_text.specs.declared.configuration.config.ReqPart.{ReqPart}
+use Rattle.script_text.specs.declared.configuration.config.RspPart.{RspPart}
+use Rattle.script_text.specs.declared.configuration.given.Given.{Given}
+use Rattle.script_text.specs.declared.configuration.given.RspLine.{RspLine}
+use Rattle.trace_text.proofs.Decimals.{decimal_short}
 use Rattle.script_text.proofs.EndPointLemmas.{eid_is}
 use Rattle.script_text.proofs.PlainWords.{plain_decimal, plain_hex}
 use Rattle.script_text.proofs.PrintedChoices.{flags_are}
 use Rattle.std.specs.Prelude.{slice_set, slice_index_or}
-use Rattle.spdm_grammar.specs.declared.choice.Suites.{Suites}
+use Rattle.spdm_grammar.specs.declared.messages.choice.Suites.{Suites}
 use Rattle.script_text.specs.Choices.{end_in, small_suites, requester_in}
 use Rattle.script_text.specs.Configuring.{requester_fault, after_requester, requester_of, requester_has_eid, has_psk, suite_fault, after_suite, with_suites}
 use Rattle.script_text.specs.Printing.{flags_word, requester_words, suite_words, hash_word, aead_word}
 use Rattle.script_text.specs.Sound.{is_sound_requester}
-use Rattle.script_text.specs.Spelling.{requester_word}
+use Rattle.trace_text.specs.Spelling.{requester_word}
 use Rattle.std.proofs.lemmas.Fmt.{decimal_digit}
 use Rattle.script_text.proofs.PrintedChoices.{IsFlagsWord, hash_in-word, aead_in-word, plain_hash, plain_aead, short_hash, short_aead}
 use Rattle.script_text.proofs.PrintedConfig.{IsTaken, IsNumberWord, IsBytesWord, number_is, bytes_are, plain_number}

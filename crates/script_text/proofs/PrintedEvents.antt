@@ -14,12 +14,12 @@ use Rattle.script_text.specs.Lines.{words_of, word}
 use Rattle.script_text.specs.Numbers.{is_number_in, value_of}
 use Rattle.script_text.specs.Printing.{event_words}
 use Rattle.script_text.specs.Sound.{is_within, is_sound_event, fits_word, are_bytes}
-use Rattle.script_text.specs.Spelling.{hex_word, requester_word}
-use Rattle.script_text.specs.declared.event.LinkEvent.{LinkEvent}
-use Rattle.script_text.specs.declared.event.LinkEvent.TheVariants as event
-use Rattle.script_text.specs.declared.event_kind.EventKind.{EventKind}
-use Rattle.script_text.specs.declared.event_kind.EventKind.TheVariants as kind
-use Rattle.script_text.specs.declared.command.CommandKind.TheVariants as command
+use Rattle.trace_text.specs.Spelling.{hex_word, requester_word}
+use Rattle.script_text.specs.declared.events.event.LinkEvent.{LinkEvent}
+use Rattle.script_text.specs.declared.events.event.LinkEvent.TheVariants as event
+use Rattle.script_text.specs.declared.events.event_kind.EventKind.{EventKind}
+use Rattle.script_text.specs.declared.events.event_kind.EventKind.TheVariants as kind
+use Rattle.script_text.specs.declared.events.command.CommandKind.TheVariants as command
 use Rattle.script_text.proofs.PrintedNumbers.{value_of-decimal, is_number-decimal}
 use Rattle.script_text.proofs.PrintedBytes.{bytes_of-hex_word, is_hex_in-hex_word}
 

@@ -8,7 +8,7 @@ use Rattle.std.proofs.lemmas.Bool.Decides.{nat_tests}
 use Rattle.std.proofs.lemmas.List.Folds.{list_all-append}
 use Rattle.std.proofs.lemmas.List.Elements.{All-nil, All-cons}
 use Rattle.script_text.specs.Lines.{lines_of, onto_first, words_of}
-use Rattle.script_text.specs.Spelling.{with_words}
+use Rattle.trace_text.specs.Spelling.{with_words}
 use Rattle.script_text.specs.Printing.{with_line}
 use Rattle.script_text.proofs.LineWords.{is_space}
 

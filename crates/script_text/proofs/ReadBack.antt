@@ -12,17 +12,17 @@ use Rattle.script_text.specs.Printing.{event_words, with_entry}
 use Rattle.script_text.specs.Reading.{read_lines, line_fault, after_line, unless_bad, whole_or_missing}
 use Rattle.script_text.specs.ScriptText.{script_fault, after_script, whole_script, script_with, script_in, is_full}
 use Rattle.script_text.specs.Sound.{is_sound_event, are_sound_events, AreNumbered}
-use Rattle.script_text.specs.Spelling.{with_words}
-use Rattle.script_text.specs.declared.config.ReqPart.{ReqPart}
-use Rattle.script_text.specs.declared.config.ScriptConfig.{ScriptConfig}
-use Rattle.script_text.specs.declared.event.Entry.{Entry}
-use Rattle.script_text.specs.declared.event.LinkEvent.{LinkEvent}
-use Rattle.script_text.specs.declared.faults.LineFault.{LineFault}
-use Rattle.script_text.specs.declared.faults.ScriptFault.{ScriptFault}
-use Rattle.script_text.specs.declared.given.Given.{Given}
-use Rattle.script_text.specs.declared.given.RspLine.{RspLine}
-use Rattle.script_text.specs.declared.script.Script.{Script}
-use Rattle.script_text.specs.declared.script_lines.ScriptReader.{ScriptReader}
+use Rattle.trace_text.specs.Spelling.{with_words}
+use Rattle.script_text.specs.declared.configuration.config.ReqPart.{ReqPart}
+use Rattle.script_text.specs.declared.configuration.config.ScriptConfig.{ScriptConfig}
+use Rattle.script_text.specs.declared.events.event.Entry.{Entry}
+use Rattle.script_text.specs.declared.events.event.LinkEvent.{LinkEvent}
+use Rattle.script_text.specs.declared.texts.faults.LineFault.{LineFault}
+use Rattle.script_text.specs.declared.texts.faults.ScriptFault.{ScriptFault}
+use Rattle.script_text.specs.declared.configuration.given.Given.{Given}
+use Rattle.script_text.specs.declared.configuration.given.RspLine.{RspLine}
+use Rattle.script_text.specs.declared.texts.script.Script.{Script}
+use Rattle.script_text.specs.declared.texts.script_lines.ScriptReader.{ScriptReader}
 use Rattle.script_text.proofs.PlainWords.{IsPlainEvent, plain_event, length-with_words, long_words}
 use Rattle.script_text.proofs.PrintedEvents.{IsReadAs, reads_event}
 use Rattle.script_text.proofs.PrintedLines.{line_of, words_of-line_of_some, line_is_text, lines_of-line, lines_of-ended, with_line-append_some, with_words-append}

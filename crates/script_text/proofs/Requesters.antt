@@ -1,8 +1,8 @@
 -- A requester that gets other algorithms.
 use Rattle.std.proofs.Common.{◌≡◌, ℕ, zero, suc, List, [], ◌∷◌, length, get_or, ap, ◌<◌, arith}
 use Rattle.std.specs.Prelude.{slice_set}
-use Rattle.spdm_grammar.specs.declared.choice.Suites.{Suites}
-use Rattle.script_text.specs.declared.config.ReqPart.{ReqPart}
+use Rattle.spdm_grammar.specs.declared.messages.choice.Suites.{Suites}
+use Rattle.script_text.specs.declared.configuration.config.ReqPart.{ReqPart}
 use Rattle.script_text.specs.Configuring.{with_suites}
 
 pub with_suites-is : (n : ℕ) (suites : Suites) (qs : List ReqPart) (q : ReqPart) → n < length qs → q ≡ get_or qs n q →

@@ -2,10 +2,10 @@
 use Rattle.std.specs.Prelude.{ℕ, List, [], ◌∷◌, ◌-◌, ◌==◌, ◌&&◌, ◌||◌, nat_le, not, codes, length, slice_index, bytes_eq, if◌then◌else◌, Bool, true, Option, Some, None}
 use Rattle.std.specs.List.{list_any}
 use Rattle.script_text.specs.HexWords.{is_none_word}
-use Rattle.spdm_grammar.specs.declared.choice.FlagSet.{FlagSet}
-use Rattle.spdm_grammar.specs.declared.choice.Pick.{Pick}
-use Rattle.spdm_grammar.specs.declared.choice.Pick.TheVariants.{Small, Large, Both}
-use Rattle.spdm_grammar.specs.declared.choice.Suites.{Suites}
+use Rattle.spdm_grammar.specs.declared.messages.choice.FlagSet.{FlagSet}
+use Rattle.spdm_grammar.specs.declared.messages.choice.Pick.{Pick}
+use Rattle.spdm_grammar.specs.declared.messages.choice.Pick.TheVariants.{Small, Large, Both}
+use Rattle.spdm_grammar.specs.declared.messages.choice.Suites.{Suites}
 
 -- A word is some of these letters, or none, in their order.
 abbrev pub is_some_of : List ℕ → List ℕ → Bool

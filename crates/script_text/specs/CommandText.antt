@@ -3,13 +3,13 @@ use Rattle.std.specs.Prelude.{ℕ, List, if◌then◌else◌, Option, Some, None
 use Rattle.script_text.specs.Commands.{command_fault, command_of}
 use Rattle.script_text.specs.EventLines.{event_kind}
 use Rattle.script_text.specs.Lines.{is_too_long}
-use Rattle.script_text.specs.declared.event.LinkEvent.{LinkEvent}
-use Rattle.script_text.specs.declared.event_kind.EventKind.{EventKind}
-use Rattle.script_text.specs.declared.event_kind.EventKind.TheVariants.{Command}
-use Rattle.script_text.specs.declared.faults.LineFault.{LineFault}
-use Rattle.script_text.specs.declared.faults.LineFault.TheVariants.{LineTooLong, Unknown}
-use Rattle.script_text.specs.declared.faults.ScriptFault.{ScriptFault}
-use Rattle.script_text.specs.declared.faults.ScriptFault.TheVariants.{Line}
+use Rattle.script_text.specs.declared.events.event.LinkEvent.{LinkEvent}
+use Rattle.script_text.specs.declared.events.event_kind.EventKind.{EventKind}
+use Rattle.script_text.specs.declared.events.event_kind.EventKind.TheVariants.{Command}
+use Rattle.script_text.specs.declared.texts.faults.LineFault.{LineFault}
+use Rattle.script_text.specs.declared.texts.faults.LineFault.TheVariants.{LineTooLong, Unknown}
+use Rattle.script_text.specs.declared.texts.faults.ScriptFault.{ScriptFault}
+use Rattle.script_text.specs.declared.texts.faults.ScriptFault.TheVariants.{Line}
 
 -- A command without a fault is taken.
 abbrev pub command_or : Option LineFault → LinkEvent → Result LinkEvent ScriptFault

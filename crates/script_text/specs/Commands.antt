@@ -4,12 +4,12 @@ use Rattle.script_text.specs.HexWords.{is_hex_in, bytes_of, is_none_word, most_b
 use Rattle.script_text.specs.Lines.{word, has_words}
 use Rattle.script_text.specs.Numbers.{is_number_in, value_of}
 use Rattle.script_text.specs.Tests.{first_of_tests}
-use Rattle.script_text.specs.declared.command.CommandKind.{CommandKind}
-use Rattle.script_text.specs.declared.command.CommandKind.TheVariants as kind
-use Rattle.script_text.specs.declared.event.LinkEvent.{LinkEvent}
-use Rattle.script_text.specs.declared.event.LinkEvent.TheVariants as event
-use Rattle.script_text.specs.declared.faults.LineFault.{LineFault}
-use Rattle.script_text.specs.declared.faults.LineFault.TheVariants.{Words, Number, Hex, NoSuchEnd}
+use Rattle.script_text.specs.declared.events.command.CommandKind.{CommandKind}
+use Rattle.script_text.specs.declared.events.command.CommandKind.TheVariants as kind
+use Rattle.script_text.specs.declared.events.event.LinkEvent.{LinkEvent}
+use Rattle.script_text.specs.declared.events.event.LinkEvent.TheVariants as event
+use Rattle.script_text.specs.declared.texts.faults.LineFault.{LineFault}
+use Rattle.script_text.specs.declared.texts.faults.LineFault.TheVariants.{Words, Number, Hex, NoSuchEnd}
 
 -- The kind of a command by the word behind the requester.
 unfoldable pub command_kind : List ℕ → Option CommandKind

@@ -3,12 +3,12 @@ use Rattle.std.specs.Prelude.{ℕ, List, if◌then◌else◌, Bool, false, Optio
 use Rattle.script_text.specs.Configuring.{config_kind, config_fault, after_config, config_of, nothing_given}
 use Rattle.script_text.specs.Lines.{lines_of, word}
 use Rattle.script_text.specs.Reading.{read_lines}
-use Rattle.script_text.specs.declared.config.ScriptConfig.{ScriptConfig}
-use Rattle.script_text.specs.declared.config_kind.ConfigKind.{ConfigKind}
-use Rattle.script_text.specs.declared.faults.LineFault.{LineFault}
-use Rattle.script_text.specs.declared.faults.LineFault.TheVariants.{Unknown, Order}
-use Rattle.script_text.specs.declared.faults.ScriptFault.{ScriptFault}
-use Rattle.script_text.specs.declared.given.Given.{Given}
+use Rattle.script_text.specs.declared.configuration.config.ScriptConfig.{ScriptConfig}
+use Rattle.script_text.specs.declared.configuration.config_kind.ConfigKind.{ConfigKind}
+use Rattle.script_text.specs.declared.texts.faults.LineFault.{LineFault}
+use Rattle.script_text.specs.declared.texts.faults.LineFault.TheVariants.{Unknown, Order}
+use Rattle.script_text.specs.declared.texts.faults.ScriptFault.{ScriptFault}
+use Rattle.script_text.specs.declared.configuration.given.Given.{Given}
 
 abbrev pub kind_fault : Bool → Given → Option ConfigKind → List ℕ → Option LineFault
 kind_fault needs_seed given None line = Some Unknown

@@ -1,20 +1,20 @@
 -- The lines of a configuration: which faults each kind has, in order, and what it says. This project's own.
 use Rattle.std.specs.Prelude.{ℕ, List, [], ◌∷◌, ◌++◌, ◌+◌, ◌==◌, zero, suc, ◌&&◌, ◌||◌, nat_le, nat_lt, not, codes, length, slice_index_or, slice_set, bytes_eq, replicate, if◌then◌else◌, Bool, true, false, Option, Some, None, is_some, is_none, unwrap_or}
 use Rattle.std.specs.List.{list_any}
-use Rattle.spdm_grammar.specs.declared.block_spec.BlockSpec.{BlockSpec}
-use Rattle.spdm_grammar.specs.declared.choice.Suites.{Suites}
-use Rattle.spdm_grammar.specs.declared.choice.Pick.TheVariants.{Small}
+use Rattle.spdm_grammar.specs.declared.told.block_spec.BlockSpec.{BlockSpec}
+use Rattle.spdm_grammar.specs.declared.messages.choice.Suites.{Suites}
+use Rattle.spdm_grammar.specs.declared.messages.choice.Pick.TheVariants.{Small}
 use Rattle.spdm_grammar.specs.declared.names.TheConstants.{MIN_DATA_TRANSFER_SIZE, MAX_MESSAGE_SIZE}
-use Rattle.script_text.specs.declared.config.ReqPart.{ReqPart}
-use Rattle.script_text.specs.declared.config.RspPart.{RspPart}
-use Rattle.script_text.specs.declared.config.ScriptConfig.{ScriptConfig}
-use Rattle.script_text.specs.declared.faults.LineFault.{LineFault}
-use Rattle.script_text.specs.declared.faults.LineFault.TheVariants.{Unknown, Order, Words, Number, Hex, Flags, TooMany, Twice, SameEid, SamePsk, Block, NoSuchEnd, Incomplete}
-use Rattle.script_text.specs.declared.config_kind.ConfigKind.{ConfigKind}
-use Rattle.script_text.specs.declared.config_kind.ConfigKind.TheVariants as kind
-use Rattle.script_text.specs.declared.given.Given.{Given}
-use Rattle.script_text.specs.declared.given.RspLine.{RspLine}
-use Rattle.script_text.specs.declared.end_numbers.EndNumbers.{EndNumbers}
+use Rattle.script_text.specs.declared.configuration.config.ReqPart.{ReqPart}
+use Rattle.script_text.specs.declared.configuration.config.RspPart.{RspPart}
+use Rattle.script_text.specs.declared.configuration.config.ScriptConfig.{ScriptConfig}
+use Rattle.script_text.specs.declared.texts.faults.LineFault.{LineFault}
+use Rattle.script_text.specs.declared.texts.faults.LineFault.TheVariants.{Unknown, Order, Words, Number, Hex, Flags, TooMany, Twice, SameEid, SamePsk, Block, NoSuchEnd, Incomplete}
+use Rattle.script_text.specs.declared.configuration.config_kind.ConfigKind.{ConfigKind}
+use Rattle.script_text.specs.declared.configuration.config_kind.ConfigKind.TheVariants as kind
+use Rattle.script_text.specs.declared.configuration.given.Given.{Given}
+use Rattle.script_text.specs.declared.configuration.given.RspLine.{RspLine}
+use Rattle.script_text.specs.declared.configuration.end_numbers.EndNumbers.{EndNumbers}
 use Rattle.script_text.specs.Choices.{is_flags, flags_of, hash_in, aead_in, end_in, small_suites}
 use Rattle.script_text.specs.EndPoints.{eid_of}
 use Rattle.script_text.specs.HexWords.{is_hex_in, bytes_of, most_bytes}

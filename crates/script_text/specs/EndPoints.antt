@@ -2,7 +2,7 @@
 use Rattle.std.specs.Prelude.{ℕ, min, max}
 use Rattle.std.proofs.Common.{lit≤, lit<}
 use Rattle.std.proofs.Math.Nat.{le-max_left, max-le, min-le_right, lt_of_le_of_lt}
-use Rattle.spdm_basis.specs.declared.eid.Eid.{Eid}
+use Rattle.spdm_basis.specs.declared.values.eid.Eid.{Eid}
 
 -- The end point of a number from 8 to 254; of another number, the nearest of these.
 unfoldable pub eid_of : ℕ → Eid

@@ -1,17 +1,17 @@
 -- Generated scripts: a configuration and events that a seed and a count determine. This project's own.
 use Rattle.std.specs.Prelude.{ℕ, zero, suc, List, [], ◌∷◌, ◌++◌, ◌+◌, ◌*◌, ◌/◌, ◌%◌, ◌^◌, ◌==◌, nat_le, replicate, if◌then◌else◌, Bool, true, false, Some}
 use Rattle.std.specs.Int.{to_le_bytes, w64}
-use Rattle.spdm_grammar.specs.declared.block_spec.BlockSpec.{BlockSpec}
+use Rattle.spdm_grammar.specs.declared.told.block_spec.BlockSpec.{BlockSpec}
 use Rattle.spdm_grammar.specs.declared.names.TheConstants.{MAX_MESSAGE_SIZE}
 use Rattle.script_text.specs.Choices.{small_suites}
 use Rattle.script_text.specs.EndPoints.{eid_of}
-use Rattle.script_text.specs.declared.config.ReqPart.{ReqPart}
-use Rattle.script_text.specs.declared.config.RspPart.{RspPart}
-use Rattle.script_text.specs.declared.config.ScriptConfig.{ScriptConfig}
-use Rattle.script_text.specs.declared.event.Entry.{Entry}
-use Rattle.script_text.specs.declared.event.LinkEvent.{LinkEvent}
-use Rattle.script_text.specs.declared.event.LinkEvent.TheVariants as event
-use Rattle.script_text.specs.declared.script.Script.{Script}
+use Rattle.script_text.specs.declared.configuration.config.ReqPart.{ReqPart}
+use Rattle.script_text.specs.declared.configuration.config.RspPart.{RspPart}
+use Rattle.script_text.specs.declared.configuration.config.ScriptConfig.{ScriptConfig}
+use Rattle.script_text.specs.declared.events.event.Entry.{Entry}
+use Rattle.script_text.specs.declared.events.event.LinkEvent.{LinkEvent}
+use Rattle.script_text.specs.declared.events.event.LinkEvent.TheVariants as event
+use Rattle.script_text.specs.declared.texts.script.Script.{Script}
 
 -- A number as eight bytes, the low one first.
 abbrev pub eight_bytes : ℕ → List ℕ

@@ -4,9 +4,9 @@ use Rattle.script_text.specs.Lines.{lines_of}
 use Rattle.script_text.specs.Printing.{config_text, script_text, with_entry}
 use Rattle.script_text.specs.ScriptText.{script_in}
 use Rattle.script_text.specs.Sound.{IsSoundConfig, are_sound_events, AreNumbered}
-use Rattle.script_text.specs.declared.config.ScriptConfig.{ScriptConfig}
-use Rattle.script_text.specs.declared.event.Entry.{Entry}
-use Rattle.script_text.specs.declared.script.Script.{Script}
+use Rattle.script_text.specs.declared.configuration.config.ScriptConfig.{ScriptConfig}
+use Rattle.script_text.specs.declared.events.event.Entry.{Entry}
+use Rattle.script_text.specs.declared.texts.script.Script.{Script}
 
 -- What is printed of a script is read back as it was: a script in range, with at most 100,000 events, which stand on
 -- the lines behind those of its configuration.

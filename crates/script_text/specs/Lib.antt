@@ -14,11 +14,6 @@ pub mod ScriptText
 pub mod CommandText
 pub mod Saying
 pub mod PolicyText
-pub mod Spelling
-pub mod TraceWords
-pub mod TraceLines
-pub mod Whose
-pub mod OtherLines
 pub mod Generator
 pub mod Printing
 pub mod ShownText

@@ -1,6 +1,6 @@
 -- How much of a measurement record the blocks of a configuration take (DSP0274, "Measurement block format").
 use Rattle.std.specs.Prelude.{ℕ, List, ◌+◌, length, sum_by}
-use Rattle.spdm_grammar.specs.declared.block_spec.BlockSpec.{BlockSpec}
+use Rattle.spdm_grammar.specs.declared.told.block_spec.BlockSpec.{BlockSpec}
 
 -- A block has seven bytes in front of its value: index, specification, size, value type and value size.
 abbrev pub block_size : BlockSpec → ℕ

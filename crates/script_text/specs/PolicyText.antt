@@ -6,14 +6,14 @@ use Rattle.script_text.specs.Lines.{lines_of, word, has_words, is_passed_over}
 use Rattle.script_text.specs.Numbers.{is_number_in, value_of}
 use Rattle.script_text.specs.Reading.{line_fault, unless_bad}
 use Rattle.script_text.specs.Tests.{first_of_tests}
-use Rattle.script_text.specs.declared.faults.LineFault.{LineFault}
-use Rattle.script_text.specs.declared.faults.LineFault.TheVariants.{Unknown, Words, Number, Hex, Twice, Incomplete}
-use Rattle.script_text.specs.declared.faults.ScriptFault.{ScriptFault}
-use Rattle.script_text.specs.declared.faults.ScriptFault.TheVariants.{Line}
-use Rattle.script_text.specs.declared.policy_text.RuleKind.{RuleKind}
-use Rattle.script_text.specs.declared.policy_text.RuleKind.TheVariants as kind
-use Rattle.script_text.specs.declared.rule.Rule.{Rule}
-use Rattle.script_text.specs.declared.rule.Rule.TheVariants as rule
+use Rattle.script_text.specs.declared.texts.faults.LineFault.{LineFault}
+use Rattle.script_text.specs.declared.texts.faults.LineFault.TheVariants.{Unknown, Words, Number, Hex, Twice, Incomplete}
+use Rattle.script_text.specs.declared.texts.faults.ScriptFault.{ScriptFault}
+use Rattle.script_text.specs.declared.texts.faults.ScriptFault.TheVariants.{Line}
+use Rattle.script_text.specs.declared.texts.policy_text.RuleKind.{RuleKind}
+use Rattle.script_text.specs.declared.texts.policy_text.RuleKind.TheVariants as kind
+use Rattle.script_text.specs.declared.texts.rule.Rule.{Rule}
+use Rattle.script_text.specs.declared.texts.rule.Rule.TheVariants as rule
 
 -- The index of which a rule speaks.
 abbrev pub index_of : Rule → ℕ

@@ -1,19 +1,19 @@
 -- Scripts as texts: each line of the configuration and each event on a line of its own. This project's own.
 use Rattle.std.specs.Prelude.{ℕ, List, [], ◌∷◌, ◌++◌, ◌+◌, ◌&&◌, codes, fold, if◌then◌else◌, Bool, true, false, Option, Some, None}
 use Rattle.std.specs.Fmt.{decimal}
-use Rattle.spdm_grammar.specs.declared.block_spec.BlockSpec.{BlockSpec}
-use Rattle.spdm_grammar.specs.declared.choice.FlagSet.{FlagSet}
-use Rattle.spdm_grammar.specs.declared.choice.Pick.{Pick}
-use Rattle.spdm_grammar.specs.declared.choice.Pick.TheVariants.{Small, Large, Both}
-use Rattle.spdm_grammar.specs.declared.choice.Suites.{Suites}
-use Rattle.script_text.specs.Spelling.{with_words, hex_word, requester_word}
-use Rattle.script_text.specs.declared.config.ReqPart.{ReqPart}
-use Rattle.script_text.specs.declared.config.RspPart.{RspPart}
-use Rattle.script_text.specs.declared.config.ScriptConfig.{ScriptConfig}
-use Rattle.script_text.specs.declared.event.Entry.{Entry}
-use Rattle.script_text.specs.declared.event.LinkEvent.{LinkEvent}
-use Rattle.script_text.specs.declared.event.LinkEvent.TheVariants as event
-use Rattle.script_text.specs.declared.script.Script.{Script}
+use Rattle.spdm_grammar.specs.declared.told.block_spec.BlockSpec.{BlockSpec}
+use Rattle.spdm_grammar.specs.declared.messages.choice.FlagSet.{FlagSet}
+use Rattle.spdm_grammar.specs.declared.messages.choice.Pick.{Pick}
+use Rattle.spdm_grammar.specs.declared.messages.choice.Pick.TheVariants.{Small, Large, Both}
+use Rattle.spdm_grammar.specs.declared.messages.choice.Suites.{Suites}
+use Rattle.trace_text.specs.Spelling.{with_words, hex_word, requester_word}
+use Rattle.script_text.specs.declared.configuration.config.ReqPart.{ReqPart}
+use Rattle.script_text.specs.declared.configuration.config.RspPart.{RspPart}
+use Rattle.script_text.specs.declared.configuration.config.ScriptConfig.{ScriptConfig}
+use Rattle.script_text.specs.declared.events.event.Entry.{Entry}
+use Rattle.script_text.specs.declared.events.event.LinkEvent.{LinkEvent}
+use Rattle.script_text.specs.declared.events.event.LinkEvent.TheVariants as event
+use Rattle.script_text.specs.declared.texts.script.Script.{Script}
 
 -- A line of words behind a text.
 abbrev pub with_line : List ℕ → List (List ℕ) → List ℕ

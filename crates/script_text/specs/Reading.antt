@@ -1,11 +1,11 @@
 -- How a text is read, line by line: the first bad line with its first fault, or what all lines say. This project's own.
 use Rattle.std.specs.Prelude.{ℕ, List, [], ◌∷◌, ◌+◌, ◌≡◌, if◌then◌else◌, Option, Some, None, Result, Ok, Err}
-use Rattle.script_text.specs.declared.faults.LineError.{LineError}
-use Rattle.script_text.specs.declared.faults.LineError.TheVariants.{Fault, NoMemory}
-use Rattle.script_text.specs.declared.faults.LineFault.{LineFault}
-use Rattle.script_text.specs.declared.faults.LineFault.TheVariants.{LineTooLong, Incomplete, TooManyEvents}
-use Rattle.script_text.specs.declared.faults.ScriptFault.{ScriptFault}
-use Rattle.script_text.specs.declared.faults.ScriptFault.TheVariants as fault
+use Rattle.script_text.specs.declared.texts.faults.LineError.{LineError}
+use Rattle.script_text.specs.declared.texts.faults.LineError.TheVariants.{Fault, NoMemory}
+use Rattle.script_text.specs.declared.texts.faults.LineFault.{LineFault}
+use Rattle.script_text.specs.declared.texts.faults.LineFault.TheVariants.{LineTooLong, Incomplete, TooManyEvents}
+use Rattle.script_text.specs.declared.texts.faults.ScriptFault.{ScriptFault}
+use Rattle.script_text.specs.declared.texts.faults.ScriptFault.TheVariants as fault
 use Rattle.script_text.specs.Lines.{is_too_long, is_passed_over}
 
 -- Every line is tested for its length, empty lines and comments too, and these have no other fault. `fault` is the

@@ -1,14 +1,14 @@
 -- What the line of a command says: whom it tells what, with which bytes. This project's own.
 use Rattle.std.specs.Prelude.{◌≡◌, ℕ, List, true, take, Result, Ok, Err}
 use Rattle.script_text.specs.HexWords.{is_hex_in, most_bytes}
-use Rattle.script_text.specs.declared.command_text.CommandLine.{CommandLine}
-use Rattle.script_text.specs.declared.event.LinkEvent.{LinkEvent}
-use Rattle.script_text.specs.declared.event.LinkEvent.TheVariants as event
-use Rattle.script_text.specs.declared.faults.LineFault.{LineFault}
-use Rattle.script_text.specs.declared.faults.ScriptFault.{ScriptFault}
-use Rattle.script_text.specs.declared.faults.ScriptFault.TheVariants.{Line}
-use Rattle.script_text.specs.declared.said.Said.{Said}
-use Rattle.script_text.specs.declared.said.Said.TheVariants as said
+use Rattle.script_text.specs.declared.events.command_text.CommandLine.{CommandLine}
+use Rattle.script_text.specs.declared.events.event.LinkEvent.{LinkEvent}
+use Rattle.script_text.specs.declared.events.event.LinkEvent.TheVariants as event
+use Rattle.script_text.specs.declared.texts.faults.LineFault.{LineFault}
+use Rattle.script_text.specs.declared.texts.faults.ScriptFault.{ScriptFault}
+use Rattle.script_text.specs.declared.texts.faults.ScriptFault.TheVariants.{Line}
+use Rattle.script_text.specs.declared.events.said.Said.{Said}
+use Rattle.script_text.specs.declared.events.said.Said.TheVariants as said
 
 -- The event of what is asked of requester `q`, with these bytes.
 abbrev pub event_of : (q : ℕ) → Said → (bytes : List ℕ) → LinkEvent

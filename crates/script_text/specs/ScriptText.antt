@@ -8,20 +8,20 @@ use Rattle.script_text.specs.Lines.{lines_of, word, has_words}
 use Rattle.script_text.specs.Numbers.{is_number_in, value_of}
 use Rattle.script_text.specs.Reading.{read_lines}
 use Rattle.script_text.specs.Tests.{first_of_tests}
-use Rattle.script_text.specs.declared.capture_text.CaptureReader.{CaptureReader}
-use Rattle.script_text.specs.declared.config.ScriptConfig.{ScriptConfig}
-use Rattle.script_text.specs.declared.config_kind.ConfigKind.{ConfigKind}
-use Rattle.script_text.specs.declared.event.Entry.{Entry}
-use Rattle.script_text.specs.declared.event_kind.EventKind.{EventKind}
-use Rattle.script_text.specs.declared.faults.LineFault.{LineFault}
-use Rattle.script_text.specs.declared.faults.LineFault.TheVariants.{Unknown, Order, Words, Number, Hex, TooManyEvents}
-use Rattle.script_text.specs.declared.faults.ScriptFault.{ScriptFault}
-use Rattle.script_text.specs.declared.lives_text.LivesReader.{LivesReader}
-use Rattle.script_text.specs.declared.script.Capture.{Capture}
-use Rattle.script_text.specs.declared.script.Life.{Life}
-use Rattle.script_text.specs.declared.script.Lives.{Lives}
-use Rattle.script_text.specs.declared.script.Script.{Script}
-use Rattle.script_text.specs.declared.script_lines.ScriptReader.{ScriptReader}
+use Rattle.script_text.specs.declared.texts.capture_text.CaptureReader.{CaptureReader}
+use Rattle.script_text.specs.declared.configuration.config.ScriptConfig.{ScriptConfig}
+use Rattle.script_text.specs.declared.configuration.config_kind.ConfigKind.{ConfigKind}
+use Rattle.script_text.specs.declared.events.event.Entry.{Entry}
+use Rattle.script_text.specs.declared.events.event_kind.EventKind.{EventKind}
+use Rattle.script_text.specs.declared.texts.faults.LineFault.{LineFault}
+use Rattle.script_text.specs.declared.texts.faults.LineFault.TheVariants.{Unknown, Order, Words, Number, Hex, TooManyEvents}
+use Rattle.script_text.specs.declared.texts.faults.ScriptFault.{ScriptFault}
+use Rattle.script_text.specs.declared.texts.lives_text.LivesReader.{LivesReader}
+use Rattle.script_text.specs.declared.texts.script.Capture.{Capture}
+use Rattle.script_text.specs.declared.texts.script.Life.{Life}
+use Rattle.script_text.specs.declared.texts.script.Lives.{Lives}
+use Rattle.script_text.specs.declared.texts.script.Script.{Script}
+use Rattle.script_text.specs.declared.texts.script_lines.ScriptReader.{ScriptReader}
 
 -- The most events, cycles or packets of a text.
 abbrev pub is_full : ℕ → Bool

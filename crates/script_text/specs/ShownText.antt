@@ -1,16 +1,16 @@
 -- The text of messages that are to be shown: one message a line. This project's own.
 use Rattle.std.specs.Prelude.{ℕ, List, [], ◌∷◌, ◌++◌, not, codes, bytes_eq, if◌then◌else◌, Option, Some, None, Result}
-use Rattle.spdm_basis.specs.declared.hash_alg.HashAlg.TheVariants.{Sha256, Sha384}
+use Rattle.spdm_basis.specs.declared.values.hash_alg.HashAlg.TheVariants.{Sha256, Sha384}
 use Rattle.script_text.specs.HexWords.{is_hex_in, bytes_of, most_bytes}
 use Rattle.script_text.specs.Lines.{lines_of, word, has_words}
 use Rattle.script_text.specs.Reading.{read_lines}
 use Rattle.script_text.specs.Tests.{first_of_tests}
-use Rattle.script_text.specs.declared.faults.LineFault.{LineFault}
-use Rattle.script_text.specs.declared.faults.LineFault.TheVariants.{Unknown, Words, Hex}
-use Rattle.script_text.specs.declared.faults.ScriptFault.{ScriptFault}
-use Rattle.script_text.specs.declared.shown.Shown.{Shown}
-use Rattle.script_text.specs.declared.shown.ShownKind.TheVariants as kind
-use Rattle.script_text.specs.declared.shown.ShownAs.{ShownAs}
+use Rattle.script_text.specs.declared.texts.faults.LineFault.{LineFault}
+use Rattle.script_text.specs.declared.texts.faults.LineFault.TheVariants.{Unknown, Words, Hex}
+use Rattle.script_text.specs.declared.texts.faults.ScriptFault.{ScriptFault}
+use Rattle.script_text.specs.declared.texts.shown.Shown.{Shown}
+use Rattle.script_text.specs.declared.texts.shown.ShownKind.TheVariants as kind
+use Rattle.script_text.specs.declared.texts.shown.ShownAs.{ShownAs}
 
 -- What a line shows by its first word: a request, `q`, a response, `r`, or a response with a measurement summary, `s`;
 -- under SHA-256, or with 48 behind the letter under SHA-384.

@@ -2,17 +2,17 @@
 -- bytes is in its range, nothing is said twice, and events are on lines one behind the other. This project's own.
 use Rattle.std.specs.Prelude.{ℕ, List, [], ◌∷◌, ◌++◌, ◌+◌, ◌<◌, ◌≡◌, ◌==◌, ◌&&◌, ◌||◌, ◌^◌, not, nat_le, nat_lt, length, Bool, true, Option, Some, None}
 use Rattle.std.specs.List.{list_all}
-use Rattle.spdm_grammar.specs.declared.block_spec.BlockSpec.{BlockSpec}
-use Rattle.spdm_grammar.specs.declared.choice.FlagSet.{FlagSet}
+use Rattle.spdm_grammar.specs.declared.told.block_spec.BlockSpec.{BlockSpec}
+use Rattle.spdm_grammar.specs.declared.messages.choice.FlagSet.{FlagSet}
 use Rattle.spdm_grammar.specs.declared.names.TheConstants.{MIN_DATA_TRANSFER_SIZE, MAX_MESSAGE_SIZE}
 use Rattle.script_text.specs.Configuring.{has_block, requester_has_eid, has_psk}
 use Rattle.script_text.specs.Measured.{block_size, sizes_of}
-use Rattle.script_text.specs.declared.config.ReqPart.{ReqPart}
-use Rattle.script_text.specs.declared.config.RspPart.{RspPart}
-use Rattle.script_text.specs.declared.config.ScriptConfig.{ScriptConfig}
-use Rattle.script_text.specs.declared.event.Entry.{Entry}
-use Rattle.script_text.specs.declared.event.LinkEvent.{LinkEvent}
-use Rattle.script_text.specs.declared.event.LinkEvent.TheVariants as event
+use Rattle.script_text.specs.declared.configuration.config.ReqPart.{ReqPart}
+use Rattle.script_text.specs.declared.configuration.config.RspPart.{RspPart}
+use Rattle.script_text.specs.declared.configuration.config.ScriptConfig.{ScriptConfig}
+use Rattle.script_text.specs.declared.events.event.Entry.{Entry}
+use Rattle.script_text.specs.declared.events.event.LinkEvent.{LinkEvent}
+use Rattle.script_text.specs.declared.events.event.LinkEvent.TheVariants as event
 
 -- A number is in a range.
 abbrev pub is_within : (low high n : ℕ) → Bool

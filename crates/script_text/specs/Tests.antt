@@ -1,8 +1,8 @@
 -- Tests in order, of which the first that holds decides.
 use Rattle.std.specs.Prelude.{List, [], ◌∷◌, if◌then◌else◌, Bool, Option, Some, None, Result, Ok, Err, ◌≡◌}
-use Rattle.script_text.specs.declared.faults.LineFault.{LineFault}
-use Rattle.script_text.specs.declared.faults.LineError.{LineError}
-use Rattle.script_text.specs.declared.faults.LineError.TheVariants.{Fault, NoMemory}
+use Rattle.script_text.specs.declared.texts.faults.LineFault.{LineFault}
+use Rattle.script_text.specs.declared.texts.faults.LineError.{LineError}
+use Rattle.script_text.specs.declared.texts.faults.LineError.TheVariants.{Fault, NoMemory}
 
 -- The fault of the first test that holds.
 abbrev pub first_of_tests : List (Bool × LineFault) → Option LineFault

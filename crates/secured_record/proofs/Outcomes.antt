@@ -9,8 +9,8 @@ use Rattle.secured_record.specs.Format.{nonce, record_of}
 use Rattle.secured_record.specs.Contents.{IsRecordOf}
 use Rattle.secured_record.specs.Faults.{header_fault, text_part, is_authentic, fault_behind, fault_of, inner_of, opened_text}
 use Rattle.spdm_basis.specs.Tests.{first_of_tests}
-use Rattle.spdm_basis.specs.declared.record_fault.RecordFault.{RecordFault}
-use Rattle.spdm_basis.specs.declared.record_fault.RecordFault.TheVariants.{Short, WrongId, WrongNumber, WrongLength, BadTag, BadInnerLength, KeySpent}
+use Rattle.spdm_basis.specs.declared.causes.record_fault.RecordFault.{RecordFault}
+use Rattle.spdm_basis.specs.declared.causes.record_fault.RecordFault.TheVariants.{Short, WrongId, WrongNumber, WrongLength, BadTag, BadInnerLength, KeySpent}
 use Rattle.secured_record.proofs.Records.{fault_behind-none, record_opens, opened_is_record}
 
 length_of_text : (a b : Bool) → a ≡ true → b ≡ true → first_of_tests ((not a, BadTag) ∷ (b, BadInnerLength) ∷ []) ≡ Some BadInnerLength

@@ -13,8 +13,8 @@ use Rattle.secured_record.specs.Format.{header, nonce, plain_text, sealed_text, 
 use Rattle.secured_record.specs.Contents.{IsRecordOf}
 use Rattle.secured_record.specs.Faults.{header_fault, text_part, tag_part, is_authentic, opened_text, fault_behind, fault_of, inner_of}
 use Rattle.spdm_basis.specs.Tests.{first_of_tests}
-use Rattle.spdm_basis.specs.declared.record_fault.RecordFault.{RecordFault}
-use Rattle.spdm_basis.specs.declared.record_fault.RecordFault.TheVariants.{Short, WrongId, WrongNumber, WrongLength, BadTag, BadInnerLength}
+use Rattle.spdm_basis.specs.declared.causes.record_fault.RecordFault.{RecordFault}
+use Rattle.spdm_basis.specs.declared.causes.record_fault.RecordFault.TheVariants.{Short, WrongId, WrongNumber, WrongLength, BadTag, BadInnerLength}
 use Rattle.std.proofs.lemmas.Slice.Eq.{bytes_eq-Decides}
 
 none_of_header : (a b c d e : Bool) → a ≡ false → b ≡ true → c ≡ true → d ≡ true → e ≡ false →

@@ -4,8 +4,8 @@ use Rattle.spdm_basis.specs.Tests.{first_of_tests}
 use Rattle.byteorder.specs.Endian.{little_bytes, little_number}
 use Rattle.aes_gcm.specs.Gcm.{crypt, tag_of}
 use Rattle.secured_record.specs.Format.{nonce}
-use Rattle.spdm_basis.specs.declared.record_fault.RecordFault.{RecordFault}
-use Rattle.spdm_basis.specs.declared.record_fault.RecordFault.TheVariants.{Short, WrongId, WrongNumber, WrongLength, BadTag, BadInnerLength}
+use Rattle.spdm_basis.specs.declared.causes.record_fault.RecordFault.{RecordFault}
+use Rattle.spdm_basis.specs.declared.causes.record_fault.RecordFault.TheVariants.{Short, WrongId, WrongNumber, WrongLength, BadTag, BadInnerLength}
 
 -- The faults that are seen without the key: fewer bytes than a record without inner message and padding has, another session id, another number, a length field that is not the count of bytes behind it, and more bytes than a record may have.
 unfoldable pub header_fault : List ℕ → ℕ → List ℕ → Option RecordFault

@@ -17,10 +17,10 @@ use Rattle.secured_record.specs.Format.{record_of, plain_text}
 use Rattle.secured_record.proofs.Records.{header_of_none}
 use Rattle.secured_record.proofs.Written.{length-sealed_text}
 use Rattle.spdm_basis.specs.SessionIdBytes.{session_id_bytes}
-use Rattle.spdm_basis.specs.declared.aead_alg.AeadAlg.{AeadAlg}
-use Rattle.spdm_basis.specs.declared.hash_alg.HashAlg.{HashAlg}
-use Rattle.spdm_basis.specs.declared.record_fault.RecordFault.{RecordFault}
-use Rattle.spdm_grammar.specs.declared.choice.Choice.{Choice}
+use Rattle.spdm_basis.specs.declared.values.aead_alg.AeadAlg.{AeadAlg}
+use Rattle.spdm_basis.specs.declared.values.hash_alg.HashAlg.{HashAlg}
+use Rattle.spdm_basis.specs.declared.causes.record_fault.RecordFault.{RecordFault}
+use Rattle.spdm_grammar.specs.declared.messages.choice.Choice.{Choice}
 use Rattle.spdm_machine.specs.Keys.{sealed_of, record_fault, inner_message, verify_data}
 use Rattle.session_keys.specs.Handshake.{IsHandshakeOf}
 use Rattle.session_keys.specs.Keys.{IsKeyOf}

@@ -2,7 +2,7 @@
 use Rattle.std.specs.Prelude.{◌≡◌, ℕ, List}
 use Rattle.key_schedule.specs.Purpose.{AreSecretsOf}
 use Rattle.running_hash.specs.Hash.{hash_of}
-use Rattle.spdm_grammar.specs.declared.choice.Choice.{Choice}
+use Rattle.spdm_grammar.specs.declared.messages.choice.Choice.{Choice}
 use Rattle.session_keys.specs.declared.handshake.Handshake.{Handshake}
 
 -- The hash of T1 and the secrets under it, by a choice of algorithms and a pre-shared key.

@@ -2,7 +2,7 @@
 use Rattle.std.specs.Prelude.{◌≡◌}
 use Rattle.key_schedule.specs.Keys.{DirectionSecret}
 use Rattle.key_schedule.specs.Purpose.{Purpose, IsSecretOf}
-use Rattle.spdm_grammar.specs.declared.choice.Choice.{Choice}
+use Rattle.spdm_grammar.specs.declared.messages.choice.Choice.{Choice}
 
 -- The key of a direction, as contracts see it, is that of a purpose under a choice of algorithms.
 pub record IsKeyOf (key : DirectionSecret) (choice : Choice) (p : Purpose) : Type 0 where

@@ -1,7 +1,7 @@
 ghost use Rattle.std.specs.Prelude.{◌≡◌, ◌≤◌, ◌+◌, None, Some, OnOk, OnErr, MatchResult, length};
 ghost use Rattle.key_schedule.specs.Purpose.{Purpose};
 ghost use Rattle.spdm_basis.specs.SessionIdBytes.{session_id_bytes};
-ghost use Rattle.spdm_grammar.specs.declared.choice.Choice.{Choice};
+ghost use Rattle.spdm_grammar.specs.declared.messages.choice.Choice.{Choice};
 ghost use Rattle.spdm_machine.specs.Keys.{sealed_of, record_fault, inner_message};
 ghost use Rattle.session_keys.specs.Keys.{IsKeyOf};
 

@@ -1,4 +1,4 @@
-use configured_ends::{make_requester, make_responder};
+use script_ends::{make_requester, make_responder};
 use mctp_framing::PacketList;
 use requester::Command;
 use script_text::parse_config;

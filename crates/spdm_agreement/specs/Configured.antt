@@ -2,7 +2,7 @@
 -- pairs of a world apart. A script that is read keeps all of this.
 use Rattle.std.specs.Prelude.{◌≡◌, ◌≢◌, ◌≤◌, ◌<◌, ◌+◌, ◌-◌, ◌^◌, ℕ, List, [], ◌∷◌, length, map, false, None, All}
 use Rattle.measurements.specs.Faults.{inventory_fault}
-use Rattle.spdm_grammar.specs.declared.choice.FlagSet.{FlagSet}
+use Rattle.spdm_grammar.specs.declared.messages.choice.FlagSet.{FlagSet}
 use Rattle.spdm_grammar.specs.declared.names.TheConstants.{MIN_DATA_TRANSFER_SIZE, MAX_MESSAGE_SIZE}
 use Rattle.responder_machine.specs.Setup.{RspSetup, Known, towards}
 use Rattle.requester_machine.specs.Setup.{ReqSetup, ReqEnd}

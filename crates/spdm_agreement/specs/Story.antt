@@ -23,9 +23,9 @@ use Rattle.spdm_agreement.specs.Marks.Served.{Began, Finished, Refused, Took}
 use Rattle.spdm_agreement.specs.Reading.{First}
 use Rattle.spdm_grammar.specs.Message.{RequestMessage}
 use Rattle.spdm_grammar.specs.Message.RequestMessage.{PskExchange}
-use Rattle.spdm_grammar.specs.declared.choice.Choice.{Choice}
-use Rattle.spdm_grammar.specs.declared.phase.Stage.{Stage}
-use Rattle.spdm_grammar.specs.declared.phase.Stage.TheVariants as stage
+use Rattle.spdm_grammar.specs.declared.messages.choice.Choice.{Choice}
+use Rattle.spdm_grammar.specs.declared.told.phase.Stage.{Stage}
+use Rattle.spdm_grammar.specs.declared.told.phase.Stage.TheVariants as stage
 use Rattle.responder_machine.specs.History as served
 use Rattle.responder_machine.specs.History.{Entry}
 use Rattle.spdm_machine.specs.Keys.{Draw}

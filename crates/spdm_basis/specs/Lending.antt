@@ -2,7 +2,7 @@
 use Rattle.std.specs.Prelude.{ℕ, List, length}
 use Rattle.std.specs.List.{refill}
 use Rattle.std.specs.Borrow.{Lends, Fml, RattleType, MutBor, Array, u8}
-use Rattle.spdm_basis.specs.contracts.buffer.Buffer.{the_row}
+use Rattle.spdm_basis.specs.contracts.values.buffer.Buffer.{the_row}
 
 -- A buffer of a capacity ends as the bytes that are left where it lent them, which are as many as before.
 abbrev pub LendsAll : RattleType → MutBor (List ℕ) → MutBor (List ℕ) → Fml

@@ -1,9 +1,9 @@
 -- The lengths that a hash function and a cipher fix.
 use Rattle.std.specs.Prelude.{ℕ, Bool, ◌==◌, ◌||◌}
-use Rattle.spdm_basis.specs.declared.hash_alg.HashAlg.{HashAlg}
-use Rattle.spdm_basis.specs.declared.hash_alg.HashAlg.TheVariants.{Sha256, Sha384}
-use Rattle.spdm_basis.specs.declared.aead_alg.AeadAlg.{AeadAlg}
-use Rattle.spdm_basis.specs.declared.aead_alg.AeadAlg.TheVariants.{Aes128Gcm, Aes256Gcm}
+use Rattle.spdm_basis.specs.declared.values.hash_alg.HashAlg.{HashAlg}
+use Rattle.spdm_basis.specs.declared.values.hash_alg.HashAlg.TheVariants.{Sha256, Sha384}
+use Rattle.spdm_basis.specs.declared.values.aead_alg.AeadAlg.{AeadAlg}
+use Rattle.spdm_basis.specs.declared.values.aead_alg.AeadAlg.TheVariants.{Aes128Gcm, Aes256Gcm}
 
 -- The length of a hash in bytes (FIPS 180-4, section 1: 256 and 384 bits).
 abbrev pub hash_size : HashAlg → ℕ

@@ -5,36 +5,24 @@
 //! with is `read_all`.
 #![tactic(auto)]
 
-mod aead_alg;
-mod buffer;
-mod bytes;
-mod drop_cause;
-mod eid;
-mod faults;
-mod file_seeds;
-mod hash_alg;
-mod hash_bytes;
-mod memory;
-mod outside;
-mod psk;
-mod record_fault;
-mod session_id;
-mod standard;
-mod transfer;
+mod causes;
+mod streams;
+mod values;
 
-pub use aead_alg::AeadAlg;
-pub use buffer::{Buffer, Frame, Full, Line, RecordFrame};
-pub use bytes::{Bytes, OutOfMemory};
-pub use drop_cause::DropCause;
-pub use eid::Eid;
-pub use faults::PacketFault;
-pub use file_seeds::FileSeeds;
-pub use hash_alg::HashAlg;
-pub use hash_bytes::HashBytes;
-pub use memory::{MemSeeds, MemSink, MemSource, NullSink};
-pub use outside::{Failed, Seeds, Sink, Source};
-pub use psk::Psk;
-pub use record_fault::RecordFault;
-pub use session_id::SessionId;
-pub use standard::{StdinSource, StdoutSink};
-pub use transfer::{InFault, OutFault, read_all, write_all};
+
+pub use values::aead_alg::AeadAlg;
+pub use values::buffer::{Buffer, Frame, Full, Line, RecordFrame};
+pub use values::bytes::{Bytes, OutOfMemory};
+pub use causes::drop_cause::DropCause;
+pub use values::eid::Eid;
+pub use causes::faults::PacketFault;
+pub use streams::file_seeds::FileSeeds;
+pub use values::hash_alg::HashAlg;
+pub use values::hash_bytes::HashBytes;
+pub use streams::memory::{MemSeeds, MemSink, MemSource, NullSink};
+pub use streams::outside::{Failed, Seeds, Sink, Source};
+pub use values::psk::Psk;
+pub use causes::record_fault::RecordFault;
+pub use values::session_id::SessionId;
+pub use streams::standard::{StdinSource, StdoutSink};
+pub use streams::transfer::{InFault, OutFault, read_all, write_all};

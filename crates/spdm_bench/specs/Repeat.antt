@@ -4,7 +4,7 @@ use Rattle.byteorder.specs.Endian.{little_bytes}
 use Rattle.aes_gcm.specs.Gcm.{crypt, tag_of}
 use Rattle.hmac_hkdf.specs.Hmac.{hmac}
 use Rattle.running_hash.specs.Hash.{hash_of}
-use Rattle.spdm_basis.specs.declared.hash_alg.HashAlg.TheVariants.{Sha256}
+use Rattle.spdm_basis.specs.declared.values.hash_alg.HashAlg.TheVariants.{Sha256}
 
 -- The key of all messages.
 abbrev pub zero_key : List ℕ

@@ -1,5 +1,5 @@
 use crate::bench_error::BenchError;
-use asking::Command;
+use requester_core::Command;
 use mctp_framing::PacketList;
 use requester::{ReqConfig, ReqConfigFault, Requester};
 use responder::{Known, Responder, RspConfig, RspConfigFault};

@@ -1,6 +1,6 @@
 ghost use Rattle.std.specs.Prelude.{◌≡◌, ◌≤◌, length};
 ghost use Rattle.spdm_basis.specs.Sizes.{hash_size};
-ghost use Rattle.spdm_basis.specs.declared.hash_alg.HashAlg.TheVariants.{Sha256};
+ghost use Rattle.spdm_basis.specs.declared.values.hash_alg.HashAlg.TheVariants.{Sha256};
 
 use crate::bench_error::BenchError;
 use measurements::Inventory;

@@ -1,6 +1,6 @@
 -- Steps of going over algorithm structures.
 use Rattle.std.proofs.Common.{◌≡◌, ℕ, ◌+◌, ◌-◌, ◌<◌, suc, Ok, Err, arith, refl, ap, ◌∙◌}
-use Rattle.spdm_grammar.specs.declared.malformed.Malformed.{Malformed}
+use Rattle.spdm_grammar.specs.declared.messages.malformed.Malformed.{Malformed}
 use Rattle.spdm_grammar.specs.Reading.{Place, behind_table, behind_tables}
 
 -- none yet

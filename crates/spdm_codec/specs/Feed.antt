@@ -1,6 +1,6 @@
 -- A message that comes in pieces. This project's own.
 use Rattle.std.specs.Prelude.{ℕ, List, Option}
-use Rattle.spdm_grammar.specs.declared.malformed.Malformed.{Malformed}
+use Rattle.spdm_grammar.specs.declared.messages.malformed.Malformed.{Malformed}
 use Rattle.spdm_grammar.specs.Requests.{request_fault}
 use Rattle.spdm_grammar.specs.Responses.{response_fault}
 use Rattle.spdm_codec.specs.declared.expect.Expect.{Expect}

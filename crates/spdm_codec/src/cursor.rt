@@ -1,6 +1,6 @@
 ghost use Rattle.std.specs.Prelude.{◌≡◌, ◌≤◌, ◌<◌, ◌^◌, ◌+◌, ◌==◌, length, IfOk, OnOk};
 ghost use Rattle.spdm_grammar.specs.Reading.{field_at, number_at, optional_at, behind_table, tables_at, ended, ended_sized, all_up_to};
-ghost use Rattle.spdm_grammar.specs.declared.malformed.Part.TheVariants.{Field};
+ghost use Rattle.spdm_grammar.specs.declared.messages.malformed.Part.TheVariants.{Field};
 ghost use Rattle.spdm_codec.specs.Answer.{Gives};
 ghost use Rattle.spdm_codec.specs.Behind.{IsBehind};
 

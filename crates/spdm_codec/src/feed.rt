@@ -4,8 +4,8 @@ ghost use Rattle.std.specs.Result.{result_ok, result_err};
 ghost use Rattle.spdm_grammar.specs.Message.{request_message, response_message};
 ghost use Rattle.spdm_grammar.specs.Requests.{request_in, request_fault};
 ghost use Rattle.spdm_grammar.specs.Responses.{response_in, response_fault};
-ghost use Rattle.spdm_grammar.specs.declared.malformed.Malformed.{Malformed};
-ghost use Rattle.spdm_grammar.specs.declared.malformed.Part.TheVariants.{End};
+ghost use Rattle.spdm_grammar.specs.declared.messages.malformed.Malformed.{Malformed};
+ghost use Rattle.spdm_grammar.specs.declared.messages.malformed.Part.TheVariants.{End};
 ghost use Rattle.spdm_codec.specs.declared.expect.Expect.{Expect};
 ghost use Rattle.spdm_codec.specs.Feed.{fault_in, AwaitsRequest, AwaitsResponse};
 

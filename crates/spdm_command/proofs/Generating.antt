@@ -5,9 +5,9 @@ use Rattle.link_world.specs.Worlds.{StandsFor}
 use Rattle.link_world.specs.declared.world.World as program
 use Rattle.script_text.specs.Generator.{generated}
 use Rattle.script_text.specs.Sound.{IsSoundConfig}
-use Rattle.script_text.specs.declared.event.Entry.{Entry}
-use Rattle.script_text.specs.declared.script.Script.{Script}
-use Rattle.script_worlds.specs.Scripts.{entries_in, full_from, full_line, last_world, set_up}
+use Rattle.script_text.specs.declared.events.event.Entry.{Entry}
+use Rattle.script_text.specs.declared.texts.script.Script.{Script}
+use Rattle.script_laws.specs.Scripts.{entries_in, full_from, full_line, last_world, set_up}
 use Rattle.spdm_basis.specs.Stream.{Takes, TakesPrefix}
 use Rattle.spdm_command.proofs.GeneratedSound.{generated_sound}
 use Rattle.spdm_command.proofs.NoFault.{all_happened, never_full}

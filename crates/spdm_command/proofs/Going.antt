@@ -4,9 +4,9 @@ use Rattle.link_world.proofs.Writing.{both_lines, prefix_lines, both_prefix}
 use Rattle.link_world.specs.Worlds.{StandsFor}
 use Rattle.link_world.specs.Written.{before_full, has_full, text_of}
 use Rattle.link_world.specs.declared.world.World as program
-use Rattle.script_text.specs.declared.event.Entry.{Entry}
-use Rattle.script_worlds.proofs.Going.{goes_on, lines_more, lines_to, room_more, step_at, stops_at, world_more, world_to, writes_all}
-use Rattle.script_worlds.specs.Scripts.{entries_in, entry_in, full_from}
+use Rattle.script_text.specs.declared.events.event.Entry.{Entry}
+use Rattle.script_laws.proofs.Going.{goes_on, lines_more, lines_to, room_more, step_at, stops_at, world_more, world_to, writes_all}
+use Rattle.script_laws.specs.Scripts.{entries_in, entry_in, full_from}
 use Rattle.spdm_basis.specs.Stream.{Takes, TakesPrefix}
 use Rattle.spdm_command.specs.Going.{IsFullAt, text_from}
 use Rattle.spdm_grammar.specs.Lines.{Line}

@@ -7,24 +7,24 @@ use Rattle.link_world.proofs.Writing.{prefix_longer, prefix_more, takes_more}
 use Rattle.link_world.specs.Worlds.{StandsFor}
 use Rattle.link_world.specs.Written.{text_of}
 use Rattle.link_world.specs.declared.world.World as program
-use Rattle.script_text.specs.declared.event.Entry.{Entry}
-use Rattle.script_worlds.proofs.Traces.{written_begins}
-use Rattle.script_worlds.specs.Scripts.{entries_in, full_from, full_line, last_world, set_up, written_in}
+use Rattle.script_text.specs.declared.events.event.Entry.{Entry}
+use Rattle.script_laws.proofs.Traces.{written_begins}
+use Rattle.script_laws.specs.Scripts.{entries_in, full_from, full_line, last_world, set_up, written_in}
 use Rattle.spdm_basis.specs.Stream.{Takes, TakesPrefix}
 use Rattle.spdm_command.specs.Going.{IsFullAt, text_from}
 use Rattle.world_machine.specs.Setup.{script_world}
 use Rattle.world_machine.specs.Trace.{world_from}
 use Rattle.world_machine.specs.World.{new_world, shown_lines}
-use Rattle.configured_ends.specs.Configured.{configuration_in}
+use Rattle.script_ends.specs.Configured.{configuration_in}
 use Rattle.link_world.specs.Configured.{HaveFirstFault, IsCause}
 use Rattle.link_world.specs.declared.fault.WorldFault.TheVariants.{Requester, Responder}
 use Rattle.requester.specs.declared.fault.ReqConfigFault.{ReqConfigFault}
 use Rattle.responder.specs.declared.fault.RspConfigFault.{RspConfigFault}
 use Rattle.script_text.specs.Sound.{IsSoundConfig}
-use Rattle.script_text.specs.declared.config.ScriptConfig.{ScriptConfig}
-use Rattle.script_text.specs.declared.config.ReqPart.{ReqPart}
-use Rattle.script_text.specs.declared.script.Script.{Script}
-use Rattle.script_worlds.proofs.EndsRight.{sound_has_no_fault}
+use Rattle.script_text.specs.declared.configuration.config.ScriptConfig.{ScriptConfig}
+use Rattle.script_text.specs.declared.configuration.config.ReqPart.{ReqPart}
+use Rattle.script_text.specs.declared.texts.script.Script.{Script}
+use Rattle.script_laws.proofs.EndsRight.{sound_has_no_fault}
 
 pub no_responder_fault : (c : ScriptConfig) → IsSoundConfig c → (fault : RspConfigFault) → IsCause c (Responder fault) → ⊥
 no_responder_fault c sound fault cause =

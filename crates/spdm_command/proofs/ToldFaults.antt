@@ -1,9 +1,9 @@
 -- The fault of a text of messages, as the command tells it.
 use Rattle.std.proofs.Common.{◌≡◌, ℕ, List, Option, Some, None, Result, Ok, Err}
-use Rattle.script_text.specs.declared.faults.LineFault.{LineFault}
-use Rattle.script_text.specs.declared.faults.ScriptFault.{ScriptFault}
-use Rattle.script_text.specs.declared.faults.ScriptFault.TheVariants as fault
-use Rattle.script_text.specs.declared.shown.Shown.{Shown}
+use Rattle.script_text.specs.declared.texts.faults.LineFault.{LineFault}
+use Rattle.script_text.specs.declared.texts.faults.ScriptFault.{ScriptFault}
+use Rattle.script_text.specs.declared.texts.faults.ScriptFault.TheVariants as fault
+use Rattle.script_text.specs.declared.texts.shown.Shown.{Shown}
 use Rattle.spdm_show.specs.Shown.{IsBad}
 use Rattle.spdm_show.specs.declared.showing.ShowFault.TheVariants as told
 use Rattle.script_text.specs.Reading.{BadLine, bad_line_in}

@@ -3,14 +3,14 @@ use Rattle.std.specs.Prelude.{◌≡◌, ℕ, List, [], nat_lt, length, if◌the
 use Rattle.link_world.specs.Worlds.{StandsFor}
 use Rattle.link_world.specs.declared.world.World.{World}
 use Rattle.script_text.specs.Generator.{generated}
-use Rattle.script_text.specs.OtherLines.{summary_text}
+use Rattle.trace_text.specs.OtherLines.{summary_text}
 use Rattle.script_text.specs.Reading.{BadLine, bad_line_in}
 use Rattle.script_text.specs.ScriptText.{script_in}
 use Rattle.script_text.specs.ShownText.{shown_in}
-use Rattle.script_text.specs.declared.faults.ScriptFault.{ScriptFault}
-use Rattle.script_text.specs.declared.faults.ScriptFault.TheVariants as fault
-use Rattle.script_text.specs.declared.script.Script.{Script}
-use Rattle.script_worlds.specs.Scripts.{full_line, last_world, written_in}
+use Rattle.script_text.specs.declared.texts.faults.ScriptFault.{ScriptFault}
+use Rattle.script_text.specs.declared.texts.faults.ScriptFault.TheVariants as fault
+use Rattle.script_text.specs.declared.texts.script.Script.{Script}
+use Rattle.script_laws.specs.Scripts.{full_line, last_world, written_in}
 use Rattle.spdm_basis.specs.Stream.{IsQuiet}
 use Rattle.spdm_show.specs.Shown.{shown_text}
 use Rattle.world_machine.specs.Totals.{Totals, totals_of}

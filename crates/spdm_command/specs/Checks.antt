@@ -1,10 +1,10 @@
 -- What `check` answers for a capture. This project's own.
 use Rattle.std.specs.Prelude.{◌≡◌, ℕ, List, Bool, true, false, Option, Result, Ok, Err}
-use Rattle.spdm_check.specs.Answers.{Finding, IsAnswered, answer_for}
-use Rattle.spdm_check.specs.declared.answer.CheckAnswer.{CheckAnswer}
-use Rattle.spdm_check.specs.declared.answer.CheckAnswer.TheVariants as answer
-use Rattle.spdm_check.specs.declared.answer.CheckFault.{CheckFault}
-use Rattle.spdm_check.specs.declared.answer.CheckFault.TheVariants as fault
+use Rattle.trace_check.specs.Answers.{Finding, IsAnswered, answer_for}
+use Rattle.trace_check.specs.declared.answer.CheckAnswer.{CheckAnswer}
+use Rattle.trace_check.specs.declared.answer.CheckAnswer.TheVariants as answer
+use Rattle.trace_check.specs.declared.answer.CheckFault.{CheckFault}
+use Rattle.trace_check.specs.declared.answer.CheckFault.TheVariants as fault
 use Rattle.spdm_command.specs.declared.outcome.Outcome.{Outcome}
 use Rattle.spdm_command.specs.declared.outcome.Outcome.TheVariants.{Done, Differs, BadScript, ReadFault, WriteFault, OutOfMemory, TooLong}
 

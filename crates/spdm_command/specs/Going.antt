@@ -1,8 +1,8 @@
 -- What events write from a world on, up to a packet for which the link has no room. This project's own.
 use Rattle.std.specs.Prelude.{◌≡◌, ℕ, List, Option, Some}
 use Rattle.link_world.specs.Written.{before_full, text_of}
-use Rattle.script_text.specs.declared.event.Entry.{Entry}
-use Rattle.script_worlds.specs.Scripts.{entries_in, full_from}
+use Rattle.script_text.specs.declared.events.event.Entry.{Entry}
+use Rattle.script_laws.specs.Scripts.{entries_in, full_from}
 use Rattle.spdm_basis.specs.Stream.{Takes}
 use Rattle.world_machine.specs.Trace.{lines_from}
 use Rattle.world_machine.specs.World.{World}

@@ -2,14 +2,14 @@ ghost use Rattle.std.specs.Prelude.{◌≡◌, ◌≢◌, ◌≤◌, ◌⊎◌, 
 ghost use Rattle.script_text.specs.Reading.{bad_line_in};
 ghost use Rattle.script_text.specs.ScriptText.{capture_in};
 ghost use Rattle.spdm_basis.specs.Stream.{HasFault, IsQuiet};
-ghost use Rattle.spdm_check.specs.Answers.{Finding, HasFinding};
+ghost use Rattle.trace_check.specs.Answers.{Finding, HasFinding};
 ghost use Rattle.spdm_command.specs.Answer.{text_limit, writes_nothing};
 ghost use Rattle.spdm_command.specs.Checks.{IsChecked, is_judged, outcome_for, outcome_of};
 ghost use Rattle.spdm_command.specs.Streams.{is_of_streams};
 
 use crate::outcome::Outcome;
 use spdm_basis::{Sink, Source};
-use spdm_check::{CheckAnswer, CheckFault, check_input};
+use trace_check::{CheckAnswer, CheckFault, check_input};
 use std::alloc::Global;
 
 // What a capture came to, as the command tells it.

@@ -1,8 +1,8 @@
 ghost use Rattle.std.specs.Prelude.{◌≡◌, ◌≤◌, ℕ, List, Err, None, Some, IfOk, IsErrOf, OnErr, OnOk};
 ghost use Rattle.link_world.specs.Worlds.{StandsFor};
 ghost use Rattle.script_text.specs.Generator.{generated};
-ghost use Rattle.script_text.specs.declared.faults.LineFault.{LineFault};
-ghost use Rattle.script_worlds.specs.Scripts.{full_line, last_world};
+ghost use Rattle.script_text.specs.declared.texts.faults.LineFault.{LineFault};
+ghost use Rattle.script_laws.specs.Scripts.{full_line, last_world};
 ghost use Rattle.spdm_basis.specs.Stream.{HasFault, Takes, TakesPrefix};
 ghost use Rattle.spdm_command.specs.Answer.{generated_text, summary_of};
 ghost use Rattle.world_machine.specs.Totals.{totals_of};

@@ -1,5 +1,5 @@
 ghost use Rattle.std.specs.Prelude.{◌≡◌, ◌≤◌, ℕ, Err, None, Some, length, IsErrOf, OnErr, OnOk};
-ghost use Rattle.script_text.specs.declared.faults.LineFault.{LineFault};
+ghost use Rattle.script_text.specs.declared.texts.faults.LineFault.{LineFault};
 ghost use Rattle.spdm_basis.specs.Stream.{HasFault, Takes, TakesPrefix};
 ghost use Rattle.spdm_command.specs.Answer.{IsLeft, bad_line_of, full_of, output_of};
 ghost use Rattle.spdm_command.specs.Words.{IsTextInRange};

@@ -1,11 +1,11 @@
 ghost use Rattle.std.specs.Prelude.{◌≡◌, ◌≢◌, ◌≤◌, ◌<◌, ◌↔◌, ◌⊎◌, [], ℕ, List, Some, None, IsSome, true, false, map, length, string_bytes};
 ghost use Rattle.script_text.specs.Reading.{bad_line_in};
 ghost use Rattle.script_text.specs.ScriptText.{capture_in};
-ghost use Rattle.script_text.specs.declared.faults.LineFault.{LineFault};
-ghost use Rattle.script_worlds.specs.Refused.{RefusesIn};
-ghost use Rattle.script_worlds.specs.Worlds.{AgreesIn, DeliversIn, MatchesIn, SealsOnceIn, ShowsAlikeIn};
+ghost use Rattle.script_text.specs.declared.texts.faults.LineFault.{LineFault};
+ghost use Rattle.script_laws.specs.Refused.{RefusesIn};
+ghost use Rattle.script_laws.specs.Worlds.{AgreesIn, DeliversIn, MatchesIn, SealsOnceIn, ShowsAlikeIn};
 ghost use Rattle.spdm_basis.specs.Stream.{HasFault, IsQuiet, Takes, TakesPrefix};
-ghost use Rattle.spdm_check.specs.Answers.{Finding, HasFinding};
+ghost use Rattle.trace_check.specs.Answers.{Finding, HasFinding};
 ghost use Rattle.spdm_command.specs.Answer.{IsLeft, IsReadQuietly, answer_to, bad_line_by, full_by, input_by, output_by, ran, reads, text_limit, writes_nothing};
 ghost use Rattle.spdm_command.specs.Checks.{IsChecked, is_judged, is_of_captures, outcome_for};
 ghost use Rattle.spdm_command.specs.Streams.{IsDriven, IsServed, answers_stream, is_of_streams, outcome_of};
@@ -32,7 +32,7 @@ use std::alloc::Global;
 /// configuration up to `end`, takes one seed, and answers the frames of the stream behind as the responder that is
 /// configured. The word `drive` does the same with the first requester that is configured, whose commands come as
 /// frames too. The word `check` reads a capture, and writes whether its ends could have made it.
-#[tactic(auto, using(crate::proofs::TopCall::read_is, script_worlds::proofs::RefusedRight::refuses))]
+#[tactic(auto, using(crate::proofs::TopCall::read_is, script_laws::proofs::RefusedRight::refuses))]
 pub fn spdm<S: Source, K: Sink, E: Seeds>(
     alloc: Global,
     words: &[String],

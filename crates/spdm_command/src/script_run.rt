@@ -2,8 +2,8 @@ ghost use Rattle.std.specs.Prelude.{◌≡◌, ◌≤◌, ℕ, List, Err, None, 
 ghost use Rattle.link_world.specs.Worlds.{StandsFor};
 ghost use Rattle.script_text.specs.ScriptText.{script_in};
 ghost use Rattle.script_text.specs.Sound.{IsSoundConfig};
-ghost use Rattle.script_text.specs.declared.faults.LineFault.{LineFault};
-ghost use Rattle.script_worlds.specs.Scripts.{entries_in, full_from, full_line, last_world, set_up, written_in};
+ghost use Rattle.script_text.specs.declared.texts.faults.LineFault.{LineFault};
+ghost use Rattle.script_laws.specs.Scripts.{entries_in, full_from, full_line, last_world, set_up, written_in};
 ghost use Rattle.spdm_basis.specs.Stream.{HasFault, Takes, TakesPrefix};
 ghost use Rattle.spdm_command.specs.Answer.{IsLastWorld, bad_line_of, full_of, output_of};
 ghost use Rattle.spdm_command.specs.Going.{IsFullAt, text_from};

@@ -1,7 +1,7 @@
 -- The names of the faults of lines, and a sentence of help for each. This project's own.
 use Rattle.std.specs.Prelude.{ℕ, List, codes}
-use Rattle.script_text.specs.declared.faults.LineFault.{LineFault}
-use Rattle.script_text.specs.declared.faults.LineFault.TheVariants as fault
+use Rattle.script_text.specs.declared.texts.faults.LineFault.{LineFault}
+use Rattle.script_text.specs.declared.texts.faults.LineFault.TheVariants as fault
 
 abbrev pub name_of : LineFault → List ℕ
 name_of fault.LineTooLong = codes "LineTooLong"

@@ -4,9 +4,9 @@ use Rattle.std.specs.Fmt.{decimal}
 use Rattle.script_text.specs.ConfigText.{config_in}
 use Rattle.script_text.specs.PolicyText.{policy_in}
 use Rattle.script_text.specs.ScriptText.{script_in, capture_in, lives_in}
-use Rattle.script_text.specs.declared.faults.LineFault.TheVariants.{TooManyEvents}
-use Rattle.script_text.specs.declared.faults.ScriptFault.{ScriptFault}
-use Rattle.script_text.specs.declared.faults.ScriptFault.TheVariants as fault
+use Rattle.script_text.specs.declared.texts.faults.LineFault.TheVariants.{TooManyEvents}
+use Rattle.script_text.specs.declared.texts.faults.ScriptFault.{ScriptFault}
+use Rattle.script_text.specs.declared.texts.faults.ScriptFault.TheVariants as fault
 use Rattle.spdm_explain.specs.Help.{name_of, help_of}
 use Rattle.spdm_explain.specs.declared.form.Form.{Form}
 use Rattle.spdm_explain.specs.declared.form.Form.TheVariants as form

@@ -1,7 +1,7 @@
 -- A request that bytes spell fits its fields and is sound.
 use Rattle.std.proofs.Common.{ℕ, ◌%◌, eqb, leb, List, Some, None, sym, arith}
 use Rattle.std.proofs.lemmas.Bool.{leb-true, and_parts}
-use Rattle.spdm_grammar.specs.declared.capabilities.Caps.{Caps}
+use Rattle.spdm_grammar.specs.declared.messages.capabilities.Caps.{Caps}
 use Rattle.spdm_grammar.specs.Layout.Layout.{Whole, Bytes}
 use Rattle.spdm_grammar.specs.Fields.{FitsCaps, FitsChunk, IsSoundChunk, caps_layout, chunk_layout}
 use Rattle.spdm_grammar.specs.Message.{RequestMessage, ChunkMessage}

@@ -5,8 +5,8 @@ use Rattle.std.proofs.lemmas.List.{nil_from_length}
 use Rattle.std.specs.Prelude.{◌↔◌}
 use Rattle.std.specs.Result.{result_ok}
 use Rattle.byteorder.specs.Endian.{little_number}
-use Rattle.spdm_grammar.specs.declared.malformed.Malformed.{Malformed}
-use Rattle.spdm_grammar.specs.declared.malformed.Part.TheVariants.{Field, Length, Rest}
+use Rattle.spdm_grammar.specs.declared.messages.malformed.Malformed.{Malformed}
+use Rattle.spdm_grammar.specs.declared.messages.malformed.Part.TheVariants.{Field, Length, Rest}
 use Rattle.spdm_grammar.specs.Layout.{Layout, IsSpelling}
 use Rattle.spdm_grammar.specs.Layout.Layout.{Whole, Sized, Number, Optional, Bytes, Tables, UpTo, Remaining}
 use Rattle.spdm_grammar.specs.Reading.{front, Place, read, field_at, number_at, optional_at, tables_at, ended, all_up_to}

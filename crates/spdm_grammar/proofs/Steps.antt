@@ -4,8 +4,8 @@ use Rattle.std.proofs.lemmas.Bool.{ltb-false, le-ltb, eqb-true, eq-eqb}
 use Rattle.std.proofs.lemmas.List.{take_at, drop_at, take-append-drop, length-append, length-take}
 use Rattle.byteorder.specs.Endian.{little_number}
 use Rattle.spdm_grammar.specs.Layout.{IsTable, AreTables}
-use Rattle.spdm_grammar.specs.declared.malformed.Malformed.{Malformed}
-use Rattle.spdm_grammar.specs.declared.malformed.Part.TheVariants.{End, Field}
+use Rattle.spdm_grammar.specs.declared.messages.malformed.Malformed.{Malformed}
+use Rattle.spdm_grammar.specs.declared.messages.malformed.Part.TheVariants.{End, Field}
 use Rattle.spdm_grammar.specs.Reading.{Place, and_then, field_at, number_at, optional_at, behind_table, behind_tables, tables_at}
 
 -- ---- steps in general

@@ -1,7 +1,7 @@
 -- The numbers of the error codes (DSP0274, "Error code and error data").
 use Rattle.std.specs.Prelude.{ℕ}
-use Rattle.spdm_grammar.specs.declared.error_code.ErrorCode.{ErrorCode}
-use Rattle.spdm_grammar.specs.declared.error_code.ErrorCode.TheVariants.{InvalidRequest, UnexpectedRequest, Unspecified, DecryptError, UnsupportedRequest, SessionLimitExceeded, SessionRequired, ResponseTooLarge, RequestTooLarge, LargeResponse, VersionMismatch}
+use Rattle.spdm_grammar.specs.declared.messages.error_code.ErrorCode.{ErrorCode}
+use Rattle.spdm_grammar.specs.declared.messages.error_code.ErrorCode.TheVariants.{InvalidRequest, UnexpectedRequest, Unspecified, DecryptError, UnsupportedRequest, SessionLimitExceeded, SessionRequired, ResponseTooLarge, RequestTooLarge, LargeResponse, VersionMismatch}
 use Rattle.spdm_grammar.specs.declared.names.error_number.TheConstants.{INVALID_REQUEST, UNEXPECTED_REQUEST, UNSPECIFIED, DECRYPT_ERROR, UNSUPPORTED_REQUEST, SESSION_LIMIT_EXCEEDED, SESSION_REQUIRED, RESPONSE_TOO_LARGE, REQUEST_TOO_LARGE, LARGE_RESPONSE, VERSION_MISMATCH}
 
 abbrev pub error_number : ErrorCode → ℕ

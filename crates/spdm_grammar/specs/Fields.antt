@@ -1,7 +1,7 @@
 -- Fields and parts that requests and responses share (DSP0274, section 10).
 use Rattle.std.specs.Prelude.{◌≡◌, ◌<◌, ◌^◌, ◌%◌, ◌==◌, ◌&&◌, ◌||◌, ℕ, Bool, true, nat_le, if◌then◌else◌, is_some, List, [], ◌∷◌, ◌++◌, length, replicate, Option, Some, None, IfSome}
 use Rattle.byteorder.specs.Endian.{little_bytes}
-use Rattle.spdm_grammar.specs.declared.capabilities.Caps.{Caps}
+use Rattle.spdm_grammar.specs.declared.messages.capabilities.Caps.{Caps}
 use Rattle.spdm_grammar.specs.Layout.{Layout, reserved}
 use Rattle.spdm_grammar.specs.Layout.Layout.{Whole, Number, Optional, Bytes}
 use Rattle.spdm_grammar.specs.Message.{ChunkMessage}

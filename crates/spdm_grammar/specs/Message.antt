@@ -1,16 +1,16 @@
 -- Requests and responses as values, without where their parts lie in memory.
 use Rattle.std.specs.Prelude.{ℕ, Bool, List, Option}
-use Rattle.spdm_grammar.specs.declared.algorithms.AlgOffer.{AlgOffer}
-use Rattle.spdm_grammar.specs.declared.algorithms.AlgReply.{AlgReply}
-use Rattle.spdm_grammar.specs.declared.capabilities.Caps.{Caps}
-use Rattle.spdm_grammar.specs.declared.chunk.ChunkView.{ChunkView}
-use Rattle.spdm_grammar.specs.declared.exchange.Exchange.{Exchange}
-use Rattle.spdm_grammar.specs.declared.exchange.ExchangeRsp.{ExchangeRsp}
-use Rattle.spdm_grammar.specs.declared.measurements.Measured.{Measured}
-use Rattle.spdm_grammar.specs.declared.request.Request.{Request}
-use Rattle.spdm_grammar.specs.declared.request.Request.TheVariants as request
-use Rattle.spdm_grammar.specs.declared.response.Response.{Response}
-use Rattle.spdm_grammar.specs.declared.response.Response.TheVariants as response
+use Rattle.spdm_grammar.specs.declared.messages.algorithms.AlgOffer.{AlgOffer}
+use Rattle.spdm_grammar.specs.declared.messages.algorithms.AlgReply.{AlgReply}
+use Rattle.spdm_grammar.specs.declared.messages.capabilities.Caps.{Caps}
+use Rattle.spdm_grammar.specs.declared.messages.chunk.ChunkView.{ChunkView}
+use Rattle.spdm_grammar.specs.declared.messages.exchange.Exchange.{Exchange}
+use Rattle.spdm_grammar.specs.declared.messages.exchange.ExchangeRsp.{ExchangeRsp}
+use Rattle.spdm_grammar.specs.declared.messages.measurements.Measured.{Measured}
+use Rattle.spdm_grammar.specs.declared.messages.request.Request.{Request}
+use Rattle.spdm_grammar.specs.declared.messages.request.Request.TheVariants as request
+use Rattle.spdm_grammar.specs.declared.messages.response.Response.{Response}
+use Rattle.spdm_grammar.specs.declared.messages.response.Response.TheVariants as response
 
 -- What a requester offers.
 pub record OfferMessage : Type 0 where

@@ -1,8 +1,8 @@
 -- The value that bytes spell, field by field, or where they are at fault. This project's own: DSP0274 names no places.
 use Rattle.std.specs.Prelude.{◌+◌, ◌-◌, ◌*◌, ◌/◌, ◌%◌, ◌==◌, ℕ, zero, suc, Bool, List, length, take, drop, nat_lt, if◌then◌else◌, Option, Some, None, Result, Ok, Err}
 use Rattle.byteorder.specs.Endian.{little_number}
-use Rattle.spdm_grammar.specs.declared.malformed.Malformed.{Malformed}
-use Rattle.spdm_grammar.specs.declared.malformed.Part.TheVariants.{End, Field, Length, Rest}
+use Rattle.spdm_grammar.specs.declared.messages.malformed.Malformed.{Malformed}
+use Rattle.spdm_grammar.specs.declared.messages.malformed.Part.TheVariants.{End, Field, Length, Rest}
 use Rattle.spdm_grammar.specs.Layout.{Layout}
 use Rattle.spdm_grammar.specs.Layout.Layout.{Whole, Sized, Number, Optional, Bytes, Tables, UpTo, Remaining}
 

@@ -5,8 +5,8 @@ ghost use Rattle.spdm_grammar.specs.Message.{RequestMessage, ResponseMessage};
 ghost use Rattle.spdm_grammar.specs.Requests.{IsRequestSpelling, FitsRequest, IsSoundRequest, canonical_request, request_in, request_fault};
 ghost use Rattle.spdm_grammar.specs.Responses.{IsResponseSpelling, FitsResponse, IsSoundResponse, canonical_response, response_in, response_fault};
 ghost use Rattle.spdm_grammar.specs.Ends.{EndsByItself};
-ghost use Rattle.spdm_grammar.specs.declared.malformed.Malformed.{Malformed};
-ghost use Rattle.spdm_grammar.specs.declared.malformed.Part.TheVariants.{End};
+ghost use Rattle.spdm_grammar.specs.declared.messages.malformed.Malformed.{Malformed};
+ghost use Rattle.spdm_grammar.specs.declared.messages.malformed.Part.TheVariants.{End};
 
 /// The function on bytes answers a request exactly where they spell it.
 pub fn request_in_is_spelled()

@@ -5,51 +5,33 @@
 //! to read first is `canonical_request_is_read`.
 #![tactic(auto)]
 
-mod algorithms;
-mod block_spec;
-mod capabilities;
-mod choice;
-mod chunk;
-mod command_fault;
-mod error_code;
-mod event;
-mod exchange;
-mod heard;
+mod messages;
+mod told;
 mod laws;
-mod malformed;
-mod measurements;
 pub mod names;
-mod part_faults;
-mod phase;
-mod request;
-mod response;
-mod session_list;
-mod session_view;
-mod tables;
-mod why;
 
-pub use algorithms::{AlgOffer, AlgReply};
-pub use block_spec::BlockSpec;
-pub use capabilities::Caps;
-pub use choice::{Choice, FlagSet, Pick, Suites};
-pub use chunk::ChunkView;
-pub use command_fault::CommandFault;
-pub use error_code::ErrorCode;
-pub use event::{BadReply, Event, Finished, ReqIgnored, Stop};
-pub use exchange::{Exchange, ExchangeRsp};
-pub use heard::{Heard, ReplyFault, RspIgnored};
+pub use messages::algorithms::{AlgOffer, AlgReply};
+pub use told::block_spec::BlockSpec;
+pub use messages::capabilities::Caps;
+pub use messages::choice::{Choice, FlagSet, Pick, Suites};
+pub use messages::chunk::ChunkView;
+pub use told::command_fault::CommandFault;
+pub use messages::error_code::ErrorCode;
+pub use told::event::{BadReply, Event, Finished, ReqIgnored, Stop};
+pub use messages::exchange::{Exchange, ExchangeRsp};
+pub use told::heard::{Heard, ReplyFault, RspIgnored};
 pub use laws::{
     canonical_request_is_read, canonical_response_is_read, no_request_prefix, no_response_prefix,
     one_request, one_response, request_fault_stays, request_in_is_spelled, response_fault_stays,
     response_in_is_spelled, spelled_request_is_sound, spelled_response_is_sound,
 };
-pub use malformed::{Malformed, Part};
-pub use measurements::Measured;
-pub use part_faults::{CapsFault, ChunkFault};
-pub use phase::{Phase, Stage};
-pub use request::Request;
-pub use response::Response;
-pub use session_list::SessionList;
-pub use session_view::SessionView;
+pub use messages::malformed::{Malformed, Part};
+pub use messages::measurements::Measured;
+pub use messages::part_faults::{CapsFault, ChunkFault};
+pub use told::phase::{Phase, Stage};
+pub use messages::request::Request;
+pub use messages::response::Response;
+pub use told::session_list::SessionList;
+pub use told::session_view::SessionView;
 pub use spdm_basis::{AeadAlg, HashAlg};
-pub use why::Why;
+pub use told::why::Why;

@@ -5,7 +5,7 @@ use Rattle.negotiate.specs.Choosing.{agreed}
 use Rattle.spdm_grammar.specs.Message.{OfferMessage, ReplyMessage, RequestMessage, ResponseMessage}
 use Rattle.spdm_grammar.specs.Message.RequestMessage.{NegotiateAlgorithms}
 use Rattle.spdm_grammar.specs.Message.ResponseMessage.{Algorithms}
-use Rattle.spdm_grammar.specs.declared.choice.Choice.{Choice}
+use Rattle.spdm_grammar.specs.declared.messages.choice.Choice.{Choice}
 use Rattle.spdm_machine.specs.Terms.{terms_of, request_value, response_value, choice_from, offer_in, reply_in, no_choice, no_negotiation}
 use Rattle.transcript.specs.Transcripts.{Negotiation, vca_of}
 

@@ -8,10 +8,10 @@ use Rattle.key_schedule.specs.declared.direction.Direction.{Direction}
 use Rattle.running_hash.specs.Hash.{hash_of}
 use Rattle.secured_record.specs.Faults.{fault_of, inner_of}
 use Rattle.secured_record.specs.Format.{record_of}
-use Rattle.spdm_basis.specs.declared.hash_alg.HashAlg.{HashAlg}
-use Rattle.spdm_basis.specs.declared.hash_alg.HashAlg.TheVariants.{Sha256, Sha384}
-use Rattle.spdm_basis.specs.declared.record_fault.RecordFault.{RecordFault}
-use Rattle.spdm_grammar.specs.declared.choice.Choice.{Choice}
+use Rattle.spdm_basis.specs.declared.values.hash_alg.HashAlg.{HashAlg}
+use Rattle.spdm_basis.specs.declared.values.hash_alg.HashAlg.TheVariants.{Sha256, Sha384}
+use Rattle.spdm_basis.specs.declared.causes.record_fault.RecordFault.{RecordFault}
+use Rattle.spdm_grammar.specs.declared.messages.choice.Choice.{Choice}
 
 -- A draw of an end: its number, and 32 bytes that its seed and the number fix.
 pub record Draw : Type 0 where

@@ -4,8 +4,8 @@ use Rattle.std.specs.Prelude.{ℕ, List, drop, if◌then◌else◌, Bool, true, 
 use Rattle.byteorder.specs.Endian.{little_number}
 use Rattle.key_schedule.specs.Purpose.{Purpose, handshake_record, application_record}
 use Rattle.key_schedule.specs.declared.direction.Direction.{Direction}
-use Rattle.spdm_grammar.specs.declared.phase.Stage.{Stage}
-use Rattle.spdm_grammar.specs.declared.phase.Stage.TheVariants.{Handshake, Open, Verifying}
+use Rattle.spdm_grammar.specs.declared.told.phase.Stage.{Stage}
+use Rattle.spdm_grammar.specs.declared.told.phase.Stage.TheVariants.{Handshake, Open, Verifying}
 
 -- ReqSessionID and RspSessionID are the two bytes behind the header of PSK_EXCHANGE and of PSK_EXCHANGE_RSP
 -- (DSP0274, "PSK_EXCHANGE").

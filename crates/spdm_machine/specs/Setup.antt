@@ -1,6 +1,6 @@
 -- The capabilities that both ends announce alike.
 use Rattle.std.specs.Prelude.{◌+◌, ℕ, if◌then◌else◌}
-use Rattle.spdm_grammar.specs.declared.choice.FlagSet.{FlagSet}
+use Rattle.spdm_grammar.specs.declared.messages.choice.FlagSet.{FlagSet}
 use Rattle.spdm_grammar.specs.declared.names.capability.TheConstants.{ENCRYPT_CAP, MAC_CAP, HBEAT_CAP, KEY_UPD_CAP, CHUNK_CAP}
 
 -- ENCRYPT_CAP and MAC_CAP, which both ends always announce (DSP0274, "GET_CAPABILITIES

@@ -5,7 +5,7 @@ use Rattle.aes_gcm.specs.Gcm.{tag_of}
 use Rattle.key_schedule.specs.Purpose.{Purpose, key_of, iv_of}
 use Rattle.secured_record.specs.Faults.{header_fault, tag_part, text_part}
 use Rattle.secured_record.specs.Format.{nonce}
-use Rattle.spdm_grammar.specs.declared.choice.Choice.{Choice}
+use Rattle.spdm_grammar.specs.declared.messages.choice.Choice.{Choice}
 
 -- A tag was made; or one was made to be compared with a received one. Each has its purpose, what it was
 -- computed over, and its value. What verify data are computed over is T1 or Tv. What the tag of a record is

@@ -7,15 +7,15 @@ use Rattle.negotiate.specs.Capabilities.{common_of}
 use Rattle.negotiate.specs.Choosing.{agreed}
 use Rattle.negotiate.specs.declared.shared.Common.{Common}
 use Rattle.spdm_basis.specs.Sizes.{hash_size}
-use Rattle.spdm_basis.specs.declared.aead_alg.AeadAlg.TheVariants.{Aes128Gcm}
-use Rattle.spdm_basis.specs.declared.hash_alg.HashAlg.TheVariants.{Sha256}
+use Rattle.spdm_basis.specs.declared.values.aead_alg.AeadAlg.TheVariants.{Aes128Gcm}
+use Rattle.spdm_basis.specs.declared.values.hash_alg.HashAlg.TheVariants.{Sha256}
 use Rattle.spdm_grammar.specs.Message.{RequestMessage, ResponseMessage, OfferMessage, ReplyMessage}
 use Rattle.spdm_grammar.specs.Message.RequestMessage.{GetCapabilities, NegotiateAlgorithms}
 use Rattle.spdm_grammar.specs.Message.ResponseMessage.{Capabilities, Algorithms}
 use Rattle.spdm_grammar.specs.Requests.{request_in}
 use Rattle.spdm_grammar.specs.Responses.{response_in}
-use Rattle.spdm_grammar.specs.declared.capabilities.Caps.{Caps}
-use Rattle.spdm_grammar.specs.declared.choice.Choice.{Choice}
+use Rattle.spdm_grammar.specs.declared.messages.capabilities.Caps.{Caps}
+use Rattle.spdm_grammar.specs.declared.messages.choice.Choice.{Choice}
 use Rattle.transcript.specs.Transcripts.{Negotiation}
 
 -- The algorithms that were chosen, and what both ends can do.

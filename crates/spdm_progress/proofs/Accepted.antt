@@ -1,6 +1,6 @@
 -- A command that a requester answers `ok`: it is done, and no test of it holds.
 use Rattle.std.proofs.Common.{◌≡◌, ◌∙◌, false, Option, Some, None, refl, sym, ap}
-use Rattle.spdm_grammar.specs.declared.command_fault.CommandFault.{CommandFault}
+use Rattle.spdm_grammar.specs.declared.told.command_fault.CommandFault.{CommandFault}
 use Rattle.spdm_machine.specs.Keys.{Draw}
 use Rattle.spdm_machine.proofs.Members.{none_some}
 use Rattle.requester_machine.specs.Asking.{asks, asks_by, done}

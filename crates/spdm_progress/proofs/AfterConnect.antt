@@ -7,7 +7,7 @@ use Rattle.negotiate.specs.declared.shared.Common.{Common}
 use Rattle.requester_machine.specs.History as asked
 use Rattle.requester_machine.specs.Setup.{ReqSetup}
 use Rattle.responder_machine.specs.Setup.{RspSetup, inventory_of}
-use Rattle.spdm_grammar.specs.declared.choice.Choice.{Choice}
+use Rattle.spdm_grammar.specs.declared.messages.choice.Choice.{Choice}
 use Rattle.spdm_grammar.specs.declared.names.TheConstants.{MAX_MESSAGE_SIZE}
 use Rattle.spdm_progress.specs.Fitting.{CanGo}
 use Rattle.spdm_progress.specs.Measuring.{measurements_size}

@@ -5,7 +5,7 @@ use Rattle.key_schedule.specs.declared.direction.Direction.{Direction}
 use Rattle.key_schedule.specs.declared.direction.Direction.TheVariants.{Request, Response}
 use Rattle.spdm_grammar.specs.Message.{ChunkMessage}
 use Rattle.spdm_grammar.specs.Message.RequestMessage.{ChunkGet, EndSession, GetMeasurements, Heartbeat, KeyUpdate, PskFinish}
-use Rattle.spdm_grammar.specs.declared.phase.Stage.{Stage}
+use Rattle.spdm_grammar.specs.declared.told.phase.Stage.{Stage}
 use Rattle.running_hash.specs.Hash.{hash_of}
 use Rattle.spdm_basis.specs.SessionIdBytes.{session_id_bytes}
 use Rattle.spdm_machine.specs.Sessions.{id_in_exchange, purpose_in}

@@ -8,7 +8,7 @@ use Rattle.responder_machine.specs.History as served
 use Rattle.responder_machine.specs.History.Entry.{Queued, Ticked}
 use Rattle.responder_machine.specs.Responding.{Connection, Responding, changed, changed_if, connection_of, queues, reply_fault_of, with_history}
 use Rattle.responder_machine.specs.Setup.{RspSetup}
-use Rattle.spdm_grammar.specs.declared.heard.ReplyFault.{ReplyFault}
+use Rattle.spdm_grammar.specs.declared.told.heard.ReplyFault.{ReplyFault}
 use Rattle.spdm_machine.specs.TagLog.{Log}
 use Rattle.spdm_machine.proofs.Members.{none_some, some_same}
 use Rattle.world_machine.specs.World.{World, SentPacket, requester_at, requester_of, with_requester}

@@ -44,19 +44,19 @@ use Rattle.spdm_grammar.specs.Requests.{canonical_request}
 use Rattle.spdm_grammar.specs.Responses.{FitsResponse, IsSoundResponse, canonical_response, response_layout, response_reading}
 use Rattle.spdm_grammar.specs.declared.ChunkFault.{ChunkFault}
 use Rattle.spdm_grammar.specs.declared.ChunkFault.TheVariants.{WrongHandle, WrongNumber}
-use Rattle.spdm_grammar.specs.declared.error_code.ErrorCode.TheVariants.{LargeResponse}
-use Rattle.spdm_grammar.specs.declared.event.ReqIgnored.{ReqIgnored}
-use Rattle.spdm_grammar.specs.declared.malformed.Malformed.{Malformed}
+use Rattle.spdm_grammar.specs.declared.messages.error_code.ErrorCode.TheVariants.{LargeResponse}
+use Rattle.spdm_grammar.specs.declared.told.event.ReqIgnored.{ReqIgnored}
+use Rattle.spdm_grammar.specs.declared.messages.malformed.Malformed.{Malformed}
 use Rattle.spdm_grammar.specs.declared.names.TheConstants.{MAX_MESSAGE_SIZE, MIN_DATA_TRANSFER_SIZE}
 use Rattle.spdm_grammar.specs.declared.names.request_code.TheConstants.{CHUNK_GET}
 use Rattle.spdm_grammar.specs.declared.names.spdm_version.TheConstants.{V1_2}
-use Rattle.spdm_grammar.specs.declared.phase.Phase.{Phase}
-use Rattle.spdm_grammar.specs.declared.phase.Phase.TheVariants.{Negotiated}
+use Rattle.spdm_grammar.specs.declared.told.phase.Phase.{Phase}
+use Rattle.spdm_grammar.specs.declared.told.phase.Phase.TheVariants.{Negotiated}
 use Rattle.spdm_machine.specs.Bodies.{clear_body}
 use Rattle.spdm_machine.specs.Keys.{Draw}
 use Rattle.spdm_machine.specs.Terms.{Terms, hash_len, terms_of}
 use Rattle.transcript.specs.Transcripts.{Negotiation}
-use Rattle.world_machine.proofs.SmallGets.{get_fits}
+use Rattle.capture_machine.proofs.SmallGets.{get_fits}
 use Rattle.spdm_progress.proofs.AtRequester.{led_whole}
 use Rattle.spdm_progress.proofs.ChunkRules.{breaks_none, fits_chunk, last_whole, sound_chunk}
 use Rattle.spdm_progress.proofs.RequesterStages.{Asks, hears_as, reads}

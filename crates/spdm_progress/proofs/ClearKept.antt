@@ -1,7 +1,7 @@
 -- Queued data and time change nothing in the clear, so a pair of ends is as it was.
 use Rattle.std.proofs.Common.{◌≡◌, ◌∙◌, ℕ, ◌≤◌, ◌+◌, ◌==◌, List, [], ◌∷◌, length, map, Bool, true, false, cond, Option, Some, None, refl, sym, ap, subst, inl, inr}
 use Rattle.std.specs.Prelude.{if◌then◌else◌}
-use Rattle.spdm_grammar.specs.declared.heard.ReplyFault.{ReplyFault}
+use Rattle.spdm_grammar.specs.declared.told.heard.ReplyFault.{ReplyFault}
 use Rattle.spdm_machine.specs.Packets.{wear_limit}
 use Rattle.spdm_machine.proofs.Members.{none_some, some_same}
 use Rattle.requester_machine.specs.History as asked

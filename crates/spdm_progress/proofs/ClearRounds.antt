@@ -21,7 +21,7 @@ use Rattle.responder_machine.specs.History as served
 use Rattle.responder_machine.specs.Responder as answering
 use Rattle.responder_machine.specs.ResponderLog as served_log
 use Rattle.spdm_agreement.proofs.Requester.Entries.{no_command_heard}
-use Rattle.spdm_grammar.specs.declared.event.Event.{Event}
+use Rattle.spdm_grammar.specs.declared.told.event.Event.{Event}
 use Rattle.spdm_machine.specs.Bodies.{clear_body}
 use Rattle.spdm_machine.specs.Keys.{Draw}
 use Rattle.spdm_machine.specs.TagLog.{Log}

@@ -36,17 +36,17 @@ use Rattle.spdm_grammar.specs.Message.RequestMessage.{ChunkSend}
 use Rattle.spdm_grammar.specs.Message.ResponseMessage.{ChunkSendAck}
 use Rattle.spdm_grammar.specs.Requests.{canonical_request}
 use Rattle.spdm_grammar.specs.Responses.{canonical_response}
-use Rattle.spdm_grammar.specs.declared.error_code.ErrorCode.{ErrorCode}
-use Rattle.spdm_grammar.specs.declared.event.ReqIgnored.{ReqIgnored}
-use Rattle.spdm_grammar.specs.declared.event.ReqIgnored.TheVariants as ignored
-use Rattle.spdm_grammar.specs.declared.malformed.Malformed.{Malformed}
+use Rattle.spdm_grammar.specs.declared.messages.error_code.ErrorCode.{ErrorCode}
+use Rattle.spdm_grammar.specs.declared.told.event.ReqIgnored.{ReqIgnored}
+use Rattle.spdm_grammar.specs.declared.told.event.ReqIgnored.TheVariants as ignored
+use Rattle.spdm_grammar.specs.declared.messages.malformed.Malformed.{Malformed}
 use Rattle.spdm_grammar.specs.declared.names.TheConstants.{MAX_MESSAGE_SIZE, MIN_DATA_TRANSFER_SIZE}
 use Rattle.spdm_grammar.specs.declared.names.request_code.TheConstants.{CHUNK_SEND}
 use Rattle.spdm_machine.specs.Bodies.{clear_body}
 use Rattle.spdm_machine.specs.Keys.{Draw}
 use Rattle.spdm_machine.specs.Terms.{Terms, hash_len, terms_of}
 use Rattle.transcript.specs.Transcripts.{Negotiation}
-use Rattle.world_machine.proofs.SmallGets.{get_fits}
+use Rattle.capture_machine.proofs.SmallGets.{get_fits}
 use Rattle.spdm_progress.proofs.ChunkRules.{breaks_none, fits_chunk, last_whole, sound_chunk}
 use Rattle.spdm_progress.proofs.ClearFetch.{differ, reads_so}
 use Rattle.spdm_progress.proofs.ResponderStages.{Takes, not_too_long}

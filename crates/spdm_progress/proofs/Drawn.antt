@@ -1,8 +1,8 @@
 -- Every draw of a responder that stands in its histories has 32 bytes.
 use Rattle.std.proofs.Common.{◌≡◌, ℕ, ◌+◌, ◌==◌, List, [], ◌∷◌, drop, length, Bool, true, false, cond, Option, Some, None}
 use Rattle.std.specs.Prelude.{slice_index}
-use Rattle.spdm_basis.specs.declared.record_fault.RecordFault.{RecordFault}
-use Rattle.spdm_grammar.specs.declared.phase.Phase.{Phase}
+use Rattle.spdm_basis.specs.declared.causes.record_fault.RecordFault.{RecordFault}
+use Rattle.spdm_grammar.specs.declared.told.phase.Phase.{Phase}
 use Rattle.spdm_machine.specs.Keys.{Draw}
 use Rattle.responder_machine.specs.Answer.{Free}
 use Rattle.responder_machine.specs.Does.{responder_does, clear_chosen, record_chosen}

@@ -1,11 +1,11 @@
 -- A connect of a configured world: it begins where nothing has happened yet, and a pump of six packets completes it. So
 -- the laws speak of something.
 use Rattle.std.proofs.Common.{ℕ, List, [], ◌∷◌, false, refl, arith}
-use Rattle.spdm_basis.specs.declared.aead_alg.AeadAlg.TheVariants.{Aes128Gcm}
-use Rattle.spdm_basis.specs.declared.hash_alg.HashAlg.TheVariants.{Sha256}
+use Rattle.spdm_basis.specs.declared.values.aead_alg.AeadAlg.TheVariants.{Aes128Gcm}
+use Rattle.spdm_basis.specs.declared.values.hash_alg.HashAlg.TheVariants.{Sha256}
 use Rattle.requester_machine.specs.Requesting.{Requesting, new_requesting}
 use Rattle.responder_machine.specs.Responding.{Connection, new_connection}
-use Rattle.spdm_grammar.specs.declared.choice.Choice.{Choice}
+use Rattle.spdm_grammar.specs.declared.messages.choice.Choice.{Choice}
 use Rattle.spdm_agreement.proofs.Requester.OwnRequests.{offer_with}
 use Rattle.spdm_agreement.proofs.Worlds.Configuration.{setup, requester, part, configuration}
 use Rattle.spdm_agreement.proofs.Worlds.Scripts.{scripts_are_configured}

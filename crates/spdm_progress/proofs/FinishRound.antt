@@ -23,17 +23,17 @@ use Rattle.running_hash.specs.Hash.{hash_of}
 use Rattle.spdm_agreement.specs.Configured.{IsRequester, IsResponder}
 use Rattle.spdm_agreement.proofs.Responder.Exchange.{before_verify}
 use Rattle.spdm_basis.specs.Sizes.{hash_size}
-use Rattle.spdm_basis.specs.declared.session_id.SessionId.{SessionId}
+use Rattle.spdm_basis.specs.declared.values.session_id.SessionId.{SessionId}
 use Rattle.spdm_grammar.specs.Message.RequestMessage.{PskFinish}
 use Rattle.spdm_grammar.specs.Message.ResponseMessage.{PskFinishRsp}
 use Rattle.spdm_grammar.specs.Requests.{canonical_request}
 use Rattle.spdm_grammar.specs.Responses.{canonical_response}
-use Rattle.spdm_grammar.specs.declared.event.BadReply.{BadReply}
-use Rattle.spdm_grammar.specs.declared.event.Event.TheVariants as event
-use Rattle.spdm_grammar.specs.declared.event.Finished.TheVariants as finished
+use Rattle.spdm_grammar.specs.declared.told.event.BadReply.{BadReply}
+use Rattle.spdm_grammar.specs.declared.told.event.Event.TheVariants as event
+use Rattle.spdm_grammar.specs.declared.told.event.Finished.TheVariants as finished
 use Rattle.spdm_grammar.specs.declared.names.request_code.TheConstants.{PSK_FINISH}
-use Rattle.spdm_grammar.specs.declared.phase.Stage.{Stage}
-use Rattle.spdm_grammar.specs.declared.phase.Stage.TheVariants as stage
+use Rattle.spdm_grammar.specs.declared.told.phase.Stage.{Stage}
+use Rattle.spdm_grammar.specs.declared.told.phase.Stage.TheVariants as stage
 use Rattle.spdm_machine.specs.Keys.{verify_data}
 use Rattle.spdm_machine.specs.Terms.{Terms, hash_len}
 use Rattle.transcript.specs.Transcripts.{without_verify}

@@ -24,7 +24,7 @@ use Rattle.spdm_agreement.proofs.Responder.Negotiation.{entry_turn}
 use Rattle.spdm_grammar.specs.Message.{ChunkMessage, RequestMessage}
 use Rattle.spdm_grammar.specs.Message.RequestMessage.{ChunkSend}
 use Rattle.spdm_grammar.specs.Requests.{canonical_request}
-use Rattle.spdm_grammar.specs.declared.error_code.ErrorCode.{ErrorCode}
+use Rattle.spdm_grammar.specs.declared.messages.error_code.ErrorCode.{ErrorCode}
 use Rattle.spdm_machine.proofs.Members.{none_some, some_same}
 use Rattle.spdm_machine.specs.Keys.{Draw}
 use Rattle.transcript.specs.Transcripts.{Negotiation}

@@ -21,10 +21,10 @@ use Rattle.responder_machine.specs.Setup.{RspSetup, policy_of}
 use Rattle.spdm_grammar.specs.Message.{ChunkMessage, ExchangeMessage, OfferMessage, RequestMessage}
 use Rattle.spdm_grammar.specs.Message.RequestMessage.{ChunkGet, ChunkSend, NegotiateAlgorithms, PskExchange}
 use Rattle.spdm_grammar.specs.Requests.{FitsRequest, IsSoundRequest, canonical_request}
-use Rattle.spdm_grammar.specs.declared.choice.Choice.{Choice}
-use Rattle.spdm_grammar.specs.declared.event.Event.TheVariants as event
-use Rattle.spdm_grammar.specs.declared.event.Finished.TheVariants as finished
-use Rattle.spdm_grammar.specs.declared.phase.Phase.TheVariants.{Negotiated}
+use Rattle.spdm_grammar.specs.declared.messages.choice.Choice.{Choice}
+use Rattle.spdm_grammar.specs.declared.told.event.Event.TheVariants as event
+use Rattle.spdm_grammar.specs.declared.told.event.Finished.TheVariants as finished
+use Rattle.spdm_grammar.specs.declared.told.phase.Phase.TheVariants.{Negotiated}
 use Rattle.spdm_machine.specs.Keys.{Draw}
 use Rattle.transcript.specs.Transcripts.{Negotiation}
 use Rattle.spdm_progress.proofs.ClearFetch.{CanFetch, CanFetchIn, IsPending, chunk_response, differ, fetching, get_chunk, gives_chunk, heard_large, heard_more, heard_whole, large_fits, large_goes, pending_next, served_chunk, transfer_in}

@@ -34,12 +34,12 @@ use Rattle.spdm_grammar.specs.Message.{ResponseMessage}
 use Rattle.spdm_grammar.specs.Message.RequestMessage.{GetMeasurements}
 use Rattle.spdm_grammar.specs.Message.ResponseMessage.{Measurements}
 use Rattle.spdm_grammar.specs.Responses.{response_reading}
-use Rattle.spdm_grammar.specs.declared.event.Finished.TheVariants as finished
-use Rattle.spdm_grammar.specs.declared.event.ReqIgnored.{ReqIgnored}
-use Rattle.spdm_grammar.specs.declared.malformed.Malformed.{Malformed}
+use Rattle.spdm_grammar.specs.declared.told.event.Finished.TheVariants as finished
+use Rattle.spdm_grammar.specs.declared.told.event.ReqIgnored.{ReqIgnored}
+use Rattle.spdm_grammar.specs.declared.messages.malformed.Malformed.{Malformed}
 use Rattle.spdm_grammar.specs.declared.names.request_code.TheConstants.{GET_MEASUREMENTS}
-use Rattle.spdm_grammar.specs.declared.phase.Phase.{Phase}
-use Rattle.spdm_grammar.specs.declared.phase.Phase.TheVariants.{Negotiated}
+use Rattle.spdm_grammar.specs.declared.told.phase.Phase.{Phase}
+use Rattle.spdm_grammar.specs.declared.told.phase.Phase.TheVariants.{Negotiated}
 use Rattle.spdm_machine.specs.Bodies.{clear_body}
 use Rattle.spdm_machine.specs.Keys.{Draw}
 use Rattle.spdm_machine.specs.Terms.{hash_len, terms_of}

@@ -41,18 +41,18 @@ use Rattle.responder_machine.specs.Setup.{RspSetup}
 use Rattle.responder_machine.specs.Turn.{Turn}
 use Rattle.spdm_agreement.specs.Configured.{IsRequester, IsResponder}
 use Rattle.spdm_basis.specs.Sizes.{hash_size}
-use Rattle.spdm_basis.specs.declared.session_id.SessionId.{SessionId}
+use Rattle.spdm_basis.specs.declared.values.session_id.SessionId.{SessionId}
 use Rattle.spdm_grammar.specs.Message.{ChunkMessage, ExchangeMessage, ResponseMessage}
 use Rattle.spdm_grammar.specs.Message.RequestMessage.{PskExchange}
 use Rattle.spdm_grammar.specs.Message.ResponseMessage.{PskExchangeRsp, PskFinishRsp}
 use Rattle.spdm_grammar.specs.Responses.{canonical_response}
 use Rattle.spdm_grammar.specs.Responses.{response_reading}
-use Rattle.spdm_grammar.specs.declared.event.Event.{Event}
-use Rattle.spdm_grammar.specs.declared.event.Event.TheVariants as event
-use Rattle.spdm_grammar.specs.declared.event.Finished.TheVariants as finished
-use Rattle.spdm_grammar.specs.declared.event.ReqIgnored.{ReqIgnored}
-use Rattle.spdm_grammar.specs.declared.event.ReqIgnored.TheVariants as ignored
-use Rattle.spdm_grammar.specs.declared.malformed.Malformed.{Malformed}
+use Rattle.spdm_grammar.specs.declared.told.event.Event.{Event}
+use Rattle.spdm_grammar.specs.declared.told.event.Event.TheVariants as event
+use Rattle.spdm_grammar.specs.declared.told.event.Finished.TheVariants as finished
+use Rattle.spdm_grammar.specs.declared.told.event.ReqIgnored.{ReqIgnored}
+use Rattle.spdm_grammar.specs.declared.told.event.ReqIgnored.TheVariants as ignored
+use Rattle.spdm_grammar.specs.declared.messages.malformed.Malformed.{Malformed}
 use Rattle.spdm_machine.specs.Bodies.{clear_body, record_body}
 use Rattle.spdm_machine.specs.Keys.{Draw, verify_data}
 use Rattle.spdm_machine.proofs.Members.{none_some}

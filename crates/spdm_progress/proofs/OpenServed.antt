@@ -51,8 +51,8 @@ use Rattle.spdm_grammar.specs.Message.ResponseMessage.{PskExchangeRsp}
 use Rattle.spdm_grammar.specs.Requests.{canonical_request, request_in}
 use Rattle.spdm_grammar.specs.Responses.{response_reading}
 use Rattle.spdm_grammar.specs.declared.names.request_code.TheConstants.{CHUNK_SEND}
-use Rattle.spdm_grammar.specs.declared.phase.Phase.{Phase}
-use Rattle.spdm_grammar.specs.declared.phase.Phase.TheVariants.{Negotiated}
+use Rattle.spdm_grammar.specs.declared.told.phase.Phase.{Phase}
+use Rattle.spdm_grammar.specs.declared.told.phase.Phase.TheVariants.{Negotiated}
 use Rattle.spdm_machine.specs.Bodies.{clear_body}
 use Rattle.spdm_machine.specs.Keys.{Draw, verify_data}
 use Rattle.spdm_machine.proofs.Members.{some_same}

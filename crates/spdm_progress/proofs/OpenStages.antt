@@ -41,7 +41,7 @@ use Rattle.spdm_grammar.specs.Message.RequestMessage.{PskExchange}
 use Rattle.spdm_grammar.specs.Message.ResponseMessage.{PskExchangeRsp}
 use Rattle.spdm_grammar.specs.Requests.{canonical_request}
 use Rattle.spdm_grammar.specs.Responses.{response_reading}
-use Rattle.spdm_grammar.specs.declared.phase.Phase.TheVariants.{Negotiated}
+use Rattle.spdm_grammar.specs.declared.told.phase.Phase.TheVariants.{Negotiated}
 use Rattle.spdm_machine.specs.Bodies.{clear_body}
 use Rattle.spdm_machine.specs.Keys.{Draw, context_of, verify_data}
 use Rattle.spdm_machine.specs.Sessions.{id_in_exchange, is_past_handshake}

@@ -1,7 +1,7 @@
 -- A paragraph: a command that is told in a quiet world, and what stands behind it up to the next one.
 use Rattle.std.proofs.Common.{◌≡◌, ◌∙◌, ◌==◌, ◌≤◌, ◌+◌, ℕ, List, [], ◌∷◌, ◌++◌, map, length, Option, Some, None, refl, sym, ap, subst, arith}
 use Rattle.std.proofs.lemmas.Bool.{false≢true}
-use Rattle.spdm_grammar.specs.declared.command_fault.CommandFault.{CommandFault}
+use Rattle.spdm_grammar.specs.declared.told.command_fault.CommandFault.{CommandFault}
 use Rattle.spdm_grammar.specs.Lines.{Line}
 use Rattle.spdm_machine.proofs.Members.{found_in, in_map, none_some}
 use Rattle.requester_machine.specs.Message.{Command}

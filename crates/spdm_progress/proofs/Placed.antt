@@ -5,7 +5,7 @@ use Rattle.mctp_framing.specs.Gathering.{Gathered}
 use Rattle.mctp_framing.specs.Gathering.Gathered.{Whole, More, Dropped}
 use Rattle.mctp_framing.specs.Packet.{PacketFields, parsed}
 use Rattle.spdm_basis.specs.declared.PacketFault.{PacketFault}
-use Rattle.spdm_grammar.specs.declared.heard.ReplyFault.{ReplyFault}
+use Rattle.spdm_grammar.specs.declared.told.heard.ReplyFault.{ReplyFault}
 use Rattle.spdm_machine.specs.Packets.{gathered_from, body_type}
 use Rattle.spdm_machine.proofs.Members.{IsIn, in_map, found_in, all_in, map_in}
 use Rattle.requester_machine.proofs.SetUpKept.{given_setup, told_setup}

@@ -1,8 +1,8 @@
 -- Quiet worlds: what an honest script says between commands leaves them so, and so does a command that is refused.
 use Rattle.std.proofs.Common.{◌≡◌, ◌≢◌, ◌∙◌, ℕ, ◌+◌, ◌==◌, ◌≤◌, List, [], ◌∷◌, ◌++◌, map, find, length, Bool, true, false, cond, Option, Some, None, refl, sym, ap, subst, inl, inr, eq-eqb, eqb-true, arith}
 use Rattle.std.proofs.lemmas.Bool.{false≢true}
-use Rattle.spdm_grammar.specs.declared.command_fault.CommandFault.{CommandFault}
-use Rattle.spdm_grammar.specs.declared.heard.ReplyFault.{ReplyFault}
+use Rattle.spdm_grammar.specs.declared.told.command_fault.CommandFault.{CommandFault}
+use Rattle.spdm_grammar.specs.declared.told.heard.ReplyFault.{ReplyFault}
 use Rattle.spdm_machine.specs.TagLog.{Log}
 use Rattle.spdm_machine.proofs.Members.{none_some, some_same}
 use Rattle.requester_machine.specs.Asking.{Outcome}

@@ -4,11 +4,11 @@ use Rattle.std.specs.Prelude.{if◌then◌else◌}
 use Rattle.std.proofs.lemmas.Bool.{false≢true, ne_eqb}
 use Rattle.key_schedule.specs.Purpose.{Purpose}
 use Rattle.key_schedule.specs.declared.direction.Direction.TheVariants.{Response}
-use Rattle.spdm_basis.specs.declared.record_fault.RecordFault.{RecordFault}
-use Rattle.spdm_basis.specs.declared.record_fault.RecordFault.TheVariants.{KeySpent}
-use Rattle.spdm_grammar.specs.declared.choice.Choice.{Choice}
+use Rattle.spdm_basis.specs.declared.causes.record_fault.RecordFault.{RecordFault}
+use Rattle.spdm_basis.specs.declared.causes.record_fault.RecordFault.TheVariants.{KeySpent}
+use Rattle.spdm_grammar.specs.declared.messages.choice.Choice.{Choice}
 use Rattle.spdm_grammar.specs.declared.names.request_code.TheConstants.{END_SESSION}
-use Rattle.spdm_grammar.specs.declared.phase.Stage.{Stage}
+use Rattle.spdm_grammar.specs.declared.told.phase.Stage.{Stage}
 use Rattle.spdm_machine.specs.Keys.{Draw, inner_message, record_fault, sealed_of}
 use Rattle.spdm_machine.specs.Sessions.{id_in_exchange, purpose_in}
 use Rattle.spdm_machine.specs.Terms.{Terms}

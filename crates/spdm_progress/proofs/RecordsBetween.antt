@@ -9,7 +9,7 @@ use Rattle.secured_record.specs.Faults.{tag_part}
 use Rattle.secured_record.specs.Format.{record_of, plain_text, header, nonce}
 use Rattle.secured_record.proofs.Records.{record_opens}
 use Rattle.spdm_basis.specs.SessionIdBytes.{session_id_bytes}
-use Rattle.spdm_grammar.specs.declared.choice.Choice.{Choice}
+use Rattle.spdm_grammar.specs.declared.messages.choice.Choice.{Choice}
 use Rattle.spdm_machine.specs.Keys.{inner_message, record_fault, sealed_of}
 use Rattle.spdm_machine.specs.TagLog.{Log, made_record, record_input, record_tag}
 use Rattle.spdm_machine.specs.TagLog.Act.{Made, Checked}

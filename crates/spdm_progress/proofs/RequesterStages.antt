@@ -13,12 +13,12 @@ use Rattle.spdm_grammar.specs.Message.{RequestMessage, ResponseMessage, OfferMes
 use Rattle.spdm_grammar.specs.Message.RequestMessage.{GetVersion, GetCapabilities, NegotiateAlgorithms}
 use Rattle.spdm_grammar.specs.Message.ResponseMessage.{Capabilities, Algorithms}
 use Rattle.spdm_grammar.specs.Responses.{response_layout, response_reading, canonical_response, FitsResponse, IsSoundResponse}
-use Rattle.spdm_grammar.specs.declared.choice.Choice.{Choice}
-use Rattle.spdm_grammar.specs.declared.event.Event.{Event}
-use Rattle.spdm_grammar.specs.declared.event.Event.TheVariants as event
-use Rattle.spdm_grammar.specs.declared.event.Finished.TheVariants as finished
-use Rattle.spdm_grammar.specs.declared.malformed.Malformed.{Malformed}
-use Rattle.spdm_grammar.specs.declared.phase.Phase.TheVariants.{Negotiated}
+use Rattle.spdm_grammar.specs.declared.messages.choice.Choice.{Choice}
+use Rattle.spdm_grammar.specs.declared.told.event.Event.{Event}
+use Rattle.spdm_grammar.specs.declared.told.event.Event.TheVariants as event
+use Rattle.spdm_grammar.specs.declared.told.event.Finished.TheVariants as finished
+use Rattle.spdm_grammar.specs.declared.messages.malformed.Malformed.{Malformed}
+use Rattle.spdm_grammar.specs.declared.told.phase.Phase.TheVariants.{Negotiated}
 use Rattle.spdm_machine.specs.Bodies.{clear_body}
 use Rattle.spdm_machine.specs.Keys.{Draw}
 use Rattle.spdm_machine.specs.Terms.{no_negotiation}
@@ -40,8 +40,8 @@ use Rattle.requester_machine.specs.Setup.{ReqSetup, requester_caps}
 use Rattle.requester_machine.specs.Shown.{after, sent_by, event_of}
 use Rattle.responder_machine.specs.Answer.{version_answer}
 use Rattle.responder_machine.specs.Setup.{RspSetup, responder_caps, policy_of}
-use Rattle.spdm_grammar.specs.declared.event.ReqIgnored.{ReqIgnored}
-use Rattle.spdm_grammar.specs.declared.event.Stop.TheVariants as stop
+use Rattle.spdm_grammar.specs.declared.told.event.ReqIgnored.{ReqIgnored}
+use Rattle.spdm_grammar.specs.declared.told.event.Stop.TheVariants as stop
 use Rattle.requester_machine.specs.Asking.{asks}
 use Rattle.requester_machine.specs.Commands.{command_fault}
 use Rattle.requester_machine.specs.History.Entry.{Told}

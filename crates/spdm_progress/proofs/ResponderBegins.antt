@@ -2,8 +2,8 @@
 -- nothing of what stands in the clear.
 use Rattle.std.proofs.Common.{◌≡◌, ◌∙◌, ℕ, ◌≤◌, List, [], ◌∷◌, Bool, true, false, Option, Some, None, is_none, refl, sym, ap, subst, arith}
 use Rattle.std.proofs.lemmas.Bool.{false≢true}
-use Rattle.spdm_grammar.specs.declared.error_code.ErrorCode.{ErrorCode}
-use Rattle.spdm_grammar.specs.declared.phase.Phase.{Phase}
+use Rattle.spdm_grammar.specs.declared.messages.error_code.ErrorCode.{ErrorCode}
+use Rattle.spdm_grammar.specs.declared.told.phase.Phase.{Phase}
 use Rattle.spdm_machine.specs.Keys.{Draw}
 use Rattle.spdm_machine.proofs.Members.{some_same, none_some}
 use Rattle.responder_machine.proofs.Repeats.{kept_of-taken}
@@ -20,7 +20,7 @@ use Rattle.responder_machine.specs.Turn.Effect.{NoEffect}
 use Rattle.spdm_grammar.specs.Message.RequestMessage.{GetVersion}
 use Rattle.responder_machine.specs.Refusal.{sizes_are_known}
 use Rattle.spdm_machine.specs.Terms.{terms_of}
-use Rattle.spdm_grammar.specs.declared.phase.Phase.TheVariants.{Versioned}
+use Rattle.spdm_grammar.specs.declared.told.phase.Phase.TheVariants.{Versioned}
 use Rattle.transcript.specs.Transcripts.{Negotiation}
 use Rattle.spdm_agreement.specs.Configured.{IsResponder}
 use Rattle.spdm_agreement.proofs.Responder.Negotiation.{entry_turn}

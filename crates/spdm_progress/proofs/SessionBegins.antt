@@ -25,7 +25,7 @@ use Rattle.responder_machine.specs.Responding.{Connection, connection_of}
 use Rattle.responder_machine.specs.Session as events
 use Rattle.responder_machine.specs.Turn.{Turn}
 use Rattle.responder_machine.specs.Setup.{RspSetup}
-use Rattle.spdm_grammar.specs.declared.phase.Stage.TheVariants as stage
+use Rattle.spdm_grammar.specs.declared.told.phase.Stage.TheVariants as stage
 use Rattle.transcript.specs.Transcripts.{Negotiation}
 use Rattle.world_machine.specs.Happenings.Happening.{Told}
 use Rattle.world_machine.specs.World.{World, first_waiting, happens, requester_of, told, told_by, with_sent}

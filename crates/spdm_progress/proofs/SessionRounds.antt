@@ -7,9 +7,9 @@ use Rattle.std.proofs.lemmas.List.Elements.{Contains-append_left, Contains-appen
 use Rattle.std.proofs.lemmas.Slice.Eq.{bytes_eq-Decides}
 use Rattle.key_schedule.specs.Purpose.{Purpose}
 use Rattle.secured_record.specs.Faults.{tag_part}
-use Rattle.spdm_grammar.specs.declared.event.BadReply.{BadReply}
-use Rattle.spdm_grammar.specs.declared.event.Event.{Event}
-use Rattle.spdm_grammar.specs.declared.phase.Stage.TheVariants as stage
+use Rattle.spdm_grammar.specs.declared.told.event.BadReply.{BadReply}
+use Rattle.spdm_grammar.specs.declared.told.event.Event.{Event}
+use Rattle.spdm_grammar.specs.declared.told.phase.Stage.TheVariants as stage
 use Rattle.spdm_machine.specs.Bodies.{record_body}
 use Rattle.spdm_machine.specs.Keys.{Draw, inner_message, record_fault, sealed_of}
 use Rattle.spdm_machine.specs.Sessions.{id_in_exchange}

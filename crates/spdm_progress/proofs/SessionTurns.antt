@@ -7,10 +7,10 @@ use Rattle.spdm_grammar.specs.Message.RequestMessage.{EndSession, GetMeasurement
 use Rattle.spdm_grammar.specs.Message.ResponseMessage.{EndSessionAck, HeartbeatAck, KeyUpdateAck}
 use Rattle.spdm_grammar.specs.Requests.{canonical_request}
 use Rattle.spdm_grammar.specs.Responses.{canonical_response, response_reading}
-use Rattle.spdm_grammar.specs.declared.malformed.Malformed.{Malformed}
+use Rattle.spdm_grammar.specs.declared.messages.malformed.Malformed.{Malformed}
 use Rattle.spdm_grammar.specs.declared.names.request_code.TheConstants.{END_SESSION, GET_MEASUREMENTS, HEARTBEAT, KEY_UPDATE}
-use Rattle.spdm_grammar.specs.declared.phase.Stage.{Stage}
-use Rattle.spdm_grammar.specs.declared.phase.Stage.TheVariants as stage
+use Rattle.spdm_grammar.specs.declared.told.phase.Stage.{Stage}
+use Rattle.spdm_grammar.specs.declared.told.phase.Stage.TheVariants as stage
 use Rattle.spdm_machine.specs.Terms.{Terms, hash_len}
 use Rattle.requester_machine.specs.Commands.{Free as AskerFree}
 use Rattle.requester_machine.specs.History as asked

@@ -16,9 +16,9 @@ use Rattle.spdm_grammar.specs.Message.RequestMessage.{GetCapabilities, Negotiate
 use Rattle.spdm_grammar.specs.Message.ResponseMessage.{Capabilities, Algorithms}
 use Rattle.spdm_grammar.specs.Requests.{FitsRequest, IsSoundRequest}
 use Rattle.spdm_grammar.specs.Responses.{canonical_response, FitsResponse}
-use Rattle.spdm_grammar.specs.declared.choice.Choice.{Choice}
-use Rattle.spdm_grammar.specs.declared.part_faults.CapsFault.{CapsFault}
-use Rattle.spdm_grammar.specs.declared.part_faults.CapsFault.TheVariants.{SizeTooSmall, SizesCrossed, NoPsk, NoProtection}
+use Rattle.spdm_grammar.specs.declared.messages.choice.Choice.{Choice}
+use Rattle.spdm_grammar.specs.declared.messages.part_faults.CapsFault.{CapsFault}
+use Rattle.spdm_grammar.specs.declared.messages.part_faults.CapsFault.TheVariants.{SizeTooSmall, SizesCrossed, NoPsk, NoProtection}
 use Rattle.spdm_grammar.specs.declared.names.TheConstants.{MIN_DATA_TRANSFER_SIZE, MAX_MESSAGE_SIZE}
 use Rattle.spdm_grammar.specs.declared.names.capability.TheConstants.{PSK_CAP, PSK_CAP_WITH_CONTEXT, MEAS_CAP, HBEAT_CAP, KEY_UPD_CAP, CHUNK_CAP}
 use Rattle.spdm_machine.specs.Setup.{protection_flags}
@@ -30,7 +30,7 @@ use Rattle.responder_machine.specs.History.{History}
 use Rattle.responder_machine.specs.Place.{Place, clear_place}
 use Rattle.responder_machine.specs.Setup.{RspSetup, responder_caps, policy_of}
 use Rattle.transcript.specs.Transcripts.{Negotiation}
-use Rattle.world_machine.specs.Opening.{any_free}
+use Rattle.capture_machine.specs.Opening.{any_free}
 use Rattle.spdm_agreement.specs.Configured.{IsRequester, IsResponder}
 use Rattle.spdm_agreement.proofs.Requester.OwnRequests as own
 use Rattle.spdm_agreement.proofs.Requester.OwnRequests.{offer_with, are_four, at_most}

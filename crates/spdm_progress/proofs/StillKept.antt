@@ -2,8 +2,8 @@
 use Rattle.std.proofs.Common.{◌≡◌, ◌⊎◌, ◌∙◌, ℕ, ◌<◌, ◌≤◌, ◌+◌, ◌*◌, ◌==◌, List, [], ◌∷◌, ◌++◌, append_assoc, length, Bool, true, false, cond, nat_lt, nat_le, not, Option, Some, None, refl, sym, ap, subst, inl, inr, eqb-true}
 use Rattle.std.specs.Prelude.{if◌then◌else◌}
 use Rattle.std.proofs.lemmas.Bool.{false≢true, leb-false, ltb-false}
-use Rattle.spdm_grammar.specs.declared.heard.ReplyFault.{ReplyFault}
-use Rattle.spdm_grammar.specs.declared.heard.ReplyFault.TheVariants as reply_fault
+use Rattle.spdm_grammar.specs.declared.told.heard.ReplyFault.{ReplyFault}
+use Rattle.spdm_grammar.specs.declared.told.heard.ReplyFault.TheVariants as reply_fault
 use Rattle.spdm_machine.proofs.Members.{found_in, none_some}
 use Rattle.responder_machine.proofs.Connected.{changed_keeps}
 use Rattle.responder_machine.specs.Does.{IsMade}

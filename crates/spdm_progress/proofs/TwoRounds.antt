@@ -1,6 +1,6 @@
 -- A talk of one round more: a first one, whose answer leads to the request of a talk.
 use Rattle.std.proofs.Common.{◌≡◌, ◌⊎◌, ℕ, suc, List, ◌++◌, length, false, Some, inl, inr}
-use Rattle.spdm_grammar.specs.declared.event.Event.{Event}
+use Rattle.spdm_grammar.specs.declared.told.event.Event.{Event}
 use Rattle.spdm_machine.specs.Keys.{Draw}
 use Rattle.spdm_machine.specs.TagLog.{Log}
 use Rattle.requester_machine.specs.Asking.{Outcome}

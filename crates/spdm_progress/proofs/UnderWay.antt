@@ -4,9 +4,9 @@ use Rattle.std.proofs.Common.{[], ◌≡◌, ◌⊎◌, ℕ, suc, ◌<◌, ◌�
 use Rattle.spdm_grammar.specs.Lines.{Line}
 use Rattle.spdm_grammar.specs.Message.{OfferMessage}
 use Rattle.spdm_grammar.specs.Message.RequestMessage.{GetVersion, GetCapabilities, NegotiateAlgorithms}
-use Rattle.spdm_grammar.specs.declared.choice.Choice.{Choice}
-use Rattle.spdm_grammar.specs.declared.event.Event.TheVariants as event
-use Rattle.spdm_grammar.specs.declared.event.Finished.TheVariants as finished
+use Rattle.spdm_grammar.specs.declared.messages.choice.Choice.{Choice}
+use Rattle.spdm_grammar.specs.declared.told.event.Event.TheVariants as event
+use Rattle.spdm_grammar.specs.declared.told.event.Finished.TheVariants as finished
 use Rattle.spdm_machine.specs.Terms.{no_negotiation}
 use Rattle.spdm_machine.proofs.Members.{IsIn}
 use Rattle.requester_machine.specs.History as asked

@@ -10,9 +10,9 @@ use Rattle.mctp_framing.specs.Packet.{PacketFields, spelled_packet, parsed}
 use Rattle.spdm_basis.specs.declared.PacketFault.{PacketFault}
 use Rattle.spdm_basis.specs.declared.DropCause.TheVariants.{NotOurs}
 use Rattle.spdm_grammar.specs.Lines.{Line}
-use Rattle.spdm_grammar.specs.declared.event.Event.TheVariants as event
-use Rattle.spdm_grammar.specs.declared.heard.Heard.TheVariants as heard
-use Rattle.spdm_grammar.specs.declared.heard.RspIgnored.TheVariants as ignored
+use Rattle.spdm_grammar.specs.declared.told.event.Event.TheVariants as event
+use Rattle.spdm_grammar.specs.declared.told.heard.Heard.TheVariants as heard
+use Rattle.spdm_grammar.specs.declared.told.heard.RspIgnored.TheVariants as ignored
 use Rattle.spdm_machine.specs.Keys.{Draw}
 use Rattle.spdm_machine.specs.Packets.{body_type, gathered_from, packets_to, wear_limit}
 use Rattle.spdm_machine.specs.TagLog.{Log}

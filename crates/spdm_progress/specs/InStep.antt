@@ -17,7 +17,7 @@ use Rattle.secured_record.specs.Faults.{tag_part}
 use Rattle.spdm_grammar.specs.Message.{ExchangeMessage}
 use Rattle.spdm_grammar.specs.Message.RequestMessage.{PskExchange}
 use Rattle.spdm_grammar.specs.Requests.{canonical_request, FitsRequest, IsSoundRequest}
-use Rattle.spdm_grammar.specs.declared.phase.Stage.TheVariants.{Open}
+use Rattle.spdm_grammar.specs.declared.told.phase.Stage.TheVariants.{Open}
 use Rattle.spdm_machine.specs.Keys.{Draw, context_of}
 use Rattle.spdm_machine.specs.Sessions.{id_in_exchange}
 use Rattle.spdm_machine.specs.TagLog.{Log, record_input}

@@ -8,8 +8,8 @@ use Rattle.responder_machine.specs.Place as serving
 use Rattle.responder_machine.specs.Responding.{Connection}
 use Rattle.responder_machine.specs.Setup.{RspSetup}
 use Rattle.spdm_basis.specs.Sizes.{hash_size}
-use Rattle.spdm_basis.specs.declared.session_id.SessionId.{SessionId}
-use Rattle.spdm_grammar.specs.declared.event.Finished.TheVariants as finished
+use Rattle.spdm_basis.specs.declared.values.session_id.SessionId.{SessionId}
+use Rattle.spdm_grammar.specs.declared.told.event.Finished.TheVariants as finished
 use Rattle.spdm_machine.specs.Terms.{Terms}
 use Rattle.world_machine.specs.Happenings.{Entry}
 use Rattle.world_machine.specs.Setup.{WorldSetup}

@@ -2,7 +2,7 @@
 use Rattle.std.proofs.Common.{◌≡◌, ◌∙◌, ◌+◌, ◌<◌, ◌++◌, ℕ, zero, suc, List, [], ◌∷◌, take, drop, get_or, length, Option, Some, refl, sym, ap, arith, append_assoc}
 use Rattle.std.proofs.lemmas.List.{append-nil}
 use Rattle.spdm_basis.specs.Stream.{Takes, TakesPrefix}
-use Rattle.script_text.specs.declared.shown.Shown.{Shown}
+use Rattle.script_text.specs.declared.texts.shown.Shown.{Shown}
 use Rattle.spdm_show.specs.Shown.{line_of, lines_of}
 
 -- The lines of the first messages.

@@ -1,19 +1,19 @@
 -- What is shown of a text of messages: a line for each. This project's own.
 use Rattle.std.specs.Prelude.{◌≡◌, ℕ, List, [], length, map, true, false, Result, Ok, Err}
 use Rattle.std.specs.List.{concat}
-use Rattle.script_text.specs.OtherLines.{malformed_text, message_text, request_name, response_name}
+use Rattle.trace_text.specs.OtherLines.{malformed_text, message_text, request_name, response_name}
 use Rattle.script_text.specs.ShownText.{shown_in}
-use Rattle.script_text.specs.declared.faults.LineFault.TheVariants.{TooManyEvents}
-use Rattle.script_text.specs.declared.faults.ScriptFault.{ScriptFault}
-use Rattle.script_text.specs.declared.faults.ScriptFault.TheVariants as fault
-use Rattle.script_text.specs.declared.shown.Shown.{Shown}
-use Rattle.script_text.specs.declared.shown.ShownKind.{ShownKind}
-use Rattle.script_text.specs.declared.shown.ShownKind.TheVariants.{Request, Response, WithSummary}
+use Rattle.script_text.specs.declared.texts.faults.LineFault.TheVariants.{TooManyEvents}
+use Rattle.script_text.specs.declared.texts.faults.ScriptFault.{ScriptFault}
+use Rattle.script_text.specs.declared.texts.faults.ScriptFault.TheVariants as fault
+use Rattle.script_text.specs.declared.texts.shown.Shown.{Shown}
+use Rattle.script_text.specs.declared.texts.shown.ShownKind.{ShownKind}
+use Rattle.script_text.specs.declared.texts.shown.ShownKind.TheVariants.{Request, Response, WithSummary}
 use Rattle.spdm_basis.specs.Sizes.{hash_size}
 use Rattle.spdm_grammar.specs.Message.{RequestMessage, ResponseMessage}
 use Rattle.spdm_grammar.specs.Requests.{request_reading}
 use Rattle.spdm_grammar.specs.Responses.{response_reading}
-use Rattle.spdm_grammar.specs.declared.malformed.Malformed.{Malformed}
+use Rattle.spdm_grammar.specs.declared.messages.malformed.Malformed.{Malformed}
 use Rattle.spdm_show.specs.declared.showing.ShowFault.{ShowFault}
 use Rattle.spdm_show.specs.declared.showing.ShowFault.TheVariants as told
 

@@ -1,6 +1,6 @@
 ghost use Rattle.std.specs.Prelude.{◌≡◌, ◌≤◌, List, ℕ, Ok, Err, length, is_ok, IfErr, IsErrOf, OnErr, OnOk, true};
 ghost use Rattle.script_text.specs.ShownText.{shown_in};
-ghost use Rattle.script_text.specs.declared.faults.LineFault.{LineFault};
+ghost use Rattle.script_text.specs.declared.texts.faults.LineFault.{LineFault};
 ghost use Rattle.spdm_basis.specs.Stream.{HasFault, Takes, TakesPrefix};
 ghost use Rattle.spdm_show.specs.Shown.{IsBad, lines_of, shown_text, told_of};
 

@@ -12,9 +12,9 @@ use Rattle.requester_drive.specs.Told.{IsRefusal}
 use Rattle.requester_drive.specs.declared.fault.DriveFault.{DriveFault}
 use Rattle.requester_drive.specs.declared.fault.DriveFault.TheVariants as drive
 use Rattle.requester_machine.specs.Requesting.{Requesting}
-use Rattle.script_text.specs.declared.config.ReqPart.{ReqPart}
-use Rattle.script_text.specs.declared.config.ScriptConfig.{ScriptConfig}
-use Rattle.script_worlds.specs.Ends.{HasNoFault}
+use Rattle.script_text.specs.declared.configuration.config.ReqPart.{ReqPart}
+use Rattle.script_text.specs.declared.configuration.config.ScriptConfig.{ScriptConfig}
+use Rattle.script_laws.specs.Ends.{HasNoFault}
 use Rattle.spdm_basis.specs.Stream.{HasFault}
 use Rattle.stream_commands.proofs.Begun.{set_up}
 use Rattle.stream_commands.proofs.Streams.{driven, driven_in_part, driven_so_far}

@@ -9,8 +9,8 @@ use Rattle.frame_stream.specs.Text.{stream_of, text_of}
 use Rattle.responder_serve.specs.Served.{served_kinds}
 use Rattle.script_text.specs.ConfigText.{config_in}
 use Rattle.script_text.specs.Reading.{BadLine, bad_line_in}
-use Rattle.script_text.specs.declared.config.ScriptConfig.{ScriptConfig}
-use Rattle.script_text.specs.declared.faults.ScriptFault.{ScriptFault}
+use Rattle.script_text.specs.declared.configuration.config.ScriptConfig.{ScriptConfig}
+use Rattle.script_text.specs.declared.texts.faults.ScriptFault.{ScriptFault}
 use Rattle.spdm_basis.specs.Stream.{HasFault, IsQuiet}
 use Rattle.stream_commands.specs.Begun.{stream_in, text_limit}
 use Rattle.requester_drive.proofs.Unique.{driven_is_one}

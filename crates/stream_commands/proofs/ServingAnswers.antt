@@ -9,8 +9,8 @@ use Rattle.responder_serve.specs.Standing as serving
 use Rattle.responder_serve.specs.Told.{IsRefusal}
 use Rattle.responder_serve.specs.declared.fault.ServeFault.{ServeFault}
 use Rattle.responder_serve.specs.declared.fault.ServeFault.TheVariants as serve
-use Rattle.script_text.specs.declared.config.ScriptConfig.{ScriptConfig}
-use Rattle.script_worlds.specs.Ends.{HasNoFault}
+use Rattle.script_text.specs.declared.configuration.config.ScriptConfig.{ScriptConfig}
+use Rattle.script_laws.specs.Ends.{HasNoFault}
 use Rattle.std.proofs.lemmas.Option.{none-some}
 use Rattle.spdm_basis.specs.Stream.{HasFault}
 use Rattle.stream_commands.proofs.Streams.{in_part, served, so_far}

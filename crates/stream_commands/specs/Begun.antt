@@ -6,10 +6,10 @@ use Rattle.frame_stream.specs.Parts.{IsTextOf}
 use Rattle.frame_stream.specs.Text.{stream_of, text_of}
 use Rattle.script_text.specs.ConfigText.{config_in}
 use Rattle.script_text.specs.Reading.{BadLine, bad_line_in}
-use Rattle.script_text.specs.declared.config.ScriptConfig.{ScriptConfig}
+use Rattle.script_text.specs.declared.configuration.config.ScriptConfig.{ScriptConfig}
 use Rattle.spdm_basis.specs.Stream.{GivesSeed, HasFault}
-use Rattle.spdm_basis.specs.declared.transfer.InFault.{InFault}
-use Rattle.spdm_basis.specs.declared.transfer.InFault.TheVariants as reading
+use Rattle.spdm_basis.specs.declared.streams.transfer.InFault.{InFault}
+use Rattle.spdm_basis.specs.declared.streams.transfer.InFault.TheVariants as reading
 use Rattle.stream_commands.specs.declared.begin.Begun.{Begun}
 use Rattle.stream_commands.specs.declared.fault.StreamFault.{StreamFault}
 use Rattle.stream_commands.specs.declared.fault.StreamFault.TheVariants as fault

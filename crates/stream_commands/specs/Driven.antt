@@ -4,7 +4,7 @@ use Rattle.frame_stream.specs.Frames.{Ending}
 use Rattle.requester_drive.specs.Driven as driving
 use Rattle.requester_drive.specs.First.{first_requester}
 use Rattle.requester_machine.specs.Requesting.{Requesting}
-use Rattle.script_text.specs.declared.config.ScriptConfig.{ScriptConfig}
+use Rattle.script_text.specs.declared.configuration.config.ScriptConfig.{ScriptConfig}
 use Rattle.stream_commands.specs.Begun.{stream_in}
 use Rattle.stream_commands.specs.Outside.{IsAnsweredBy, IsCauseBy, IsSetUp, Outside}
 use Rattle.stream_commands.specs.declared.fault.StreamFault.{StreamFault}

@@ -2,7 +2,7 @@
 use Rattle.std.specs.Prelude.{◌≡◌, ◌⊎◌, ℕ, List, [], Option, Some, Result, Ok, Err}
 use Rattle.frame_stream.specs.Frames.{Ending}
 use Rattle.frame_stream.specs.Frames.Ending.{Bad, Done, TooLong}
-use Rattle.script_text.specs.declared.config.ScriptConfig.{ScriptConfig}
+use Rattle.script_text.specs.declared.configuration.config.ScriptConfig.{ScriptConfig}
 use Rattle.spdm_basis.specs.Stream.{GivesSeed, HasFault}
 use Rattle.stream_commands.specs.Begun.{IsBadText, IsConfigured, IsLongText}
 use Rattle.stream_commands.specs.declared.fault.StreamFault.{StreamFault}

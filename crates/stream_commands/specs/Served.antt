@@ -3,7 +3,7 @@ use Rattle.std.specs.Prelude.{ℕ, List, Result}
 use Rattle.frame_stream.specs.Frames.{Ending}
 use Rattle.responder_serve.specs.Served as serving
 use Rattle.responder_serve.specs.Served.{responder_of}
-use Rattle.script_text.specs.declared.config.ScriptConfig.{ScriptConfig}
+use Rattle.script_text.specs.declared.configuration.config.ScriptConfig.{ScriptConfig}
 use Rattle.stream_commands.specs.Begun.{stream_in}
 use Rattle.stream_commands.specs.Outside.{IsAnsweredBy, IsCauseBy, IsSetUp, Outside}
 use Rattle.stream_commands.specs.declared.fault.StreamFault.{StreamFault}

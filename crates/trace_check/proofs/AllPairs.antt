@@ -6,21 +6,21 @@ use Rattle.std.specs.List.{AllByRecursion, position_from}
 use Rattle.std.specs.Prelude.{IfOk, find}
 use Rattle.mctp_framing.specs.Packet.{PacketFields, parsed}
 use Rattle.requester_machine.specs.Setup.{ReqSetup}
-use Rattle.spdm_grammar.specs.declared.why.Why as declared
+use Rattle.spdm_grammar.specs.declared.told.why.Why as declared
 use Rattle.spdm_basis.specs.declared.OutOfMemory.{OutOfMemory}
 use Rattle.spdm_basis.specs.declared.PacketFault.{PacketFault}
-use Rattle.capture_laws.specs.Judged.{AreApart}
-use Rattle.capture_laws.specs.Order.{is_known, order_why, ordered_why}
-use Rattle.capture_laws.specs.ReasonsEach.{IsOneOf}
-use Rattle.capture_laws.specs.Rows.{StandsForRows}
+use Rattle.check_laws.specs.Judged.{AreApart}
+use Rattle.check_laws.specs.Order.{is_known, order_why, ordered_why}
+use Rattle.check_laws.specs.ReasonsEach.{IsOneOf}
+use Rattle.check_laws.specs.Rows.{StandsForRows}
 use Rattle.trace_check.proofs.Refusals.{order_refused}
 use Rattle.trace_check.specs.Checker.{AreKept, IsChecker, IsTold, has_eid}
 use Rattle.trace_check.specs.JudgedPair.{IsRefused, IsTaken, StandsFor}
 use Rattle.trace_check.specs.Limits.{IsAnswering}
 use Rattle.trace_check.specs.declared.checker.Checker.{Checker}
 use Rattle.trace_check.specs.declared.judged_pair.JudgedPair.{JudgedPair}
-use Rattle.world_machine.specs.Difference.{Why}
-use Rattle.world_machine.specs.SessionTable.{Row}
+use Rattle.capture_machine.specs.Difference.{Why}
+use Rattle.capture_machine.specs.SessionTable.{Row}
 use Rattle.world_machine.specs.Setup.{Configuration}
 
 -- What is kept of each other requester is kept behind a packet of this one.

@@ -7,38 +7,38 @@ use Rattle.mctp_framing.specs.Gathering.Gathered.{Dropped, More, Whole}
 use Rattle.mctp_framing.specs.Lending.{TakesPacket}
 use Rattle.mctp_framing.specs.Packet.{PacketFields, parsed}
 use Rattle.requester_machine.specs.Setup.{ReqSetup}
-use Rattle.spdm_grammar.specs.declared.why.Why as declared
-use Rattle.spdm_grammar.specs.declared.why.Why.TheVariants as why
+use Rattle.spdm_grammar.specs.declared.told.why.Why as declared
+use Rattle.spdm_grammar.specs.declared.told.why.Why.TheVariants as why
 use Rattle.spdm_basis.specs.declared.DropCause.{DropCause}
 use Rattle.spdm_basis.specs.declared.OutOfMemory.{OutOfMemory}
 use Rattle.spdm_basis.specs.declared.PacketFault.{PacketFault}
 use Rattle.spdm_machine.specs.Packets.{fields_in, gathered_from}
-use Rattle.capture_ends.specs.Conversation.{IsAnswer, WalksShow}
-use Rattle.capture_laws.proofs.Found.{IsOfOne}
-use Rattle.capture_laws.proofs.Kept.{answered_gathers, answered_kept}
-use Rattle.capture_laws.proofs.KeptAnswers.{goes_to}
-use Rattle.capture_laws.proofs.PairWalks.{IsFor, of_it, walks_setup}
-use Rattle.capture_laws.proofs.RowsKept.{more_packets}
-use Rattle.capture_laws.proofs.Telling.{answer_of_one, going_told}
-use Rattle.capture_laws.specs.Judged.{IsPair, why_of}
-use Rattle.capture_laws.specs.Order.{answered_why, is_answer, is_known, is_request, order_why, ordered_why, round_answered, round_by_answer, round_of}
-use Rattle.capture_laws.specs.Rows.{StandsForRows}
-use Rattle.capture_laws.specs.Walks.{StepsBy, StepsTo}
-use Rattle.capture_laws.specs.declared.verdict.Seen.{Seen}
-use Rattle.fetched_ends.proofs.EndsStay.{awaiting_ends}
-use Rattle.fetched_ends.proofs.MarksStay.{awaiting_marked}
-use Rattle.fetched_ends.specs.JudgedEnds as judged_ends
-use Rattle.fetched_ends.specs.MarkedEnds as marked_ends
-use Rattle.fetched_ends.specs.MarkedEnds.{StandsBehind}
-use Rattle.fetched_ends.specs.declared.marked.MarkedEnds.{MarkedEnds}
+use Rattle.check_ends.specs.Conversation.{IsAnswer, WalksShow}
+use Rattle.check_laws.proofs.Found.{IsOfOne}
+use Rattle.check_laws.proofs.Kept.{answered_gathers, answered_kept}
+use Rattle.check_laws.proofs.KeptAnswers.{goes_to}
+use Rattle.check_laws.proofs.PairWalks.{IsFor, of_it, walks_setup}
+use Rattle.check_laws.proofs.RowsKept.{more_packets}
+use Rattle.check_laws.proofs.Telling.{answer_of_one, going_told}
+use Rattle.check_laws.specs.Judged.{IsPair, why_of}
+use Rattle.check_laws.specs.Order.{answered_why, is_answer, is_known, is_request, order_why, ordered_why, round_answered, round_by_answer, round_of}
+use Rattle.check_laws.specs.Rows.{StandsForRows}
+use Rattle.check_laws.specs.Walks.{StepsBy, StepsTo}
+use Rattle.check_laws.specs.declared.verdict.Seen.{Seen}
+use Rattle.check_fetched_ends.proofs.EndsStay.{awaiting_ends}
+use Rattle.check_fetched_ends.proofs.MarksStay.{awaiting_marked}
+use Rattle.check_fetched_ends.specs.JudgedEnds as judged_ends
+use Rattle.check_fetched_ends.specs.MarkedEnds as marked_ends
+use Rattle.check_fetched_ends.specs.MarkedEnds.{StandsBehind}
+use Rattle.check_fetched_ends.specs.declared.marked.MarkedEnds.{MarkedEnds}
 use Rattle.trace_check.proofs.Refusals.{answer_refused, order_refused}
 use Rattle.trace_check.proofs.Requests.{others_stand, rests}
 use Rattle.trace_check.proofs.Walked.{known_is}
 use Rattle.trace_check.specs.Bodies.{IsAnswerJudged}
 use Rattle.trace_check.specs.JudgedPair.{ComesBehind, GoesOn, IsRefused, IsTaken, StandsFor, pair_of}
 use Rattle.trace_check.specs.declared.judged_pair.JudgedPair.{JudgedPair}
-use Rattle.world_machine.specs.Capture.{RepliesBy}
-use Rattle.world_machine.specs.SessionTable.{Row, rows_between}
+use Rattle.capture_machine.specs.Capture.{RepliesBy}
+use Rattle.capture_machine.specs.SessionTable.{Row, rows_between}
 use Rattle.world_machine.specs.Setup.{Configuration}
 
 module _ (w : Configuration) (q : ReqSetup) (older : List (List ℕ)) (rows : List Row) (packet : List ℕ) (p : PacketFields) (before : ComesBehind w q older rows packet p)

@@ -4,14 +4,14 @@ use Rattle.std.proofs.Math.Seq.{drop-cons}
 use Rattle.std.proofs.lemmas.List.{get_or-map, length-take-le, take-append-drop, take_more}
 use Rattle.std.specs.List.{AllByRecursion}
 use Rattle.requester_machine.specs.Setup.{ReqSetup}
-use Rattle.capture_laws.proofs.RowsKept.{numbers_are_order}
-use Rattle.configured_ends.specs.Configured.{requester_in}
-use Rattle.script_text.specs.declared.config.ReqPart.{ReqPart}
+use Rattle.check_laws.proofs.RowsKept.{numbers_are_order}
+use Rattle.script_ends.specs.Configured.{requester_in}
+use Rattle.script_text.specs.declared.configuration.config.ReqPart.{ReqPart}
 use Rattle.trace_check.specs.Checker.{AreKept}
 use Rattle.trace_check.specs.JudgedPair.{StandsFor}
 use Rattle.trace_check.specs.Limits.{AreSound, IsSound}
 use Rattle.trace_check.specs.declared.judged_pair.JudgedPair.{JudgedPair}
-use Rattle.world_machine.specs.SessionTable.{number_from}
+use Rattle.capture_machine.specs.SessionTable.{number_from}
 use Rattle.world_machine.specs.Setup.{Configuration}
 
 -- One requester more.

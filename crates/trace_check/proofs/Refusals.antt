@@ -4,18 +4,18 @@ use Rattle.mctp_framing.specs.Gathering.{Gathered}
 use Rattle.mctp_framing.specs.Packet.{PacketFields}
 use Rattle.requester_machine.specs.Setup.{ReqSetup}
 use Rattle.spdm_machine.specs.Packets.{gathered_from}
-use Rattle.capture_ends.specs.Conversation.{NoneGoesOn}
-use Rattle.capture_laws.proofs.Alone.{order_is_reason}
-use Rattle.capture_laws.proofs.Reasons.{order_refuses}
-use Rattle.capture_laws.proofs.ReasonsEach.{answered_reason_is_each, asked_reason_is_each}
-use Rattle.capture_laws.specs.Order.{is_answer, is_request, order_why}
-use Rattle.capture_laws.specs.ReasonsEach.{IsAnsweredReason, IsAskedReason}
+use Rattle.check_ends.specs.Conversation.{NoneGoesOn}
+use Rattle.check_laws.proofs.Alone.{order_is_reason}
+use Rattle.check_laws.proofs.Reasons.{order_refuses}
+use Rattle.check_laws.proofs.ReasonsEach.{answered_reason_is_each, asked_reason_is_each}
+use Rattle.check_laws.specs.Order.{is_answer, is_request, order_why}
+use Rattle.check_laws.specs.ReasonsEach.{IsAnsweredReason, IsAskedReason}
 use Rattle.trace_check.proofs.Walked.{have_walks, no_walk_leads}
 use Rattle.trace_check.specs.JudgedPair.{ComesBehind, IsRefused}
-use Rattle.world_machine.proofs.Captures.{leads_too}
-use Rattle.world_machine.specs.Difference.{Why}
-use Rattle.world_machine.specs.Rounds.{Dialogue}
-use Rattle.world_machine.specs.SessionTable.{LeadsShowing, Row}
+use Rattle.capture_machine.proofs.Captures.{leads_too}
+use Rattle.capture_machine.specs.Difference.{Why}
+use Rattle.capture_machine.specs.Rounds.{Dialogue}
+use Rattle.capture_machine.specs.SessionTable.{LeadsShowing, Row}
 use Rattle.world_machine.specs.Setup.{Configuration}
 
 -- ---- By the order.

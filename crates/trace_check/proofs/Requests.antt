@@ -7,51 +7,51 @@ use Rattle.mctp_framing.specs.Gathering.Gathered.{Dropped, More, Whole}
 use Rattle.mctp_framing.specs.Lending.{TakesPacket}
 use Rattle.mctp_framing.specs.Packet.{PacketFields, parsed}
 use Rattle.requester_machine.specs.Setup.{ReqSetup}
-use Rattle.spdm_grammar.specs.declared.why.Why as declared
-use Rattle.spdm_grammar.specs.declared.why.Why.TheVariants as why
+use Rattle.spdm_grammar.specs.declared.told.why.Why as declared
+use Rattle.spdm_grammar.specs.declared.told.why.Why.TheVariants as why
 use Rattle.spdm_basis.specs.declared.DropCause.{DropCause}
 use Rattle.spdm_basis.specs.declared.PacketFault.{PacketFault}
 use Rattle.spdm_machine.specs.Packets.{fields_in, gathered_from}
-use Rattle.capture_ends.proofs.WalkRows.{places_for}
-use Rattle.capture_ends.specs.Conversation as conversations
-use Rattle.capture_ends.specs.Conversation.{IsRequest, WalksShow, meanwhile}
-use Rattle.capture_ends.specs.declared.conversation.Conversation.{Conversation}
-use Rattle.capture_ends.specs.declared.party.Party.{Party}
-use Rattle.capture_laws.proofs.Found.{IsOfOne}
-use Rattle.capture_laws.proofs.IdleRows.{idle_rows_stay}
-use Rattle.capture_laws.proofs.Kept.{asked_gathers, asked_kept, stays_pair}
-use Rattle.capture_laws.proofs.KeptAnswers.{kept_is_restored}
-use Rattle.capture_laws.proofs.KeptSteps.{comes_from}
-use Rattle.capture_laws.proofs.OrderedRows.{other_places_stay}
-use Rattle.capture_laws.proofs.PairWalks.{IsFor, of_it, walks_setup}
-use Rattle.capture_laws.proofs.RowsKept.{more_packets}
-use Rattle.capture_laws.proofs.Telling.{coming_told, request_of_one}
-use Rattle.capture_laws.specs.Judged.{IsPair, why_of}
-use Rattle.capture_laws.specs.Keeping.{restored}
-use Rattle.capture_laws.specs.Order.{asked_why, is_known, is_request, order_why, ordered_why, round_by_request, round_of}
-use Rattle.capture_laws.specs.Rows.{StandsForRows}
-use Rattle.capture_laws.specs.Walks.{StepsBy, StepsTo, Walks}
-use Rattle.capture_laws.specs.declared.verdict.Seen.{Seen}
-use Rattle.fetched_ends.proofs.EndsKept.{beside_of}
-use Rattle.fetched_ends.proofs.EndsStay.{awaiting_ends, other_ends}
-use Rattle.fetched_ends.proofs.MarksStay.{awaiting_marked, other_marked}
-use Rattle.fetched_ends.specs.JudgedEnds.{StandsAs}
-use Rattle.fetched_ends.specs.JudgedEnds as judged_ends
-use Rattle.fetched_ends.specs.MarkedEnds as marked_ends
-use Rattle.fetched_ends.specs.MarkedEnds.{StandsBehind}
-use Rattle.fetched_ends.specs.declared.marked.MarkedEnds.{MarkedEnds}
-use Rattle.fetched_ends.specs.declared.fetch.Fetch.{Fetch}
-use Rattle.large_answers.specs.Fetching as fetching
-use Rattle.large_requests.specs.Sending.{dialogue_of}
-use Rattle.large_requests.specs.declared.large_request.LargeRequest.{LargeRequest}
+use Rattle.check_ends.proofs.WalkRows.{places_for}
+use Rattle.check_ends.specs.Conversation as conversations
+use Rattle.check_ends.specs.Conversation.{IsRequest, WalksShow, meanwhile}
+use Rattle.check_ends.specs.declared.conversation.Conversation.{Conversation}
+use Rattle.check_ends.specs.declared.party.Party.{Party}
+use Rattle.check_laws.proofs.Found.{IsOfOne}
+use Rattle.check_laws.proofs.IdleRows.{idle_rows_stay}
+use Rattle.check_laws.proofs.Kept.{asked_gathers, asked_kept, stays_pair}
+use Rattle.check_laws.proofs.KeptAnswers.{kept_is_restored}
+use Rattle.check_laws.proofs.KeptSteps.{comes_from}
+use Rattle.check_laws.proofs.OrderedRows.{other_places_stay}
+use Rattle.check_laws.proofs.PairWalks.{IsFor, of_it, walks_setup}
+use Rattle.check_laws.proofs.RowsKept.{more_packets}
+use Rattle.check_laws.proofs.Telling.{coming_told, request_of_one}
+use Rattle.check_laws.specs.Judged.{IsPair, why_of}
+use Rattle.check_laws.specs.Keeping.{restored}
+use Rattle.check_laws.specs.Order.{asked_why, is_known, is_request, order_why, ordered_why, round_by_request, round_of}
+use Rattle.check_laws.specs.Rows.{StandsForRows}
+use Rattle.check_laws.specs.Walks.{StepsBy, StepsTo, Walks}
+use Rattle.check_laws.specs.declared.verdict.Seen.{Seen}
+use Rattle.check_fetched_ends.proofs.EndsKept.{beside_of}
+use Rattle.check_fetched_ends.proofs.EndsStay.{awaiting_ends, other_ends}
+use Rattle.check_fetched_ends.proofs.MarksStay.{awaiting_marked, other_marked}
+use Rattle.check_fetched_ends.specs.JudgedEnds.{StandsAs}
+use Rattle.check_fetched_ends.specs.JudgedEnds as judged_ends
+use Rattle.check_fetched_ends.specs.MarkedEnds as marked_ends
+use Rattle.check_fetched_ends.specs.MarkedEnds.{StandsBehind}
+use Rattle.check_fetched_ends.specs.declared.marked.MarkedEnds.{MarkedEnds}
+use Rattle.check_fetched_ends.specs.declared.fetch.Fetch.{Fetch}
+use Rattle.check_late_laws.specs.Fetching as fetching
+use Rattle.check_laws.specs.Large.Sending.{dialogue_of}
+use Rattle.check_laws.specs.declared.sending_large.large_request.LargeRequest.{LargeRequest}
 use Rattle.trace_check.proofs.Refusals.{order_refused, request_refused}
 use Rattle.trace_check.proofs.Walked.{apart_is, known_is}
 use Rattle.trace_check.specs.Bodies.{IsRequestJudged}
 use Rattle.trace_check.specs.JudgedPair.{ComesBehind, GoesOn, IsRefused, IsTaken, StandsFor, pair_of}
 use Rattle.trace_check.specs.declared.judged_pair.JudgedPair.{JudgedPair}
-use Rattle.world_machine.specs.Capture.{AsksBy}
-use Rattle.world_machine.specs.Rounds.{Dialogue}
-use Rattle.world_machine.specs.SessionTable.{Row, rows_between}
+use Rattle.capture_machine.specs.Capture.{AsksBy}
+use Rattle.capture_machine.specs.Rounds.{Dialogue}
+use Rattle.capture_machine.specs.SessionTable.{Row, rows_between}
 use Rattle.world_machine.specs.Setup.{Configuration}
 
 -- ---- Other requesters.

@@ -2,15 +2,15 @@
 use Rattle.std.proofs.Common.{◌≡◌, ◌<◌, ◌≤◌, ◌+◌, ◌-◌, ◌^◌, ◌∙◌, ℕ, zero, suc, refl, List, [], ◌∷◌, arith, ap, sym, subst, length, map, reverse, take, get_or}
 use Rattle.std.proofs.lemmas.List.{get_or_default, length-reverse, length-take-le, reverse-append, take_more}
 use Rattle.std.specs.Prelude.{slice_index_or}
-use Rattle.capture_laws.proofs.RowsKept.{shown_is_table}
-use Rattle.capture_laws.specs.Verdict.{seen_of}
+use Rattle.check_laws.proofs.RowsKept.{shown_is_table}
+use Rattle.check_laws.specs.Verdict.{seen_of}
 use Rattle.trace_check.specs.Checker.{IsChecker}
 use Rattle.trace_check.specs.JudgedPair.{IsRefused}
 use Rattle.trace_check.specs.declared.checker.Checker.{Checker}
-use Rattle.world_machine.proofs.Captures.{leads_too}
-use Rattle.world_machine.specs.Capture.{Conforms, Leads}
-use Rattle.world_machine.specs.Difference.{IsDifference, IsReason, Why}
-use Rattle.world_machine.specs.SessionTable.{HasTable}
+use Rattle.capture_machine.proofs.Captures.{leads_too}
+use Rattle.capture_machine.specs.Capture.{Conforms, Leads}
+use Rattle.capture_machine.specs.Difference.{IsDifference, IsReason, Why}
+use Rattle.capture_machine.specs.SessionTable.{HasTable}
 use Rattle.world_machine.specs.Setup.{Configuration}
 
 -- The packets up to one more, the newest first.

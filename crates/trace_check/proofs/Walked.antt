@@ -7,15 +7,15 @@ use Rattle.mctp_framing.specs.Packet.{PacketFields, parsed}
 use Rattle.requester_machine.specs.Setup.{ReqSetup}
 use Rattle.spdm_basis.specs.declared.PacketFault.{PacketFault}
 use Rattle.spdm_machine.specs.Packets.{gathered_from}
-use Rattle.capture_laws.proofs.PairWalks.{to_each}
-use Rattle.capture_laws.proofs.Rounded.{answer_turned, request_turned}
-use Rattle.capture_laws.specs.Judged.{AreApart}
-use Rattle.capture_laws.specs.Keeping.{Keeps, Kept}
-use Rattle.capture_laws.specs.Order.{is_answer, is_known, is_request, round_after, round_by_answer, round_by_request, round_of}
-use Rattle.capture_laws.specs.ReasonsEach.{IsOneOf}
-use Rattle.capture_laws.specs.Walks.{HaveWalks, StepsBy, StepsTo, WalkEach, Walks, all_between}
-use Rattle.world_machine.specs.Capture.{AsksBy, Leads, RepliesBy}
-use Rattle.world_machine.specs.Rounds.{Dialogue, Round}
+use Rattle.check_laws.proofs.PairWalks.{to_each}
+use Rattle.check_laws.proofs.Rounded.{answer_turned, request_turned}
+use Rattle.check_laws.specs.Judged.{AreApart}
+use Rattle.check_laws.specs.Keeping.{Keeps, Kept}
+use Rattle.check_laws.specs.Order.{is_answer, is_known, is_request, round_after, round_by_answer, round_by_request, round_of}
+use Rattle.check_laws.specs.ReasonsEach.{IsOneOf}
+use Rattle.check_laws.specs.Walks.{HaveWalks, StepsBy, StepsTo, WalkEach, Walks, all_between}
+use Rattle.capture_machine.specs.Capture.{AsksBy, Leads, RepliesBy}
+use Rattle.capture_machine.specs.Rounds.{Dialogue, Round}
 use Rattle.world_machine.specs.Setup.{Configuration}
 
 -- ---- The round under way.

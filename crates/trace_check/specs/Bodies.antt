@@ -3,16 +3,16 @@ use Rattle.std.specs.Prelude.{◌≡◌, ◌⊎◌, ℕ, List, Option, Some, Non
 use Rattle.mctp_framing.specs.Cutting.{RouteFields}
 use Rattle.mctp_framing.specs.Gathering.Gathered.{Whole}
 use Rattle.requester_machine.specs.Setup.{ReqSetup}
-use Rattle.spdm_grammar.specs.declared.why.Why as declared
-use Rattle.capture_ends.specs.Conversation.{NoneGoesOn}
-use Rattle.capture_laws.specs.Judged.{why_of}
-use Rattle.capture_laws.specs.Order.{answered_why, asked_why, round_of}
-use Rattle.capture_laws.specs.ReasonsEach.{IsAskedReason}
-use Rattle.capture_laws.specs.declared.verdict.Seen.{Seen}
-use Rattle.fetched_ends.specs.MarkedEnds.{IsJudgedAnswer, StandsBehind}
-use Rattle.fetched_ends.specs.declared.marked.MarkedEnds.{MarkedEnds}
-use Rattle.world_machine.specs.Difference.{Why}
-use Rattle.world_machine.specs.SessionTable.{Row}
+use Rattle.spdm_grammar.specs.declared.told.why.Why as declared
+use Rattle.check_ends.specs.Conversation.{NoneGoesOn}
+use Rattle.check_laws.specs.Judged.{why_of}
+use Rattle.check_laws.specs.Order.{answered_why, asked_why, round_of}
+use Rattle.check_laws.specs.ReasonsEach.{IsAskedReason}
+use Rattle.check_laws.specs.declared.verdict.Seen.{Seen}
+use Rattle.check_fetched_ends.specs.MarkedEnds.{IsJudgedAnswer, StandsBehind}
+use Rattle.check_fetched_ends.specs.declared.marked.MarkedEnds.{MarkedEnds}
+use Rattle.capture_machine.specs.Difference.{Why}
+use Rattle.capture_machine.specs.SessionTable.{Row}
 use Rattle.world_machine.specs.Setup.{Configuration}
 
 -- A reason as the program tells it, or none.

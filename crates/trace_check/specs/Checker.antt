@@ -2,18 +2,18 @@
 use Rattle.std.specs.Prelude.{◌≡◌, ◌==◌, ℕ, List, [], ◌∷◌, length, Bool, true, Result, Ok, Err}
 use Rattle.mctp_framing.specs.Packet.{PacketFields, parsed}
 use Rattle.requester_machine.specs.Setup.{ReqSetup}
-use Rattle.spdm_grammar.specs.declared.why.Why as declared
+use Rattle.spdm_grammar.specs.declared.told.why.Why as declared
 use Rattle.spdm_machine.specs.Packets.{gathered_from}
-use Rattle.capture_laws.specs.Judged.{why_of}
-use Rattle.capture_laws.specs.KeptRows.{Show}
-use Rattle.capture_laws.specs.Order.{is_answer}
-use Rattle.capture_laws.specs.ReasonsEach.{IsOneOf}
-use Rattle.capture_laws.specs.Rows.{StandsForRows}
+use Rattle.check_laws.specs.Judged.{why_of}
+use Rattle.check_laws.specs.KeptRows.{Show}
+use Rattle.check_laws.specs.Order.{is_answer}
+use Rattle.check_laws.specs.ReasonsEach.{IsOneOf}
+use Rattle.check_laws.specs.Rows.{StandsForRows}
 use Rattle.trace_check.specs.JudgedPair.{IsRefused, StandsFor}
 use Rattle.trace_check.specs.Limits.{IsAnswering}
 use Rattle.trace_check.specs.declared.checker.Checker.{Checker}
 use Rattle.trace_check.specs.declared.judged_pair.JudgedPair.{JudgedPair}
-use Rattle.world_machine.specs.SessionTable.{Row}
+use Rattle.capture_machine.specs.SessionTable.{Row}
 use Rattle.world_machine.specs.Setup.{Configuration}
 
 -- ---- What is kept.

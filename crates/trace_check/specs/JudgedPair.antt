@@ -3,20 +3,20 @@
 use Rattle.std.specs.Prelude.{◌≡◌, ◌≢◌, ◌<◌, ◌+◌, ◌-◌, ◌^◌, ℕ, List, ◌∷◌, length, Result, Ok, Err}
 use Rattle.mctp_framing.specs.Packet.{PacketFields, parsed}
 use Rattle.requester_machine.specs.Setup.{ReqSetup}
-use Rattle.spdm_grammar.specs.declared.why.Why as declared
-use Rattle.capture_laws.specs.Judged.{IsPair, why_of}
-use Rattle.capture_laws.specs.KeptRows.{Show}
-use Rattle.capture_laws.specs.ReasonsEach.{IsOneOf}
-use Rattle.capture_laws.specs.Rows.{StandsForRows}
-use Rattle.capture_laws.specs.declared.pair.Pair.{Pair}
-use Rattle.capture_laws.specs.declared.verdict.Seen.{Seen}
-use Rattle.fetched_ends.specs.MarkedEnds as marked_ends
+use Rattle.spdm_grammar.specs.declared.told.why.Why as declared
+use Rattle.check_laws.specs.Judged.{IsPair, why_of}
+use Rattle.check_laws.specs.KeptRows.{Show}
+use Rattle.check_laws.specs.ReasonsEach.{IsOneOf}
+use Rattle.check_laws.specs.Rows.{StandsForRows}
+use Rattle.check_laws.specs.declared.pair.Pair.{Pair}
+use Rattle.check_laws.specs.declared.verdict.Seen.{Seen}
+use Rattle.check_fetched_ends.specs.MarkedEnds as marked_ends
 use Rattle.trace_check.specs.Limits.{AreSound}
 use Rattle.trace_check.specs.declared.judged_pair.JudgedPair.{JudgedPair}
-use Rattle.world_machine.specs.Capture.{Leads}
-use Rattle.world_machine.specs.Difference.{IsReason, Why}
-use Rattle.world_machine.specs.Rounds.{Dialogue}
-use Rattle.world_machine.specs.SessionTable.{Row}
+use Rattle.capture_machine.specs.Capture.{Leads}
+use Rattle.capture_machine.specs.Difference.{IsReason, Why}
+use Rattle.capture_machine.specs.Rounds.{Dialogue}
+use Rattle.capture_machine.specs.SessionTable.{Row}
 use Rattle.world_machine.specs.Setup.{Configuration}
 
 -- ---- What is kept.

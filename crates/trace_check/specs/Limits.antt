@@ -7,7 +7,7 @@ use Rattle.requester_machine.specs.Setup.{ReqSetup}
 use Rattle.requester_machine.specs.UnderWay.{HasSizes}
 use Rattle.responder_machine.specs.Setup.{RspPart}
 use Rattle.spdm_grammar.specs.declared.names.TheConstants.{MAX_MESSAGE_SIZE}
-use Rattle.capture_laws.specs.Judged.{AreApart}
+use Rattle.check_laws.specs.Judged.{AreApart}
 use Rattle.trace_check.specs.declared.answering.Answering.{Answering}
 use Rattle.world_machine.specs.Setup.{Configuration}
 

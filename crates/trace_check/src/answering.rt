@@ -1,4 +1,4 @@
-use connection::Setup;
+use responder_core::Setup;
 use measurements::{Inventory, InventoryFault};
 use script_text::ScriptConfig;
 use spdm_basis::{Bytes, OutOfMemory, Psk};
@@ -19,8 +19,8 @@ pub struct Answering {
 
 impl Answering {
     ghost use Rattle.std.specs.Prelude.{◌≡◌, IfOk, None};
-    ghost use Rattle.configured_ends.specs.Configured.{responder_in};
-    ghost use Rattle.connection.specs.Setup.{IsSetUp};
+    ghost use Rattle.script_ends.specs.Configured.{responder_in};
+    ghost use Rattle.responder_core.specs.Setup.{IsSetUp};
     ghost use Rattle.measurements.specs.Faults.{inventory_fault};
     ghost use Rattle.requester_machine.specs.Setup.{ReqSetup};
     ghost use Rattle.responder_machine.specs.Setup.{RspPart, towards};

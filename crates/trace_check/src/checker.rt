@@ -1,11 +1,11 @@
 ghost use Rattle.std.specs.Prelude.{◌≡◌, [], IfOk, map};
-ghost use Rattle.configured_ends.specs.Configured.{requester_in};
+ghost use Rattle.script_ends.specs.Configured.{requester_in};
 ghost use Rattle.trace_check.specs.Checker.{AreKept};
 ghost use Rattle.trace_check.specs.Limits.{AreSound, IsAnswering};
 ghost use Rattle.world_machine.specs.Setup.{Configuration};
 
 use crate::{Answering, JudgedPair};
-use capture_laws::SessionTable;
+use check_laws::SessionTable;
 use mctp_framing::{Packet, PacketView};
 use script_text::{ReqPart, ScriptConfig};
 use spdm_basis::{Eid, OutOfMemory};
@@ -53,7 +53,7 @@ fn pairs_of(
 impl Checker {
     ghost use Rattle.std.specs.Prelude.{◌≡◌, ◌≢◌, ◌<◌, ◌-◌, ◌^◌, [], List, ℕ, None, Ok, IfOk, IfSome, length};
     ghost use Rattle.std.specs.List.{position_from};
-    ghost use Rattle.configured_ends.specs.Configured.{configuration_in};
+    ghost use Rattle.script_ends.specs.Configured.{configuration_in};
     ghost use Rattle.measurements.specs.Faults.{inventory_fault};
     ghost use Rattle.mctp_framing.specs.Packet.{parsed, view_of};
     ghost use Rattle.trace_check.specs.Checker.{IsChecker, IsTold, has_eid};

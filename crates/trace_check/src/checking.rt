@@ -1,11 +1,11 @@
 ghost use Rattle.std.specs.Prelude.{◌≡◌, ◌<◌, ◌-◌, ◌^◌, None, IfOk, length};
-ghost use Rattle.configured_ends.specs.Configured.{configuration_in};
-ghost use Rattle.capture_laws.specs.Verdict.{IsVerdict};
+ghost use Rattle.script_ends.specs.Configured.{configuration_in};
+ghost use Rattle.check_laws.specs.Verdict.{IsVerdict};
 ghost use Rattle.measurements.specs.Faults.{inventory_fault};
 ghost use Rattle.trace_check.specs.Limits.{AreSound};
 
 use crate::Checker;
-use capture_laws::Verdict;
+use check_laws::Verdict;
 use script_text::Capture;
 use spdm_basis::OutOfMemory;
 use std::alloc::Global;

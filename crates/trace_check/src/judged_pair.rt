@@ -1,13 +1,13 @@
 ghost use Rattle.std.specs.Prelude.{◌≡◌, ℕ};
-ghost use Rattle.asking.specs.Setup.{IsSetUp};
-ghost use Rattle.configured_ends.specs.Configured.{requester_in};
+ghost use Rattle.requester_core.specs.Setup.{IsSetUp};
+ghost use Rattle.script_ends.specs.Configured.{requester_in};
 ghost use Rattle.requester_machine.specs.UnderWay.{HasSizes};
 
 use crate::Answering;
 use crate::bodies::{takes_answer, takes_request};
-use capture_ends::{Asker, Party, walks_show};
-use capture_laws::{Round, SessionTable};
-use fetched_ends::MarkedEnds;
+use check_ends::{Asker, Party, walks_show};
+use check_laws::{Round, SessionTable};
+use check_fetched_ends::MarkedEnds;
 use mctp_framing::{Assembler, Fed, PacketView};
 use script_text::ReqPart;
 use spdm_basis::{Bytes, Eid, OutOfMemory, Psk};
@@ -33,11 +33,11 @@ pub struct JudgedPair {
 }
 
 // What the requester's own code sees of how a requester is set up.
-fn setup_of(q: &ReqPart) -> asking::Setup<'_>
+fn setup_of(q: &ReqPart) -> requester_core::Setup<'_>
     ensures { (responder : ℕ) → HasSizes (requester_in responder q.now)
         → IsSetUp result (requester_in responder q.now) }
 {
-    asking::Setup {
+    requester_core::Setup {
         transfer: q.transfer,
         max: q.max,
         flags: q.flags,
@@ -55,14 +55,14 @@ fn copy_of(psk: &Psk) -> Psk
 
 impl JudgedPair {
     ghost use Rattle.std.specs.Prelude.{◌≡◌, ◌<◌, [], ℕ, List, IfOk, length, true};
-    ghost use Rattle.capture_laws.specs.Order.{is_answer, is_request};
-    ghost use Rattle.capture_laws.specs.Rows.{StandsForRows};
-    ghost use Rattle.configured_ends.specs.Configured.{requester_in};
+    ghost use Rattle.check_laws.specs.Order.{is_answer, is_request};
+    ghost use Rattle.check_laws.specs.Rows.{StandsForRows};
+    ghost use Rattle.script_ends.specs.Configured.{requester_in};
     ghost use Rattle.mctp_framing.specs.Packet.{view_of};
     ghost use Rattle.requester_machine.specs.Setup.{ReqSetup};
     ghost use Rattle.trace_check.specs.JudgedPair.{ComesBehind, IsTaken, StandsFor};
     ghost use Rattle.trace_check.specs.Limits.{HasLimits, IsAnswering, IsSound};
-    ghost use Rattle.world_machine.specs.SessionTable.{Row, number_from};
+    ghost use Rattle.capture_machine.specs.SessionTable.{Row, number_from};
     ghost use Rattle.world_machine.specs.Setup.{Configuration};
 
     // A requester with this number, counted from 1, and the responder with this end point, where no

@@ -1,11 +1,11 @@
 ghost use Rattle.std.specs.Prelude.{◌≡◌};
 ghost use Rattle.mctp_framing.specs.Cutting.{route_of};
 ghost use Rattle.mctp_framing.specs.Gathering.Gathered.{Whole};
-ghost use Rattle.capture_laws.specs.Order.{answered_why, asked_why};
+ghost use Rattle.check_laws.specs.Order.{answered_why, asked_why};
 ghost use Rattle.trace_check.specs.Bodies.{told_of};
-ghost use Rattle.world_machine.specs.Difference.{is_other_type};
+ghost use Rattle.capture_machine.specs.Difference.{is_other_type};
 
-use capture_laws::Round;
+use check_laws::Round;
 use mctp_framing::Route;
 use spdm_grammar::Why;
 

@@ -1,7 +1,7 @@
 -- The transcripts of a session whose messages are a byte or two, with 32 bytes 9 as verify data.
 use Rattle.std.proofs.Common.{◌≡◌, ℕ, List, [], ◌∷◌, ◌++◌, refl}
 use Rattle.std.specs.Prelude.{replicate}
-use Rattle.spdm_basis.specs.declared.hash_alg.HashAlg.TheVariants.{Sha256}
+use Rattle.spdm_basis.specs.declared.values.hash_alg.HashAlg.TheVariants.{Sha256}
 use Rattle.running_hash.specs.Hash.{hash_of}
 use Rattle.transcript.specs.Transcripts.{Negotiation, vca_of, t1_of, tv_of, t2_of}
 

@@ -1,6 +1,6 @@
 -- What a lane stands for. This project's own.
 use Rattle.std.specs.Prelude.{ℕ, List}
-use Rattle.spdm_basis.specs.declared.hash_alg.HashAlg.{HashAlg}
+use Rattle.spdm_basis.specs.declared.values.hash_alg.HashAlg.{HashAlg}
 use Rattle.running_hash.specs.Holds.{Holds, function_of}
 use Rattle.transcript.specs.declared.lane.Lane.{Lane}
 

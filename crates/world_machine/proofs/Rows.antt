@@ -12,11 +12,11 @@ use Rattle.requester_machine.specs.Session as requester_session
 use Rattle.spdm_grammar.specs.Reading.{field_at, number_at, optional_at, tables_at, behind_tables, behind_table}
 use Rattle.spdm_grammar.specs.Requests.{request_body, get_version_layout, get_capabilities_layout, negotiate_algorithms_layout, psk_finish_layout, chunk_send_layout, chunk_get_layout}
 use Rattle.spdm_grammar.specs.Responses.{response_body, version_layout, capabilities_layout, algorithms_layout, chunk_send_ack_layout, chunk_response_layout, error_layout}
-use Rattle.spdm_grammar.specs.declared.choice.Pick.TheVariants.{Small}
-use Rattle.spdm_grammar.specs.declared.event.Event.TheVariants as event
-use Rattle.spdm_grammar.specs.declared.event.Finished.TheVariants as finished
-use Rattle.spdm_grammar.specs.declared.heard.Heard.TheVariants as heard
-use Rattle.spdm_grammar.specs.declared.phase.Phase.TheVariants.{Fresh, Negotiated}
+use Rattle.spdm_grammar.specs.declared.messages.choice.Pick.TheVariants.{Small}
+use Rattle.spdm_grammar.specs.declared.told.event.Event.TheVariants as event
+use Rattle.spdm_grammar.specs.declared.told.event.Finished.TheVariants as finished
+use Rattle.spdm_grammar.specs.declared.told.heard.Heard.TheVariants as heard
+use Rattle.spdm_grammar.specs.declared.told.phase.Phase.TheVariants.{Fresh, Negotiated}
 use Rattle.responder_machine.specs.Answer.{answer_bytes}
 use Rattle.responder_machine.specs.Does as responder_does
 use Rattle.responder_machine.specs.Handling.{turn_of}

@@ -5,13 +5,4 @@ pub mod Trace
 pub mod Chance
 pub mod Agreement
 pub mod Laws
-pub mod Rounds
-pub mod LargeRequests
-pub mod CapturedRequests
-pub mod LargeAnswers
-pub mod CapturedAnswers
-pub mod Capture
-pub mod SessionTable
-pub mod Opening
-pub mod Difference
 pub mod Totals

@@ -5,7 +5,7 @@ use Rattle.hmac_hkdf.specs.Hmac.{hmac}
 use Rattle.requester_machine.specs.Setup.{ReqSetup, ReqEnd}
 use Rattle.responder_machine.specs.Setup.{RspPart, Known, RspEnd}
 use Rattle.running_hash.specs.Hash.{hash_of}
-use Rattle.spdm_basis.specs.declared.hash_alg.HashAlg.TheVariants.{Sha256}
+use Rattle.spdm_basis.specs.declared.values.hash_alg.HashAlg.TheVariants.{Sha256}
 
 -- A responder and requesters, in order, each as an end of its own.
 pub record WorldSetup : Type 0 where

@@ -4,12 +4,12 @@ use Rattle.std.specs.Prelude.{◌+◌, ◌==◌, nat_lt, ℕ, zero, suc, List, [
 use Rattle.requester_machine.specs.Message.{Command}
 use Rattle.requester_machine.specs.Shown as requester_shown
 use Rattle.requester_machine.specs.History as requester_history
-use Rattle.spdm_basis.specs.declared.session_id.SessionId.{SessionId}
-use Rattle.spdm_grammar.specs.declared.event.Event.{Event}
-use Rattle.spdm_grammar.specs.declared.event.Event.TheVariants as event
-use Rattle.spdm_grammar.specs.declared.event.Finished.{Finished}
-use Rattle.spdm_grammar.specs.declared.event.Finished.TheVariants as finished
-use Rattle.spdm_grammar.specs.declared.session_view.SessionView.{SessionView}
+use Rattle.spdm_basis.specs.declared.values.session_id.SessionId.{SessionId}
+use Rattle.spdm_grammar.specs.declared.told.event.Event.{Event}
+use Rattle.spdm_grammar.specs.declared.told.event.Event.TheVariants as event
+use Rattle.spdm_grammar.specs.declared.told.event.Finished.{Finished}
+use Rattle.spdm_grammar.specs.declared.told.event.Finished.TheVariants as finished
+use Rattle.spdm_grammar.specs.declared.told.session_view.SessionView.{SessionView}
 use Rattle.responder_machine.specs.Heard.{views_of, no_id}
 use Rattle.responder_machine.specs.History.{clear_turns, phase_of}
 use Rattle.spdm_machine.specs.TagLog.{Log}

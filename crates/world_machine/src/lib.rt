@@ -2,14 +2,9 @@
 //! does, what may go wrong by chance, and what has to hold. Nothing here runs. The definitions are in
 //! `specs/`, and each function below has a law about them as its contract.
 //!
-//! Read first: `happens` in `specs/World.antt`, the lines and the world after one event. The law to
-//! read first is `conforming_has_table`.
+//! Read first: `happens` in `specs/World.antt`, the lines and the world after one event. The law is `chance_stays`.
 #![tactic(auto)]
 
-mod capture_laws;
 mod laws;
 
-pub use capture_laws::{
-    beginning_conforms, conforming_has_table, first_has_reason, one_is_first, one_reason, one_table,
-};
 pub use laws::chance_stays;

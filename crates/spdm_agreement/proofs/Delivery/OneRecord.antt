@@ -12,9 +12,9 @@ use Rattle.requester_machine.specs.Order.{may_bring}
 use Rattle.requester_machine.specs.Session.{ends, is_data, answer_in}
 use Rattle.spdm_grammar.specs.Message.{ResponseMessage}
 use Rattle.spdm_grammar.specs.Message.ResponseMessage.{Error}
-use Rattle.spdm_grammar.specs.declared.event.BadReply.{BadReply}
-use Rattle.spdm_grammar.specs.declared.event.BadReply.TheVariants as bad
-use Rattle.spdm_grammar.specs.declared.malformed.Malformed.{Malformed}
+use Rattle.spdm_grammar.specs.declared.told.event.BadReply.{BadReply}
+use Rattle.spdm_grammar.specs.declared.told.event.BadReply.TheVariants as bad
+use Rattle.spdm_grammar.specs.declared.messages.malformed.Malformed.{Malformed}
 use Rattle.requester_machine.specs.Setup.{ReqSetup}
 use Rattle.spdm_agreement.proofs.Requester.RecordLeads.{RecordLed, record_shape}
 use Rattle.spdm_agreement.proofs.Delivery.Data.{is_data_inner}

@@ -20,8 +20,8 @@ use Rattle.requester_machine.specs.Session.{Steps, session_of, stage_of, t2_of, 
 use Rattle.requester_machine.specs.Session.Step.{Took}
 use Rattle.spdm_grammar.specs.Message.RequestMessage.{GetMeasurements, PskExchange, Heartbeat, EndSession}
 use Rattle.spdm_grammar.specs.Requests.{canonical_request}
-use Rattle.spdm_grammar.specs.declared.phase.Stage.{Stage}
-use Rattle.spdm_grammar.specs.declared.phase.Stage.TheVariants as stage
+use Rattle.spdm_grammar.specs.declared.told.phase.Stage.{Stage}
+use Rattle.spdm_grammar.specs.declared.told.phase.Stage.TheVariants as stage
 use Rattle.spdm_machine.specs.Keys.{Draw}
 use Rattle.spdm_machine.specs.Bodies.{record_body}
 use Rattle.requester_machine.specs.Setup.{ReqSetup}

@@ -26,14 +26,14 @@ use Rattle.requester_machine.specs.RequesterLog.{steps_at}
 use Rattle.requester_machine.specs.Session.{Steps, session_of, stage_of, t2_of, finishes, is_data, answer_in}
 use Rattle.requester_machine.specs.Session.Step.{Took}
 use Rattle.secured_record.specs.Format.{plain_text}
-use Rattle.spdm_basis.specs.declared.record_fault.RecordFault.{RecordFault}
+use Rattle.spdm_basis.specs.declared.causes.record_fault.RecordFault.{RecordFault}
 use Rattle.spdm_grammar.specs.Message.{RequestMessage}
 use Rattle.spdm_grammar.specs.Message.RequestMessage.{GetMeasurements, Heartbeat, EndSession, PskFinish, ChunkGet}
 use Rattle.requester_machine.specs.Answers.{with_answer}
 use Rattle.spdm_grammar.specs.Requests.{canonical_request}
-use Rattle.spdm_grammar.specs.declared.event.ReqIgnored.{ReqIgnored}
-use Rattle.spdm_grammar.specs.declared.phase.Stage.{Stage}
-use Rattle.spdm_grammar.specs.declared.phase.Stage.TheVariants as stage
+use Rattle.spdm_grammar.specs.declared.told.event.ReqIgnored.{ReqIgnored}
+use Rattle.spdm_grammar.specs.declared.told.phase.Stage.{Stage}
+use Rattle.spdm_grammar.specs.declared.told.phase.Stage.TheVariants as stage
 use Rattle.spdm_machine.specs.Keys.{Draw}
 use Rattle.spdm_machine.specs.Bodies.{clear_body, record_body}
 use Rattle.requester_machine.specs.Setup.{ReqSetup}

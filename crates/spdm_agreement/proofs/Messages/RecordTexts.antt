@@ -13,8 +13,8 @@ use Rattle.secured_record.specs.Faults.{header_fault, text_part, opened_text, in
 use Rattle.spdm_basis.specs.Tests.{first_of_tests}
 use Rattle.secured_record.specs.Format.{header, nonce, plain_text, record_of}
 use Rattle.std.proofs.lemmas.Slice.Eq.{bytes_eq-Decides}
-use Rattle.spdm_basis.specs.declared.record_fault.RecordFault.TheVariants.{Short, WrongId, WrongNumber, WrongLength}
-use Rattle.spdm_grammar.specs.declared.choice.Choice.{Choice}
+use Rattle.spdm_basis.specs.declared.causes.record_fault.RecordFault.TheVariants.{Short, WrongId, WrongNumber, WrongLength}
+use Rattle.spdm_grammar.specs.declared.messages.choice.Choice.{Choice}
 use Rattle.spdm_machine.specs.Keys as keys
 use Rattle.spdm_machine.specs.Keys.{inner_message}
 use Rattle.spdm_machine.specs.TagLog.{record_input}

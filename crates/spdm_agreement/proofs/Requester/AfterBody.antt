@@ -15,8 +15,8 @@ use Rattle.requester_machine.specs.Session.{Steps, session_of, is_live, stage_of
 use Rattle.requester_machine.specs.Session.Step.{Took}
 use Rattle.requester_machine.proofs.MadeOrder.{in_order}
 use Rattle.secured_record.specs.Format.{plain_text}
-use Rattle.spdm_grammar.specs.declared.phase.Stage.{Stage}
-use Rattle.spdm_grammar.specs.declared.phase.Stage.TheVariants as stage
+use Rattle.spdm_grammar.specs.declared.told.phase.Stage.{Stage}
+use Rattle.spdm_grammar.specs.declared.told.phase.Stage.TheVariants as stage
 use Rattle.spdm_machine.specs.Keys.{Draw}
 use Rattle.spdm_machine.specs.Sessions.{is_past_handshake}
 use Rattle.requester_machine.specs.Setup.{ReqSetup}

@@ -12,8 +12,8 @@ use Rattle.requester_machine.specs.Order.{may_bring, is_same}
 use Rattle.requester_machine.specs.Records.{request_purpose, response_purpose, answer_purpose, answer_number, asks_all}
 use Rattle.requester_machine.specs.Session.{Steps, stage_of, t1_of, t2_of, request_epoch, response_epoch, request_next, response_next, finishes, updates, updates_all, verifies}
 use Rattle.requester_machine.specs.Session.Step.{Asked, Took}
-use Rattle.spdm_grammar.specs.declared.phase.Stage.{Stage}
-use Rattle.spdm_grammar.specs.declared.phase.Stage.TheVariants as stage
+use Rattle.spdm_grammar.specs.declared.told.phase.Stage.{Stage}
+use Rattle.spdm_grammar.specs.declared.told.phase.Stage.TheVariants as stage
 use Rattle.spdm_machine.specs.Sessions.{purpose_in}
 use Rattle.spdm_machine.specs.Sessions.{is_past_handshake}
 use Rattle.spdm_agreement.specs.Marks as marks

@@ -19,8 +19,8 @@ use Rattle.requester_machine.specs.Session.Step.{Took}
 use Rattle.secured_record.specs.Format.{plain_text}
 use Rattle.spdm_grammar.specs.Message.RequestMessage.{PskExchange, ChunkGet}
 use Rattle.spdm_grammar.specs.Requests.{canonical_request}
-use Rattle.spdm_grammar.specs.declared.phase.Stage.{Stage}
-use Rattle.spdm_grammar.specs.declared.phase.Stage.TheVariants as stage
+use Rattle.spdm_grammar.specs.declared.told.phase.Stage.{Stage}
+use Rattle.spdm_grammar.specs.declared.told.phase.Stage.TheVariants as stage
 use Rattle.spdm_machine.specs.Keys.{Draw}
 use Rattle.spdm_machine.specs.Bodies.{record_body}
 use Rattle.spdm_machine.specs.Sessions.{is_past_handshake}

@@ -19,13 +19,13 @@ use Rattle.requester_machine.specs.Sending.{request_sent, piece_sent, plain_sent
 use Rattle.requester_machine.specs.Session.{Steps, session_of, is_live}
 use Rattle.requester_machine.proofs.Entries.{asked, test_is_false}
 use Rattle.secured_record.specs.Format.{plain_text}
-use Rattle.spdm_basis.specs.declared.record_fault.RecordFault.{RecordFault}
+use Rattle.spdm_basis.specs.declared.causes.record_fault.RecordFault.{RecordFault}
 use Rattle.spdm_grammar.specs.Fields.{is_summary}
 use Rattle.spdm_grammar.specs.Message.{RequestMessage, ChunkMessage}
 use Rattle.spdm_grammar.specs.Message.RequestMessage.{GetCapabilities, NegotiateAlgorithms, GetMeasurements, Heartbeat, EndSession, ChunkGet}
 use Rattle.spdm_grammar.specs.Requests.{canonical_request}
-use Rattle.spdm_grammar.specs.declared.event.ReqIgnored.{ReqIgnored}
-use Rattle.spdm_grammar.specs.declared.phase.Stage.TheVariants as stage
+use Rattle.spdm_grammar.specs.declared.told.event.ReqIgnored.{ReqIgnored}
+use Rattle.spdm_grammar.specs.declared.told.phase.Stage.TheVariants as stage
 use Rattle.spdm_machine.specs.Keys.{Draw}
 use Rattle.requester_machine.specs.Setup.{ReqSetup}
 use Rattle.spdm_agreement.proofs.Requester.ClearLeads.{IsClear, IsClearAim, NoExchange, ClearLed, ClearResult, clear_shape, either}

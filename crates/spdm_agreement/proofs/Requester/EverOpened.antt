@@ -5,8 +5,8 @@ use Rattle.requester_machine.specs.History.Entry.{Told, TookClear, TookRecord}
 use Rattle.requester_machine.specs.Message.{Sent}
 use Rattle.requester_machine.specs.Session.{Steps, session_of, stage_of, finishes}
 use Rattle.requester_machine.specs.Setup.{ReqSetup}
-use Rattle.spdm_grammar.specs.declared.phase.Stage.{Stage}
-use Rattle.spdm_grammar.specs.declared.phase.Stage.TheVariants as stage
+use Rattle.spdm_grammar.specs.declared.told.phase.Stage.{Stage}
+use Rattle.spdm_grammar.specs.declared.told.phase.Stage.TheVariants as stage
 use Rattle.world_machine.specs.Agreement.{WasOpened, WereOpenedApart, t2_with}
 use Rattle.spdm_agreement.proofs.Requester.OpenSessions.{EndsByAnswer, IsSteady}
 use Rattle.spdm_agreement.specs.Marks.{Asked, IsOpened, OpenedApart}

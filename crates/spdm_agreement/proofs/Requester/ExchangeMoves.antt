@@ -17,15 +17,15 @@ use Rattle.requester_machine.specs.RequesterLog.{record_made, finish_made, answe
 use Rattle.requester_machine.specs.Sending.{inner_request, finish_verify, finish_input}
 use Rattle.requester_machine.specs.Session.{Steps, stage_of, t1_of, t2_of, request_next, response_next}
 use Rattle.secured_record.specs.Faults.{tag_part}
-use Rattle.spdm_basis.specs.declared.hash_alg.HashAlg.{HashAlg}
-use Rattle.spdm_basis.specs.declared.hash_alg.HashAlg.TheVariants.{Sha256, Sha384}
+use Rattle.spdm_basis.specs.declared.values.hash_alg.HashAlg.{HashAlg}
+use Rattle.spdm_basis.specs.declared.values.hash_alg.HashAlg.TheVariants.{Sha256, Sha384}
 use Rattle.spdm_grammar.specs.Message.{RequestMessage, ExchangeMessage, ExchangeRspMessage}
 use Rattle.spdm_grammar.specs.Message.RequestMessage.{PskExchange, PskFinish}
 use Rattle.spdm_grammar.specs.Requests.{canonical_request, request_in, request_layout, FitsRequest, IsSoundRequest}
 use Rattle.spdm_grammar.proofs.CanonicalRequests.{request_spelled}
 use Rattle.spdm_grammar.proofs.Spellings.{spelling_read}
-use Rattle.spdm_grammar.specs.declared.phase.Stage.{Stage}
-use Rattle.spdm_grammar.specs.declared.phase.Stage.TheVariants as stage
+use Rattle.spdm_grammar.specs.declared.told.phase.Stage.{Stage}
+use Rattle.spdm_grammar.specs.declared.told.phase.Stage.TheVariants as stage
 use Rattle.spdm_machine.specs.Keys.{Draw, context_of}
 use Rattle.spdm_machine.specs.Sessions.{purpose_in}
 use Rattle.requester_machine.specs.Setup.{ReqSetup}

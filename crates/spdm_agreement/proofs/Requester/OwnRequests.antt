@@ -8,7 +8,7 @@ use Rattle.spdm_grammar.specs.Layout.{AreTables, IsTable}
 use Rattle.spdm_grammar.specs.Message.{OfferMessage}
 use Rattle.spdm_grammar.specs.Message.RequestMessage.{GetCapabilities, NegotiateAlgorithms}
 use Rattle.spdm_grammar.specs.Requests.{canonical_request}
-use Rattle.spdm_grammar.specs.declared.choice.FlagSet.{FlagSet}
+use Rattle.spdm_grammar.specs.declared.messages.choice.FlagSet.{FlagSet}
 use Rattle.requester_machine.specs.Setup.{ReqSetup, requester_caps}
 use Rattle.spdm_machine.specs.Setup.{optional_flags}
 use Rattle.spdm_grammar.specs.declared.names.capability.TheConstants.{HBEAT_CAP, KEY_UPD_CAP, CHUNK_CAP}

@@ -11,8 +11,8 @@ use Rattle.requester_machine.specs.Records.{answer_fault, answer_inner}
 use Rattle.requester_machine.specs.RequesterLog.{sent_made, record_check}
 use Rattle.requester_machine.specs.Session.{Steps, session_of, stage_of, t2_of, is_live, finishes, ends, when_live}
 use Rattle.requester_machine.specs.Session.Step.{Took}
-use Rattle.spdm_grammar.specs.declared.phase.Stage.{Stage}
-use Rattle.spdm_grammar.specs.declared.phase.Stage.TheVariants as stage
+use Rattle.spdm_grammar.specs.declared.told.phase.Stage.{Stage}
+use Rattle.spdm_grammar.specs.declared.told.phase.Stage.TheVariants as stage
 use Rattle.spdm_machine.specs.Sessions.{is_past_handshake}
 use Rattle.requester_machine.specs.Setup.{ReqSetup}
 use Rattle.spdm_machine.specs.TagLog.{Log}

@@ -10,9 +10,9 @@ use Rattle.requester_machine.specs.Session.{Steps, stage_of, t2_of, session_term
 use Rattle.secured_record.specs.Faults.{header_fault, fault_behind, fault_of, is_authentic, tag_part}
 use Rattle.secured_record.specs.Format.{plain_text}
 use Rattle.std.proofs.lemmas.Slice.Eq.{bytes_eq-Decides}
-use Rattle.spdm_basis.specs.declared.record_fault.RecordFault.{RecordFault}
-use Rattle.spdm_basis.specs.declared.record_fault.RecordFault.TheVariants.{BadTag}
-use Rattle.spdm_grammar.specs.declared.choice.Choice.{Choice}
+use Rattle.spdm_basis.specs.declared.causes.record_fault.RecordFault.{RecordFault}
+use Rattle.spdm_basis.specs.declared.causes.record_fault.RecordFault.TheVariants.{BadTag}
+use Rattle.spdm_grammar.specs.declared.messages.choice.Choice.{Choice}
 use Rattle.spdm_machine.specs.Keys.{record_fault}
 use Rattle.spdm_machine.specs.Sessions.{is_past_handshake}
 use Rattle.requester_machine.specs.Setup.{ReqSetup}

@@ -3,8 +3,8 @@
 use Rattle.std.proofs.Common.{◌≡◌, ◌⊎◌, ℕ, List, [], ◌∷◌, Bool, true, false, cond, not, Option, Some, None, refl, sym, ap, ◌∙◌, inl, inr}
 use Rattle.chunking.specs.Collecting.{under_way, joined_with}
 use Rattle.spdm_grammar.specs.Message.{RequestMessage, ChunkMessage}
-use Rattle.spdm_grammar.specs.declared.error_code.ErrorCode.{ErrorCode}
-use Rattle.spdm_grammar.specs.declared.phase.Phase.{Phase}
+use Rattle.spdm_grammar.specs.declared.messages.error_code.ErrorCode.{ErrorCode}
+use Rattle.spdm_grammar.specs.declared.told.phase.Phase.{Phase}
 use Rattle.responder_machine.specs.Answer.{Free, request_at, answer_bytes}
 use Rattle.responder_machine.specs.Handling.{turn_of, turn_by, chunk_in, request_effect, effect_of, handle_for, last_chunk_turn, carried_turn, taken_chunk}
 use Rattle.responder_machine.specs.History.{History, clear_turns, phase_of, negotiation_of}

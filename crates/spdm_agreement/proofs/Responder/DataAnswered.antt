@@ -1,7 +1,7 @@
 -- A responder answers application data with application data, but while a new key is not verified.
 use Rattle.std.proofs.Common.{◌≡◌, ℕ, ◌≤◌, List, [], ◌∷◌, ◌++◌, length, Bool, true, false, cond, refl, sym, ap, ◌∙◌, subst, inl, inr, true≢false, bytes_eq}
-use Rattle.spdm_grammar.specs.declared.phase.Stage.{Stage}
-use Rattle.spdm_grammar.specs.declared.phase.Stage.TheVariants as stage
+use Rattle.spdm_grammar.specs.declared.told.phase.Stage.{Stage}
+use Rattle.spdm_grammar.specs.declared.told.phase.Stage.TheVariants as stage
 use Rattle.responder_machine.specs.Answer.{Free}
 use Rattle.responder_machine.specs.Does.{IsMade, record_chosen, responder_does}
 use Rattle.responder_machine.specs.History.{History}

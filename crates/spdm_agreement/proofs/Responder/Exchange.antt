@@ -12,17 +12,17 @@ use Rattle.key_schedule.specs.declared.direction.Direction.TheVariants.{Response
 use Rattle.measurements.specs.Summaries.{hash_of_blocks, summarized}
 use Rattle.running_hash.specs.Hash.{hash_of}
 use Rattle.spdm_basis.specs.Sizes.{hash_size}
-use Rattle.spdm_basis.specs.declared.hash_alg.HashAlg.{HashAlg}
-use Rattle.spdm_basis.specs.declared.hash_alg.HashAlg.TheVariants.{Sha256, Sha384}
+use Rattle.spdm_basis.specs.declared.values.hash_alg.HashAlg.{HashAlg}
+use Rattle.spdm_basis.specs.declared.values.hash_alg.HashAlg.TheVariants.{Sha256, Sha384}
 use Rattle.spdm_grammar.specs.Fields.{is_summary}
 use Rattle.spdm_grammar.specs.Layout.{IsSpelling}
 use Rattle.spdm_grammar.specs.Message.{RequestMessage, ExchangeMessage}
 use Rattle.spdm_grammar.specs.Message.RequestMessage.{PskExchange}
 use Rattle.spdm_grammar.specs.Requests.{IsRequestSpelling, request_layout, request_in, request_body, psk_exchange_layout}
 use Rattle.spdm_grammar.specs.Responses.{canonical_response}
-use Rattle.spdm_grammar.specs.declared.block_spec.BlockSpec.{BlockSpec}
-use Rattle.spdm_grammar.specs.declared.phase.Phase.{Phase}
-use Rattle.spdm_grammar.specs.declared.phase.Phase.TheVariants.{Fresh, Versioned, Capable, Negotiated}
+use Rattle.spdm_grammar.specs.declared.told.block_spec.BlockSpec.{BlockSpec}
+use Rattle.spdm_grammar.specs.declared.told.phase.Phase.{Phase}
+use Rattle.spdm_grammar.specs.declared.told.phase.Phase.TheVariants.{Fresh, Versioned, Capable, Negotiated}
 use Rattle.spdm_grammar.proofs.Spellings.{read_iff}
 use Rattle.responder_machine.specs.Answer.{Free, request_at, summary_answer, exchange_rsp, exchange_answer, t1_with}
 use Rattle.responder_machine.specs.Does.{IsMade, chosen, clear_chosen}

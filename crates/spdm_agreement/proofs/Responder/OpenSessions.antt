@@ -1,7 +1,7 @@
 -- The sessions that a responder holds open are those that its marks tell.
 use Rattle.std.proofs.Common.{◌≡◌, ℕ, List, [], ◌∷◌, ◌++◌, Bool, true, false, Some, None, ◌==◌, ◌&&◌, not, refl, sym, ap, ◌∙◌, subst, eqb-true, eq-eqb, cond, true≢false}
-use Rattle.spdm_grammar.specs.declared.phase.Stage.{Stage}
-use Rattle.spdm_grammar.specs.declared.phase.Stage.TheVariants as stage
+use Rattle.spdm_grammar.specs.declared.told.phase.Stage.{Stage}
+use Rattle.spdm_grammar.specs.declared.told.phase.Stage.TheVariants as stage
 use Rattle.responder_machine.proofs.GivenIds.{given_is}
 use Rattle.responder_machine.proofs.NoSession.{no_session}
 use Rattle.responder_machine.specs.History.{History, clear_turns, negotiation_of}

@@ -8,11 +8,11 @@ use Rattle.secured_record.specs.Faults.{header_fault, fault_behind, fault_of, is
 use Rattle.spdm_basis.specs.Tests.{first_of_tests}
 use Rattle.secured_record.specs.Format.{nonce}
 use Rattle.std.proofs.lemmas.Slice.Eq.{bytes_eq-Decides}
-use Rattle.spdm_basis.specs.declared.record_fault.RecordFault.{RecordFault}
-use Rattle.spdm_basis.specs.declared.record_fault.RecordFault.TheVariants.{BadTag, BadInnerLength}
+use Rattle.spdm_basis.specs.declared.causes.record_fault.RecordFault.{RecordFault}
+use Rattle.spdm_basis.specs.declared.causes.record_fault.RecordFault.TheVariants.{BadTag, BadInnerLength}
 use Rattle.spdm_grammar.specs.Message.{RequestMessage}
 use Rattle.spdm_grammar.specs.Message.RequestMessage.{PskFinish}
-use Rattle.spdm_grammar.specs.declared.choice.Choice.{Choice}
+use Rattle.spdm_grammar.specs.declared.messages.choice.Choice.{Choice}
 use Rattle.responder_machine.specs.Answer.{request_at}
 use Rattle.spdm_machine.specs.Keys.{record_fault}
 use Rattle.responder_machine.specs.Place.{session_place}

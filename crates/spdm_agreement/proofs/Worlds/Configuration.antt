@@ -1,7 +1,7 @@
 -- A set-up that keeps all limits: the laws of worlds speak of worlds that exist.
 use Rattle.std.proofs.Common.{◌≡◌, ◌≢◌, ◌<◌, [], ◌∷◌, ℕ, false, true, refl, arith}
 use Rattle.std.proofs.lemmas.List.Elements.{All-from_recursion}
-use Rattle.spdm_grammar.specs.declared.choice.Pick.TheVariants.{Small}
+use Rattle.spdm_grammar.specs.declared.messages.choice.Pick.TheVariants.{Small}
 use Rattle.requester_machine.specs.Setup.{ReqSetup}
 use Rattle.responder_machine.specs.Setup.{RspPart, Known, towards}
 use Rattle.world_machine.specs.Setup.{Configuration, known_of}

@@ -8,11 +8,11 @@ use Rattle.mctp_framing.specs.Packet.{PacketFields, parsed}
 use Rattle.requester_machine.specs.History as asked
 use Rattle.spdm_basis.specs.declared.DropCause.TheVariants.{NotOurs}
 use Rattle.spdm_basis.specs.declared.PacketFault.{PacketFault}
-use Rattle.spdm_grammar.specs.declared.heard.Heard.{Heard}
-use Rattle.spdm_grammar.specs.declared.heard.Heard.TheVariants as heard
-use Rattle.spdm_grammar.specs.declared.heard.ReplyFault.{ReplyFault}
-use Rattle.spdm_grammar.specs.declared.heard.ReplyFault.TheVariants as reply_fault
-use Rattle.spdm_grammar.specs.declared.heard.RspIgnored.TheVariants as ignored
+use Rattle.spdm_grammar.specs.declared.told.heard.Heard.{Heard}
+use Rattle.spdm_grammar.specs.declared.told.heard.Heard.TheVariants as heard
+use Rattle.spdm_grammar.specs.declared.told.heard.ReplyFault.{ReplyFault}
+use Rattle.spdm_grammar.specs.declared.told.heard.ReplyFault.TheVariants as reply_fault
+use Rattle.spdm_grammar.specs.declared.told.heard.RspIgnored.TheVariants as ignored
 use Rattle.responder_machine.specs.Does.{responder_does}
 use Rattle.responder_machine.specs.Does as serving_made
 use Rattle.responder_machine.specs.History as served

@@ -1,7 +1,7 @@
 use Rattle.std.proofs.Common.{◌∙◌, ap}
 use Rattle.std.proofs.lemmas.Result.{on_ok_weaker}
 use Rattle.link_world.proofs.Texts.{id_is}
-use Rattle.script_text.specs.Spelling.{hex_word, with_word}
+use Rattle.trace_text.specs.Spelling.{hex_word, with_word}
 use Rattle.link_world.proofs.lines.add_id.Goals as goal
 
 pub returns : goal.returns

@@ -1,7 +1,7 @@
 use Rattle.std.proofs.Common.{◌+◌, ◌%◌, ◌∷◌, [], length, subst, sym}
 use Rattle.std.proofs.lemmas.Result.{err_from_is_err_and}
 use Rattle.link_world.proofs.Made.{askers_fault, askers_more, sound_more}
-use Rattle.configured_ends.proofs.Made.{added}
+use Rattle.script_ends.proofs.Made.{added}
 use Rattle.link_world.proofs.Shown.{next_number}
 use Rattle.link_world.specs.Making.{IsAskerFault}
 use Rattle.link_world.specs.declared.ends.Asker.{Asker}

@@ -1,6 +1,6 @@
 use Rattle.std.proofs.Common.{◌≡◌, map, take}
 use Rattle.link_world.proofs.making.askers_of.Given as goal
-use Rattle.configured_ends.specs.Configured.{requester_in}
+use Rattle.script_ends.specs.Configured.{requester_in}
 use Rattle.link_world.specs.Configured.{HaveNoFault}
 use Rattle.link_world.specs.Standing.{AreAskers}
 use Rattle.requester_machine.specs.Requesting.{new_requesting}

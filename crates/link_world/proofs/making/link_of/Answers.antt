@@ -1,10 +1,10 @@
 use Rattle.std.proofs.Common.{◌∙◌, refl, sym, subst, arith, map, List}
 use Rattle.std.proofs.lemmas.Option.{same_Some}
 use Rattle.link_world.proofs.Made.{made_peers, none_taken, sound_few}
-use Rattle.configured_ends.specs.Configured.{requester_in, responder_in}
+use Rattle.script_ends.specs.Configured.{requester_in, responder_in}
 use Rattle.link_world.specs.Standing.{AreAskers}
 use Rattle.requester_machine.specs.Requesting.{new_requesting}
-use Rattle.script_text.specs.declared.config.ReqPart.{ReqPart}
+use Rattle.script_text.specs.declared.configuration.config.ReqPart.{ReqPart}
 use Rattle.world_machine.specs.Setup.{ends_from}
 use Rattle.link_world.proofs.making.link_of.Goals as goal
 

@@ -4,7 +4,7 @@ use Rattle.std.specs.Prelude.{Result, Err}
 use Rattle.link_world.proofs.Packets.{IsUnderWay, goes_on, next_packet, not_sent}
 use Rattle.link_world.specs.Sending.{IsSent}
 use Rattle.link_world.specs.declared.sent.SendFault.{SendFault}
-use Rattle.script_text.specs.TraceLines.{line_text}
+use Rattle.trace_text.specs.TraceLines.{line_text}
 use Rattle.spdm_grammar.specs.Lines.Line.{Packet}
 use Rattle.world_machine.specs.Trace.{packets_max}
 use Rattle.world_machine.specs.World.{waiting}

@@ -5,8 +5,8 @@ use Rattle.requester_machine.specs.History.{phase_of}
 use Rattle.requester_machine.specs.Shown.{views_of}
 use Rattle.spdm_grammar.specs.Lines.Line.{State}
 use Rattle.spdm_grammar.specs.Lines.Whose.{Requester}
-use Rattle.spdm_grammar.specs.declared.phase.Phase.{Phase}
-use Rattle.spdm_grammar.specs.declared.session_view.SessionView.{SessionView}
+use Rattle.spdm_grammar.specs.declared.told.phase.Phase.{Phase}
+use Rattle.spdm_grammar.specs.declared.told.session_view.SessionView.{SessionView}
 use Rattle.world_machine.specs.World.{session_lines}
 use Rattle.link_world.proofs.showing.show_asker.Goals as goal
 

@@ -3,10 +3,10 @@ use Rattle.std.proofs.lemmas.Grind.{common_steps}
 use Rattle.link_world.proofs.Shown.{sessions_begin, sessions_more}
 use Rattle.link_world.proofs.Writing.{both_lines, both_prefix, on_err, prefix_lines, takes_none}
 use Rattle.link_world.specs.Written.{text_of}
-use Rattle.script_text.specs.Whose.{whose_of}
+use Rattle.trace_text.specs.Whose.{whose_of}
 use Rattle.spdm_basis.specs.Stream.{Takes}
 use Rattle.spdm_grammar.specs.Lines.Line.{Session}
-use Rattle.spdm_grammar.specs.declared.session_view.SessionView.{SessionView}
+use Rattle.spdm_grammar.specs.declared.told.session_view.SessionView.{SessionView}
 use Rattle.world_machine.specs.World.{session_lines}
 use Rattle.link_world.proofs.showing.show_sessions.Goals as goal
 

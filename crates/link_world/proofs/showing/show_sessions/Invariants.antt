@@ -1,7 +1,7 @@
 use Rattle.std.proofs.Common.{◌≤◌, take}
 use Rattle.link_world.proofs.showing.show_sessions.Given as goal
 use Rattle.link_world.specs.Written.{text_of}
-use Rattle.script_text.specs.Whose.{whose_of}
+use Rattle.trace_text.specs.Whose.{whose_of}
 use Rattle.spdm_basis.specs.Stream.{Takes}
 use Rattle.world_machine.specs.World.{session_lines}
 

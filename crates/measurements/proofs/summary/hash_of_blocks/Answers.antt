@@ -1,7 +1,7 @@
 use Rattle.std.proofs.Common.{◌∙◌, ℕ, List, sym, ap, subst, arith}
 use Rattle.running_hash.specs.Hash.{hash_of}
 use Rattle.running_hash.specs.Holds.{Holds}
-use Rattle.spdm_grammar.specs.declared.block_spec.BlockSpec.{BlockSpec}
+use Rattle.spdm_grammar.specs.declared.told.block_spec.BlockSpec.{BlockSpec}
 use Rattle.measurements.specs.Summaries.{hash_of_blocks}
 use Rattle.measurements.proofs.Chosen.{one_more, summary_is, none_chosen}
 use Rattle.measurements.proofs.Lengths.{len_drop_next}

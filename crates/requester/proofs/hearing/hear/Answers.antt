@@ -1,5 +1,5 @@
 use Rattle.std.proofs.Common.{rules, ◌≡◌, ◌∙◌, ◌<◌, ℕ, List, Option, Some, None, ap, length, subst, sym, true}
-use Rattle.asking.specs.Joined.{IsSentAs}
+use Rattle.requester_core.specs.Joined.{IsSentAs}
 use Rattle.requester.proofs.Chosen.{none_upon, sent_upon}
 use Rattle.requester.proofs.Tags.{heard_fits}
 use Rattle.requester.proofs.hearing.hear.Goals as goal

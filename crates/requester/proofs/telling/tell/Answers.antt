@@ -4,7 +4,7 @@ use Rattle.requester.proofs.Chosen.{command_allowed, command_pad, free_is}
 use Rattle.requester.proofs.telling.tell.Goals as goal
 use Rattle.session_keys.specs.Drawing.{draw_as}
 use Rattle.requester_machine.specs.Does.{command_chosen}
-use Rattle.spdm_grammar.specs.declared.choice.Choice.{Choice}
+use Rattle.spdm_grammar.specs.declared.messages.choice.Choice.{Choice}
 use Rattle.spdm_machine.specs.Keys.{Draw, context_of}
 
 pub returns : goal.returns

@@ -2,7 +2,7 @@ use Rattle.std.proofs.Common.{◌++◌, ℕ, List, subst}
 use Rattle.frame_stream.proofs.Written.{on_err, on_ok, prefix_of_first, takes_both, takes_then_prefix}
 use Rattle.requester_drive.proofs.Written.{framed}
 use Rattle.requester_drive.specs.Driven.{line_frame, line_frames}
-use Rattle.configured_ends.specs.Told.{event_data}
+use Rattle.script_ends.specs.Told.{event_data}
 use Rattle.spdm_basis.specs.Stream.{Takes, TakesPrefix}
 use Rattle.spdm_grammar.specs.Lines.Line.{ToRequester}
 use Rattle.requester_drive.proofs.lines.write_event.Goals as goal

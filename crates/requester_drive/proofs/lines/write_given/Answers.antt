@@ -2,7 +2,7 @@ use Rattle.std.proofs.Common.{◌++◌}
 use Rattle.frame_stream.proofs.Written.{on_err, on_ok, prefix_of_first, takes_both, takes_then_prefix}
 use Rattle.frame_stream.specs.Packets.{packet_frames}
 use Rattle.requester_drive.specs.Driven.{line_frames}
-use Rattle.configured_ends.specs.Told.{event_lines}
+use Rattle.script_ends.specs.Told.{event_lines}
 use Rattle.spdm_basis.specs.Stream.{Takes, TakesPrefix}
 use Rattle.requester_drive.proofs.lines.write_given.Goals as goal
 

@@ -3,7 +3,7 @@ use Rattle.frame_stream.proofs.Written.{on_err, on_ok, prefix_of_first, takes_bo
 use Rattle.requester_drive.proofs.Written.{framed_alone}
 use Rattle.frame_stream.specs.Packets.{packet_frames}
 use Rattle.requester_drive.specs.Driven.{line_frames}
-use Rattle.script_text.specs.Whose.{fault_of}
+use Rattle.trace_text.specs.Whose.{fault_of}
 use Rattle.spdm_basis.specs.Stream.{Takes, TakesPrefix}
 use Rattle.spdm_grammar.specs.Lines.Line.{Command}
 use Rattle.requester_drive.proofs.lines.write_told.Goals as goal

@@ -5,7 +5,7 @@ use Rattle.session_keys.specs.Drawing.{draw_as}
 use Rattle.responder_machine.proofs.Does.{chosen_allowed}
 use Rattle.responder_machine.specs.Does.{clear_chosen}
 use Rattle.responder_machine.specs.Place.{clear_place}
-use Rattle.spdm_grammar.specs.declared.choice.Choice.{Choice}
+use Rattle.spdm_grammar.specs.declared.messages.choice.Choice.{Choice}
 use Rattle.spdm_machine.specs.Bodies.{clear_body}
 use Rattle.spdm_machine.specs.Keys.{Draw, context_of}
 

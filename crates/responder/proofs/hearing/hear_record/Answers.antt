@@ -1,12 +1,12 @@
 use Rattle.std.proofs.Common.{◌∙◌, ℕ, List, ap, refl}
-use Rattle.connection.specs.Sessions.{body_by}
+use Rattle.responder_core.specs.Sessions.{body_by}
 use Rattle.responder.proofs.Chosen.{record_are}
 use Rattle.responder.proofs.hearing.hear_record.Goals as goal
 use Rattle.session_keys.specs.Drawing.{draw_as}
 use Rattle.responder_machine.specs.Does.{record_chosen}
 use Rattle.responder_machine.specs.LargeMessages.{next_handle}
 use Rattle.responder_machine.specs.Session.{session_of, turns_of}
-use Rattle.spdm_basis.specs.declared.session_id.SessionId.{SessionId}
+use Rattle.spdm_basis.specs.declared.values.session_id.SessionId.{SessionId}
 use Rattle.spdm_machine.specs.Keys.{Draw}
 
 pub returns-clause-done : goal.returns-clause-done

@@ -1,6 +1,6 @@
 use Rattle.std.proofs.Common.{rules, ◌≡◌, ◌∙◌, ◌+◌, ℕ, List, Bool, ap, subst, sym, true, false}
-use Rattle.connection.specs.Connected.{IsDone}
-use Rattle.connection.specs.ClearPart.{is_drawn}
+use Rattle.responder_core.specs.Connected.{IsDone}
+use Rattle.responder_core.specs.ClearPart.{is_drawn}
 use Rattle.mctp_framing.specs.Cutting.{RouteFields, packets_of, route_of}
 use Rattle.responder.proofs.Data.{body_data}
 use Rattle.responder.specs.declared.room.Room.{Room}
@@ -10,7 +10,7 @@ use Rattle.responder.specs.Came.{Came, IsMet, IsShort, last_for}
 use Rattle.responder_machine.specs.Does.{responder_does}
 use Rattle.responder_machine.specs.Responder.{Outcome, after, body_of}
 use Rattle.responder_machine.specs.Setup.{RspSetup}
-use Rattle.spdm_grammar.specs.declared.heard.Heard.{Heard}
+use Rattle.spdm_grammar.specs.declared.told.heard.Heard.{Heard}
 use Rattle.spdm_machine.specs.Keys.{Draw, draw_of}
 use Rattle.session_keys.proofs.Draws.{draw_is}
 use Rattle.session_keys.specs.Drawing.{drawn_by}

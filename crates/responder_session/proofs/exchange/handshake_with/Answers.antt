@@ -1,7 +1,7 @@
 use Rattle.std.proofs.Common.{◌++◌, ◌∙◌, ap, ℕ, List}
 use Rattle.running_hash.specs.Hash.{hash_of}
-use Rattle.spdm_basis.specs.declared.hash_alg.HashAlg.{HashAlg}
-use Rattle.spdm_grammar.specs.declared.choice.Choice.{Choice}
+use Rattle.spdm_basis.specs.declared.values.hash_alg.HashAlg.{HashAlg}
+use Rattle.spdm_grammar.specs.declared.messages.choice.Choice.{Choice}
 use Rattle.spdm_machine.specs.Terms.{terms_of}
 use Rattle.transcript.specs.Transcripts.{vca_of, without_verify}
 use Rattle.responder_session.specs.Exchange.{t1_with}

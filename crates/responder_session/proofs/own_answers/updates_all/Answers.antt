@@ -4,7 +4,7 @@ use Rattle.responder_machine.specs.Place.{session_place}
 use Rattle.responder_machine.specs.Session.{session_terms}
 use Rattle.responder_machine.specs.Turn.{updates}
 use Rattle.spdm_grammar.specs.Message.RequestMessage.{KeyUpdate}
-use Rattle.spdm_grammar.specs.declared.phase.Stage.{Stage}
+use Rattle.spdm_grammar.specs.declared.told.phase.Stage.{Stage}
 use Rattle.responder_session.proofs.AllKeys.{all_turn, is_two, not_two, other_turn}
 use Rattle.responder_session.proofs.Doing.{lacking_turn}
 use Rattle.responder_session.proofs.own_answers.updates_all.Goals as goal

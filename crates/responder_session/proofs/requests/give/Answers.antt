@@ -1,6 +1,6 @@
 use Rattle.responder_machine.specs.Place.{session_place}
 use Rattle.spdm_grammar.specs.Message.{chunk_message}
-use Rattle.spdm_grammar.specs.declared.error_code.ErrorCode.TheVariants.{InvalidRequest}
+use Rattle.spdm_grammar.specs.declared.messages.error_code.ErrorCode.TheVariants.{InvalidRequest}
 use Rattle.responder_session.proofs.Allowed.{get_while_pending}
 use Rattle.responder_session.proofs.Doing.{refused_deed}
 use Rattle.responder_session.proofs.Given.{refused_get, given_deed}

@@ -1,7 +1,7 @@
 use Rattle.std.proofs.Common.{◌∙◌, ◌≤◌, ap, sym, length, arith}
 use Rattle.measurements.specs.Records.{is_missing}
 use Rattle.responder_machine.specs.Place.{session_place}
-use Rattle.spdm_grammar.specs.declared.error_code.ErrorCode.TheVariants.{InvalidRequest, ResponseTooLarge}
+use Rattle.spdm_grammar.specs.declared.messages.error_code.ErrorCode.TheVariants.{InvalidRequest, ResponseTooLarge}
 use Rattle.responder_session.proofs.Doing.{refused_deed, missing_turn, too_long_turn, told_length, large_deed, measured_deed, measured_answer, fits_frame}
 use Rattle.responder_session.proofs.requests.measure_of.Goals as goal
 

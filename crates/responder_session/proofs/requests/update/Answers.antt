@@ -1,7 +1,7 @@
 use Rattle.std.proofs.Common.{◌∙◌, ap, sym}
 use Rattle.responder_machine.specs.Refusal.{fits_stage}
-use Rattle.spdm_grammar.specs.declared.phase.Stage.{Stage}
-use Rattle.spdm_grammar.specs.declared.error_code.ErrorCode.TheVariants.{UnexpectedRequest}
+use Rattle.spdm_grammar.specs.declared.told.phase.Stage.{Stage}
+use Rattle.spdm_grammar.specs.declared.messages.error_code.ErrorCode.TheVariants.{UnexpectedRequest}
 use Rattle.responder_session.proofs.Doing.{refused_deed, misplaced_turn, verified_deed, update_deed}
 use Rattle.responder_session.proofs.Allowed.{update_in_open}
 use Rattle.responder_session.proofs.requests.update.Goals as goal

@@ -1,6 +1,6 @@
 use Rattle.std.proofs.Common.{◌≡◌, ◌≢◌, ◌++◌, ℕ, List, Some}
-use Rattle.spdm_grammar.specs.declared.malformed.Malformed.{Malformed}
-use Rattle.spdm_grammar.specs.declared.malformed.Part.TheVariants.{End}
+use Rattle.spdm_grammar.specs.declared.messages.malformed.Malformed.{Malformed}
+use Rattle.spdm_grammar.specs.declared.messages.malformed.Part.TheVariants.{End}
 use Rattle.spdm_grammar.specs.Requests.{request_layout}
 use Rattle.spdm_grammar.specs.Responses.{response_layout}
 use Rattle.spdm_grammar.proofs.Longer.{fault_stays_whole}

@@ -1,6 +1,6 @@
 use Rattle.std.proofs.Common.{ap, Err}
 use Rattle.script_text.specs.Generator.{generated}
-use Rattle.script_worlds.specs.Scripts.{full_line, last_world, set_up}
+use Rattle.script_laws.specs.Scripts.{full_line, last_world, set_up}
 use Rattle.spdm_command.proofs.Generating.{has_room, is_full_at, is_sound, last_stands, summary_prefix, summary_whole}
 use Rattle.spdm_command.proofs.generated.summarize.Goals as goal
 use Rattle.spdm_command.specs.Answer.{summary_of}

@@ -1,4 +1,4 @@
-use Rattle.script_worlds.proofs.WorldsRight.{agrees, delivers, matches, seals_once, shows_alike}
+use Rattle.script_laws.proofs.WorldsRight.{agrees, delivers, matches, seals_once, shows_alike}
 use Rattle.spdm_command.proofs.run.spdm.Goals as goal
 
 pub returns-in_default-clause-agreement : goal.returns-in_default-clause-agreement

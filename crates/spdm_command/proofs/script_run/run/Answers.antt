@@ -1,4 +1,4 @@
-use Rattle.script_worlds.proofs.ScriptRead.{script_sound}
+use Rattle.script_laws.proofs.ScriptRead.{script_sound}
 use Rattle.spdm_command.proofs.script_run.run.Goals as goal
 
 pub run_script-requires : goal.run_script-requires

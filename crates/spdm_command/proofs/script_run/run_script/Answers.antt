@@ -1,5 +1,5 @@
 use Rattle.std.proofs.Common.{refl, ap, Err}
-use Rattle.script_worlds.specs.Scripts.{set_up}
+use Rattle.script_laws.specs.Scripts.{set_up}
 use Rattle.spdm_command.proofs.NoFault.{all_happened, all_written, begun, gone_on, is_full_line, never_full}
 use Rattle.world_machine.specs.World.{new_world}
 use Rattle.spdm_command.proofs.script_run.run_script.Goals as goal

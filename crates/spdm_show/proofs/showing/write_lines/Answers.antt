@@ -1,7 +1,7 @@
 use Rattle.std.proofs.Common.{◌+◌, ◌++◌, ◌≡◌, ◌∙◌, ap, subst, sym, arith, drop, take, get_or, Some, List, ℕ}
 use Rattle.std.proofs.lemmas.Grind.{common_steps}
 use Rattle.spdm_basis.specs.Stream.{Takes, TakesPrefix}
-use Rattle.script_text.specs.declared.shown.Shown.{Shown}
+use Rattle.script_text.specs.declared.texts.shown.Shown.{Shown}
 use Rattle.spdm_show.proofs.LinesBefore.{lines_before, lines_before_more, lines_through, prefix_of_whole, takes_both, takes_then_prefix}
 use Rattle.spdm_show.specs.Shown.{line_of, lines_of}
 use Rattle.spdm_show.proofs.showing.write_lines.Goals as goal

@@ -3,7 +3,7 @@ use Rattle.std.specs.Prelude.{replicate}
 use Rattle.frame_stream.specs.Runs.{Counts}
 use Rattle.frame_stream.specs.Standing.{in_front}
 use Rattle.requester_drive.proofs.Faults.{some_requester}
-use Rattle.script_worlds.proofs.ConfigTextRead.{config_sound, no_configured_end_has_fault}
+use Rattle.script_laws.proofs.ConfigTextRead.{config_sound, no_configured_end_has_fault}
 use Rattle.stream_commands.proofs.Exactly.{exactly, driven_end, one_driving}
 use Rattle.stream_commands.proofs.DrivingAnswers.{all_driven, not_driven, of_driving}
 use Rattle.stream_commands.proofs.Streams.{same_stream}

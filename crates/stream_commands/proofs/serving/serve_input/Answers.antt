@@ -1,7 +1,7 @@
 use Rattle.std.proofs.Common.{Err, Ok, refl}
 use Rattle.frame_stream.specs.Runs.{Counts}
 use Rattle.frame_stream.specs.Standing.{in_front}
-use Rattle.script_worlds.proofs.ConfigTextRead.{no_configured_end_has_fault}
+use Rattle.script_laws.proofs.ConfigTextRead.{no_configured_end_has_fault}
 use Rattle.stream_commands.proofs.Exactly.{exactly, one_ending, served_end}
 use Rattle.stream_commands.proofs.ServingAnswers.{all_served, not_served, of_stream}
 use Rattle.stream_commands.proofs.Streams.{same_stream}

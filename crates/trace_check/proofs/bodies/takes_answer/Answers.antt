@@ -2,10 +2,10 @@ use Rattle.std.proofs.Common.{◌≡◌, ◌∙◌, sym, ap, subst, None, Result
 use Rattle.std.specs.Prelude.{IfOk}
 use Rattle.mctp_framing.specs.Cutting.{route_of}
 use Rattle.mctp_framing.specs.Gathering.Gathered.{Whole}
-use Rattle.spdm_grammar.specs.declared.why.Why as declared
+use Rattle.spdm_grammar.specs.declared.told.why.Why as declared
 use Rattle.spdm_basis.specs.declared.OutOfMemory.{OutOfMemory}
-use Rattle.fetched_ends.specs.MarkedEnds.{IsJudgedAnswer}
-use Rattle.capture_laws.specs.Order.{answered_why}
+use Rattle.check_fetched_ends.specs.MarkedEnds.{IsJudgedAnswer}
+use Rattle.check_laws.specs.Order.{answered_why}
 use Rattle.trace_check.proofs.bodies.takes_answer.Goals as goal
 
 pub returns-in-Ok-clause-told : goal.returns-in-Ok-clause-told

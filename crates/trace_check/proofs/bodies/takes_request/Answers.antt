@@ -1,9 +1,9 @@
 use Rattle.std.proofs.Common.{◌≡◌, ◌<◌, ◌-◌, ◌^◌, refl, sym, subst, length, None, Result, inl, arith}
 use Rattle.mctp_framing.specs.Cutting.{route_of}
 use Rattle.mctp_framing.specs.Gathering.Gathered.{Whole}
-use Rattle.spdm_grammar.specs.declared.why.Why as declared
-use Rattle.fetched_ends.specs.MarkedEnds.{IsAskedOf}
-use Rattle.capture_laws.specs.Order.{asked_why}
+use Rattle.spdm_grammar.specs.declared.told.why.Why as declared
+use Rattle.check_fetched_ends.specs.MarkedEnds.{IsAskedOf}
+use Rattle.check_laws.specs.Order.{asked_why}
 use Rattle.trace_check.proofs.bodies.takes_request.Goals as goal
 
 pub returns-in-Ok-clause-told : goal.returns-in-Ok-clause-told

@@ -1,6 +1,6 @@
 use Rattle.std.proofs.Common.{◌≡◌, ◌<◌, ◌+◌, ◌∙◌, ℕ, List, [], arith, ap, sym, subst, length, take}
 use Rattle.std.proofs.lemmas.List.{length-map}
-use Rattle.configured_ends.specs.Configured.{requester_in}
+use Rattle.script_ends.specs.Configured.{requester_in}
 use Rattle.trace_check.proofs.NewPairs.{is_sound, more_kept, number_is}
 use Rattle.trace_check.proofs.checker.pairs_of.Goals as goal
 use Rattle.trace_check.specs.Checker.{AreKept}

@@ -1,5 +1,5 @@
 use Rattle.std.proofs.Common.{◌≡◌, ◌<◌, [], map, take}
-use Rattle.configured_ends.specs.Configured.{requester_in}
+use Rattle.script_ends.specs.Configured.{requester_in}
 use Rattle.trace_check.proofs.checker.pairs_of.Given as goal
 use Rattle.trace_check.specs.Checker.{AreKept}
 use Rattle.trace_check.specs.Limits.{AreSound, IsAnswering}

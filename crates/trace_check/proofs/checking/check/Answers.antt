@@ -1,14 +1,14 @@
 use Rattle.std.proofs.Common.{◌≡◌, ◌<◌, ◌≤◌, ◌+◌, ◌∙◌, ◌∷◌, ℕ, List, Result, Ok, arith, ap, sym, subst, length, map, reverse, take, get_or}
-use Rattle.configured_ends.specs.Configured.{configuration_in}
-use Rattle.spdm_grammar.specs.declared.why.Why as declared
-use Rattle.capture_laws.specs.Judged.{why_of}
-use Rattle.capture_laws.specs.Verdict.{seen_of}
-use Rattle.capture_laws.specs.declared.verdict.Seen.{Seen}
+use Rattle.script_ends.specs.Configured.{configuration_in}
+use Rattle.spdm_grammar.specs.declared.told.why.Why as declared
+use Rattle.check_laws.specs.Judged.{why_of}
+use Rattle.check_laws.specs.Verdict.{seen_of}
+use Rattle.check_laws.specs.declared.verdict.Seen.{Seen}
 use Rattle.trace_check.proofs.Verdicts.{conforming, differs, one_more, short, take_all}
 use Rattle.trace_check.proofs.checking.check.Goals as goal
 use Rattle.trace_check.specs.Checker.{IsChecker, IsTold}
 use Rattle.trace_check.specs.JudgedPair.{IsRefused}
-use Rattle.world_machine.specs.SessionTable.{HasTable}
+use Rattle.capture_machine.specs.SessionTable.{HasTable}
 use Rattle.world_machine.specs.Setup.{Configuration}
 
 pub loop-packet-preserved : goal.loop-packet-preserved

@@ -1,5 +1,5 @@
 use Rattle.std.proofs.Common.{◌≡◌, ◌<◌, ◌-◌, ◌^◌, length, reverse, take}
-use Rattle.configured_ends.specs.Configured.{configuration_in}
+use Rattle.script_ends.specs.Configured.{configuration_in}
 use Rattle.trace_check.proofs.checking.check.Given as goal
 use Rattle.trace_check.specs.Checker.{IsChecker}
 use Rattle.trace_check.specs.Limits.{AreSound}

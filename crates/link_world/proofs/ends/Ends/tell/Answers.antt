@@ -1,6 +1,6 @@
 use Rattle.std.proofs.Common.{rules, refl, ◌≡◌, ◌∙◌, ◌≤◌, ◌+◌, length, ap, sym, subst}
 use Rattle.std.proofs.lemmas.Result.{on_ok_weaker}
-use Rattle.asking.specs.Joined.{command_of}
+use Rattle.requester_core.specs.Joined.{command_of}
 use Rattle.link_world.proofs.Askers.{ends_hit, none_numbered, requester_numbered}
 use Rattle.link_world.proofs.GivenTo.{asker_told, nothing_told}
 use Rattle.link_world.specs.declared.ends.Asker.{Asker}

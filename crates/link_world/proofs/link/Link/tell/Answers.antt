@@ -1,4 +1,4 @@
-use Rattle.asking.specs.Joined.{command_of}
+use Rattle.requester_core.specs.Joined.{command_of}
 use Rattle.link_world.proofs.Entered.{ok_through}
 use Rattle.link_world.proofs.Stepped.{given_steps}
 use Rattle.world_machine.specs.World.{requester_of, told}

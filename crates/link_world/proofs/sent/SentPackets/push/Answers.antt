@@ -1,7 +1,7 @@
 use Rattle.std.proofs.Common.{◌∙◌, ◌<◌, ◌++◌, ◌∷◌, [], ℕ, List, ap, arith, length, subst, true}
 use Rattle.std.proofs.lemmas.List.{length-map}
 use Rattle.link_world.specs.Sent.{packet_in, packet_limit}
-use Rattle.configured_ends.proofs.Made.{added}
+use Rattle.script_ends.proofs.Made.{added}
 use Rattle.link_world.proofs.Places.{IsPushed, pushed_kept, pushed_sent}
 use Rattle.link_world.specs.declared.sent.Place.{Place}
 use Rattle.world_machine.specs.World.{SentPacket, waiting}

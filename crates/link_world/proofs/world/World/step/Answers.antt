@@ -8,7 +8,7 @@ use Rattle.link_world.specs.Events.{entry_of, happening_of}
 use Rattle.link_world.specs.Standing.{IsCutOff, IsLink, IsStepped, IsWhole}
 use Rattle.link_world.specs.Written.{before_full, has_full, text_of}
 use Rattle.link_world.specs.declared.sent.SendFault.{SendFault}
-use Rattle.script_text.specs.TraceLines.{line_text}
+use Rattle.trace_text.specs.TraceLines.{line_text}
 use Rattle.spdm_basis.specs.Stream.{Takes, TakesPrefix}
 use Rattle.spdm_grammar.specs.Lines.Line.{At}
 use Rattle.world_machine.specs.World.{WorldStep, happens, shown_lines}

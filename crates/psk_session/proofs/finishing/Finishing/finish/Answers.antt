@@ -4,8 +4,8 @@ use Rattle.key_schedule.specs.Purpose.{application_record}
 use Rattle.key_schedule.specs.declared.direction.Direction.TheVariants.{Request, Response}
 use Rattle.requester_machine.specs.Session.{response_epoch, t1_of, t2_of}
 use Rattle.running_hash.specs.Hash.{hash_of}
-use Rattle.spdm_basis.specs.declared.hash_alg.HashAlg.{HashAlg}
-use Rattle.spdm_grammar.specs.declared.choice.Choice.{Choice}
+use Rattle.spdm_basis.specs.declared.values.hash_alg.HashAlg.{HashAlg}
+use Rattle.spdm_grammar.specs.declared.messages.choice.Choice.{Choice}
 use Rattle.spdm_machine.specs.Terms.{terms_of}
 use Rattle.transcript.specs.Transcripts.{vca_of}
 use Rattle.psk_session.specs.Finished.{finished_by}

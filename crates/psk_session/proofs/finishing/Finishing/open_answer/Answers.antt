@@ -5,7 +5,7 @@ use Rattle.key_schedule.specs.declared.direction.Direction.TheVariants.{Response
 use Rattle.requester_machine.specs.Records.{answer_fault, answer_inner}
 use Rattle.requester_machine.specs.Session.{t1_of}
 use Rattle.spdm_basis.specs.SessionIdBytes.{session_id_bytes}
-use Rattle.spdm_basis.specs.declared.session_id.SessionId.{SessionId}
+use Rattle.spdm_basis.specs.declared.values.session_id.SessionId.{SessionId}
 use Rattle.spdm_machine.specs.Keys.{record_fault}
 use Rattle.spdm_machine.specs.Terms.{terms_of}
 use Rattle.psk_session.specs.Finishing.{Seen, StandsFor}

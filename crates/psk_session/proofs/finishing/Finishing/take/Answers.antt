@@ -1,6 +1,6 @@
 use Rattle.std.proofs.Common.{ap, sym, ◌∙◌}
 use Rattle.negotiate.specs.declared.shared.Common.{Common}
-use Rattle.spdm_grammar.specs.declared.choice.Choice.{Choice}
+use Rattle.spdm_grammar.specs.declared.messages.choice.Choice.{Choice}
 use Rattle.psk_session.specs.Opening.{finishing}
 use Rattle.psk_session.proofs.Judged.{judged}
 use Rattle.psk_session.proofs.finishing.Finishing.take.Goals as goal

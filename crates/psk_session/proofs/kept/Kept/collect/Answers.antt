@@ -8,7 +8,7 @@ use Rattle.requester_machine.specs.Session.{session_terms}
 use Rattle.spdm_basis.specs.Sizes.{hash_size}
 use Rattle.spdm_grammar.specs.Message.{chunk_message}
 use Rattle.spdm_grammar.specs.Responses.{response_reading}
-use Rattle.spdm_grammar.specs.declared.choice.Choice.{Choice}
+use Rattle.spdm_grammar.specs.declared.messages.choice.Choice.{Choice}
 use Rattle.spdm_machine.specs.Terms.{hash_len}
 use Rattle.psk_session.specs.Held.{verdict_of, verdict_with}
 use Rattle.psk_session.specs.Verdict as verdicts

@@ -5,8 +5,8 @@ use Rattle.requester_machine.specs.Sending.{update_tag}
 use Rattle.requester_machine.specs.Session.{session_terms}
 use Rattle.spdm_basis.specs.Sizes.{hash_size}
 use Rattle.spdm_grammar.specs.Message.{response_message}
-use Rattle.spdm_grammar.specs.declared.choice.Choice.{Choice}
-use Rattle.spdm_grammar.specs.declared.event.BadReply.{BadReply}
+use Rattle.spdm_grammar.specs.declared.messages.choice.Choice.{Choice}
+use Rattle.spdm_grammar.specs.declared.told.event.BadReply.{BadReply}
 use Rattle.psk_session.specs.Inner.{Contents, contents_of}
 use Rattle.psk_session.specs.Inner.Contents.{Spoken}
 use Rattle.psk_session.specs.Verdict.{meaning_of, message_meaning}

@@ -9,7 +9,7 @@ use Rattle.psk_session.specs.ReqSession.{IsAwaiting}
 use Rattle.psk_session.specs.Waiting.{Awaits, awaited_epoch}
 use Rattle.psk_session.specs.declared.ask.Ask as declared
 use Rattle.psk_session.specs.declared.ask.Ask.TheVariants.{Data, Beat, UpdateKey, UpdateAll, Measure, End}
-use Rattle.spdm_grammar.specs.declared.phase.Stage.TheVariants.{Open}
+use Rattle.spdm_grammar.specs.declared.told.phase.Stage.TheVariants.{Open}
 use Rattle.psk_session.proofs.AskFew.{asked_few}
 use Rattle.psk_session.proofs.req_session.ReqSession.make.Goals as goal
 

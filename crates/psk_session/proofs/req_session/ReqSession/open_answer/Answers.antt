@@ -3,7 +3,7 @@ use Rattle.std.specs.Prelude.{None, Some, MatchResult, OnOk, Option}
 use Rattle.key_schedule.specs.Purpose.{application_record}
 use Rattle.key_schedule.specs.declared.direction.Direction.TheVariants.{Response}
 use Rattle.requester_machine.specs.Session.{session_terms, t2_of}
-use Rattle.spdm_basis.specs.declared.record_fault.RecordFault.{RecordFault}
+use Rattle.spdm_basis.specs.declared.causes.record_fault.RecordFault.{RecordFault}
 use Rattle.psk_session.specs.Waiting.{awaited_epoch}
 use Rattle.psk_session.proofs.Past.{fault_kept, inner_kept}
 use Rattle.psk_session.proofs.req_session.ReqSession.open_answer.Goals as goal

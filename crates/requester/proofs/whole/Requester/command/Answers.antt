@@ -1,5 +1,5 @@
 use Rattle.std.proofs.Common.{rules, refl, ◌∙◌, ◌≤◌, ◌<◌, ◌^◌, ◌+◌, ◌-◌, ℕ, List, Bool, length, ap, arith, false, subst, sym, true}
-use Rattle.asking.specs.Joined.{IsCommanded, command_of}
+use Rattle.requester_core.specs.Joined.{IsCommanded, command_of}
 use Rattle.hmac_hkdf.specs.Draw.{Draws}
 use Rattle.requester.proofs.Steps.{counts_few, fresh_is, worn_now}
 use Rattle.requester.proofs.Commanding.{done_step, drawn_next, failed_step, number_few, worn_told}
@@ -9,7 +9,7 @@ use Rattle.requester.specs.Standing.{IsTold}
 use Rattle.requester_machine.specs.Does.{requester_asks}
 use Rattle.requester_machine.specs.Message as message
 use Rattle.requester_machine.specs.Requesting.{CommandStep}
-use Rattle.spdm_grammar.specs.declared.command_fault.CommandFault.TheVariants as fault
+use Rattle.spdm_grammar.specs.declared.told.command_fault.CommandFault.TheVariants as fault
 use Rattle.spdm_machine.specs.Keys.{Draw}
 use Rattle.spdm_machine.specs.Packets.{packets_to}
 use Rattle.std.specs.Prelude.{Err, Ok}

@@ -4,8 +4,8 @@ use Rattle.requester.proofs.whole.Requester.on_packet.Goals as goal
 use Rattle.requester.specs.Standing.{IsGiven}
 use Rattle.requester.specs.declared.whole.Requester.{Requester}
 use Rattle.requester_machine.specs.Requesting.{PacketStep}
-use Rattle.spdm_grammar.specs.declared.event.Event.TheVariants as event
-use Rattle.spdm_grammar.specs.declared.event.ReqIgnored.TheVariants as ignored
+use Rattle.spdm_grammar.specs.declared.told.event.Event.TheVariants as event
+use Rattle.spdm_grammar.specs.declared.told.event.ReqIgnored.TheVariants as ignored
 
 pub returns-then-self-ge-WEAR_LIMIT : goal.returns-then-self-ge-WEAR_LIMIT
 returns-then-self-ge-WEAR_LIMIT c = λ a stands.

@@ -1,5 +1,5 @@
 use Rattle.std.proofs.Common.{◌≡◌, ◌∙◌, ℕ, List, Some, ap, sym, length}
-use Rattle.asking.specs.Joined.{command_of}
+use Rattle.requester_core.specs.Joined.{command_of}
 use Rattle.frame_stream.specs.Standing.{beginning_of, content_in}
 use Rattle.requester_drive.proofs.Written.{obeyed}
 use Rattle.requester_drive.specs.Commands.{command_line, command_read}

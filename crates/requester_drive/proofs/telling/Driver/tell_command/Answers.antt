@@ -1,5 +1,5 @@
 use Rattle.std.proofs.Common.{ℕ, List, subst, sym}
-use Rattle.asking.specs.Joined.{command_of}
+use Rattle.requester_core.specs.Joined.{command_of}
 use Rattle.requester_drive.proofs.Short.{short_told}
 use Rattle.requester_drive.proofs.Written.{told_written}
 use Rattle.frame_stream.specs.Packets.{AreShort}

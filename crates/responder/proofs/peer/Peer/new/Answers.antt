@@ -1,5 +1,5 @@
 use Rattle.std.proofs.Common.{◌∙◌, ℕ, ap, subst, sym}
-use Rattle.connection.specs.Setup.{IsSetUp}
+use Rattle.responder_core.specs.Setup.{IsSetUp}
 use Rattle.responder.proofs.peer.Peer.new.Goals as goal
 use Rattle.responder.specs.SetUp.{known_of}
 use Rattle.responder.specs.declared.config.Known.{Known}

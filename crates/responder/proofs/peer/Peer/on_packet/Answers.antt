@@ -1,5 +1,5 @@
 use Rattle.std.proofs.Common.{◌∙◌, ap, subst, sym}
-use Rattle.connection.specs.Setup.{IsSetUp}
+use Rattle.responder_core.specs.Setup.{IsSetUp}
 use Rattle.mctp_framing.specs.Cutting.{route_of}
 use Rattle.mctp_framing.specs.Gathering.{Gathered}
 use Rattle.mctp_framing.specs.Gathering.Gathered.{Dropped, More, Whole}
@@ -10,8 +10,8 @@ use Rattle.responder.proofs.peer.Peer.on_packet.Goals as goal
 use Rattle.responder.specs.Came.{Came, IsMet, came_of}
 use Rattle.responder.specs.SetUp.{known_of}
 use Rattle.responder_machine.specs.EndLaws.{receiver_of}
-use Rattle.spdm_grammar.specs.declared.heard.Heard.TheVariants as heard
-use Rattle.spdm_grammar.specs.declared.heard.RspIgnored.TheVariants as ignored
+use Rattle.spdm_grammar.specs.declared.told.heard.Heard.TheVariants as heard
+use Rattle.spdm_grammar.specs.declared.told.heard.RspIgnored.TheVariants as ignored
 use Rattle.spdm_machine.specs.Keys.{Draw, draw_of}
 
 pub returns-in-Whole : goal.returns-in-Whole

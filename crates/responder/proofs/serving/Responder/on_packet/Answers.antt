@@ -6,8 +6,8 @@ use Rattle.responder.specs.Standing.{IsStep}
 use Rattle.responder.specs.Unharmed.{IsHarmless}
 use Rattle.responder.specs.declared.serving.Responder.{Responder}
 use Rattle.responder_machine.specs.Responding.{RspStep}
-use Rattle.spdm_grammar.specs.declared.heard.Heard.TheVariants as heard
-use Rattle.spdm_grammar.specs.declared.heard.RspIgnored.TheVariants as ignored
+use Rattle.spdm_grammar.specs.declared.told.heard.Heard.TheVariants as heard
+use Rattle.spdm_grammar.specs.declared.told.heard.RspIgnored.TheVariants as ignored
 
 pub returns-then-self-ge-WEAR_LIMIT-clause-step : goal.returns-then-self-ge-WEAR_LIMIT-clause-step
 returns-then-self-ge-WEAR_LIMIT-clause-step c = λ r stands.

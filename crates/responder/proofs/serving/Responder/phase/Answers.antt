@@ -6,7 +6,7 @@ use Rattle.responder.specs.Standing.{has_eid}
 use Rattle.responder.specs.declared.peer.Peer.{Peer}
 use Rattle.responder_machine.specs.History.{clear_turns, phase_of}
 use Rattle.responder_machine.specs.Responding.{Connection}
-use Rattle.spdm_grammar.specs.declared.phase.Phase.{Phase}
+use Rattle.spdm_grammar.specs.declared.told.phase.Phase.{Phase}
 use Rattle.spdm_machine.specs.Packets.{fields_in}
 use Rattle.std.specs.List.{position_from}
 use Rattle.std.specs.Option.{option_map}

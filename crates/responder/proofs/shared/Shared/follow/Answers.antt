@@ -2,7 +2,7 @@ use Rattle.std.proofs.Common.{◌≤◌, ◌∙◌, ℕ, List, ap, length, subst
 use Rattle.responder.proofs.Filled.{filled}
 use Rattle.responder.proofs.shared.Shared.follow.Goals as goal
 use Rattle.responder.specs.Came.{IsShort, last_for}
-use Rattle.spdm_grammar.specs.declared.heard.Heard.{Heard}
+use Rattle.spdm_grammar.specs.declared.told.heard.Heard.{Heard}
 
 pub returns-in-Taken-clause-last : goal.returns-in-Taken-clause-last
 returns-in-Taken-clause-last c = λ r h stands fits.

@@ -2,7 +2,7 @@ use Rattle.std.proofs.Common.{◌++◌, ◌∙◌, ap, ℕ, List}
 use Rattle.std.specs.Prelude.{bytes_eq}
 use Rattle.key_schedule.specs.declared.direction.Direction.TheVariants.{Request}
 use Rattle.running_hash.specs.Hash.{hash_of}
-use Rattle.spdm_basis.specs.declared.hash_alg.HashAlg.{HashAlg}
+use Rattle.spdm_basis.specs.declared.values.hash_alg.HashAlg.{HashAlg}
 use Rattle.spdm_machine.specs.Keys.{verify_data}
 use Rattle.transcript.specs.Transcripts.{without_verify}
 use Rattle.responder_session.proofs.exchange.Exchange.is_verified.Goals as goal

@@ -1,5 +1,5 @@
 use Rattle.std.proofs.Common.{◌∙◌, sym, refl}
-use Rattle.spdm_grammar.specs.declared.phase.Stage.TheVariants.{Handshake}
+use Rattle.spdm_grammar.specs.declared.told.phase.Stage.TheVariants.{Handshake}
 use Rattle.responder_session.proofs.Stands.{closed_not_open}
 use Rattle.responder_session.proofs.handshake.RspHandshake.take_with.Goals as goal
 

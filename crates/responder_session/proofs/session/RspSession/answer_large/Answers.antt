@@ -1,6 +1,6 @@
 use Rattle.std.proofs.Common.{◌≡◌, ◌∙◌, ◌∷◌, ◌≤◌, ◌<◌, ◌+◌, ap, sym, subst, refl, ℕ, List, length, arith}
 use Rattle.negotiate.specs.declared.shared.Common.{Common}
-use Rattle.request_rules.specs.LargeAnswer as large_answers
+use Rattle.responder_rules.specs.LargeAnswer as large_answers
 use Rattle.responder_machine.specs.Records.{reply_record}
 use Rattle.responder_machine.specs.Responder.{inner_reply}
 use Rattle.responder_machine.specs.Session.{session_terms, turns_of}

@@ -1,6 +1,6 @@
 use Rattle.std.proofs.Common.{◌∙◌, ap, refl}
 use Rattle.spdm_basis.specs.SessionIdBytes.{session_id_bytes}
-use Rattle.spdm_basis.specs.declared.session_id.SessionId.{SessionId}
+use Rattle.spdm_basis.specs.declared.values.session_id.SessionId.{SessionId}
 use Rattle.spdm_grammar.specs.Message.RequestMessage.{EndSession}
 use Rattle.responder_session.specs.Turns.{answered_turn}
 use Rattle.responder_session.specs.declared.kept.Kept.{Kept}

@@ -1,7 +1,7 @@
 use Rattle.std.proofs.Common.{◌∙◌, ◌++◌, ap, sym}
 use Rattle.responder_machine.specs.Session.{session_terms, session_vca, exchange_of, exchange_answer, t1_of}
-use Rattle.spdm_grammar.specs.declared.choice.Choice.{Choice}
-use Rattle.spdm_grammar.specs.declared.error_code.ErrorCode.TheVariants.{DecryptError}
+use Rattle.spdm_grammar.specs.declared.messages.choice.Choice.{Choice}
+use Rattle.spdm_grammar.specs.declared.messages.error_code.ErrorCode.TheVariants.{DecryptError}
 use Rattle.responder_session.proofs.Allowed.{finish_in_handshake}
 use Rattle.responder_session.proofs.Doing.{refused_deed, finished_turn, unverified_turn}
 use Rattle.responder_session.proofs.session.RspSession.finish.Goals as goal

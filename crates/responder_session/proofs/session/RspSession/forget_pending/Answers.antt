@@ -1,5 +1,5 @@
 use Rattle.std.proofs.Common.{◌≡◌, refl, sym, subst, List}
-use Rattle.request_rules.specs.LargeAnswer as large_answers
+use Rattle.responder_rules.specs.LargeAnswer as large_answers
 use Rattle.responder_machine.specs.Session.{session_terms, turns_of}
 use Rattle.responder_machine.specs.Turn.{Turn}
 use Rattle.responder_session.proofs.Pendings.{forgotten_alike, stands_alike, turns_forgotten}

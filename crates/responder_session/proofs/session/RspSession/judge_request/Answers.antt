@@ -6,7 +6,7 @@ use Rattle.spdm_basis.specs.Sizes.{hash_size}
 use Rattle.spdm_grammar.specs.Message.{RequestMessage, request_message}
 use Rattle.spdm_grammar.specs.Message.RequestMessage.{GetMeasurements, Heartbeat, KeyUpdate, EndSession, ChunkGet, PskFinish}
 use Rattle.spdm_grammar.specs.Requests.{IsSoundRequest}
-use Rattle.spdm_grammar.specs.declared.error_code.ErrorCode.TheVariants.{UnsupportedRequest}
+use Rattle.spdm_grammar.specs.declared.messages.error_code.ErrorCode.TheVariants.{UnsupportedRequest}
 use Rattle.responder_session.proofs.Allowed.{asked_sound, unhandled, request_handled}
 use Rattle.responder_session.proofs.Doing.{alive_deed, ended_deed, lacking_turn, refused_deed, allowed}
 use Rattle.responder_session.proofs.session.RspSession.judge_request.Goals as goal

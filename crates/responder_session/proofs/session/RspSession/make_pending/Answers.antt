@@ -1,6 +1,6 @@
 use Rattle.std.proofs.Common.{refl, ◌≡◌, ◌≤◌, ◌<◌, ◌+◌, ◌∷◌, ap, sym, subst, ℕ, List, length}
 use Rattle.negotiate.specs.declared.shared.Common.{Common}
-use Rattle.request_rules.specs.LargeAnswer as large_answers
+use Rattle.responder_rules.specs.LargeAnswer as large_answers
 use Rattle.responder_machine.specs.Session.{session_terms, turns_of}
 use Rattle.responder_machine.specs.Turn.{Turn}
 use Rattle.spdm_grammar.specs.declared.names.TheConstants.{MIN_DATA_TRANSFER_SIZE}

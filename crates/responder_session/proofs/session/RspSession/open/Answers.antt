@@ -6,7 +6,7 @@ use Rattle.running_hash.specs.Hash.{hash_of}
 use Rattle.spdm_grammar.specs.Message.RequestMessage.{PskFinish}
 use Rattle.spdm_grammar.specs.Message.ResponseMessage.{PskFinishRsp}
 use Rattle.spdm_grammar.specs.Responses.{canonical_response}
-use Rattle.spdm_grammar.specs.declared.phase.Stage.TheVariants.{Open}
+use Rattle.spdm_grammar.specs.declared.told.phase.Stage.TheVariants.{Open}
 use Rattle.responder_session.specs.Turns.{answered_turn}
 use Rattle.responder_session.proofs.Finish.{kept_finished}
 use Rattle.responder_session.proofs.Stands.{stands_past}

@@ -1,8 +1,8 @@
 use Rattle.std.proofs.Common.{refl, ◌≡◌, ◌≤◌, ◌<◌, ◌+◌, ◌∙◌, ap, sym, subst, ℕ, List, length}
 use Rattle.std.specs.Prelude.{is_some}
 use Rattle.negotiate.specs.declared.shared.Common.{Common}
-use Rattle.request_rules.specs.LargeAnswer as large_answers
-use Rattle.request_rules.specs.LargeAnswer.{turns_with}
+use Rattle.responder_rules.specs.LargeAnswer as large_answers
+use Rattle.responder_rules.specs.LargeAnswer.{turns_with}
 use Rattle.responder_machine.specs.LargeMessages.{pending_of}
 use Rattle.responder_machine.specs.Session.{session_terms, turns_of}
 use Rattle.responder_machine.specs.Turn.{Turn}

@@ -2,7 +2,7 @@ use Rattle.std.proofs.Common.{◌≡◌, ◌++◌, ◌∙◌, [], ap, sym, subst
 use Rattle.running_hash.specs.Hash.{hash_of}
 use Rattle.session_keys.specs.Handshake.{IsHandshakeOf}
 use Rattle.spdm_basis.specs.Sizes.{hash_size}
-use Rattle.spdm_grammar.specs.declared.choice.Choice.{Choice}
+use Rattle.spdm_grammar.specs.declared.messages.choice.Choice.{Choice}
 use Rattle.spdm_machine.specs.Sessions.{id_in_exchange}
 use Rattle.spdm_machine.specs.Terms.{terms_of}
 use Rattle.transcript.specs.Lane as lanes

@@ -2,8 +2,8 @@ use Rattle.std.proofs.Common.{Some, ◌≡◌, ◌∙◌, ◌∷◌, ap, refl, �
 use Rattle.responder_machine.specs.Records.{reply_record}
 use Rattle.responder_machine.specs.Responder.{data_turn, inner_reply}
 use Rattle.responder_machine.specs.Session.{session_terms, turns_of}
-use Rattle.spdm_grammar.specs.declared.phase.Stage.{Stage}
-use Rattle.spdm_grammar.specs.declared.phase.Stage.TheVariants.{Open}
+use Rattle.spdm_grammar.specs.declared.told.phase.Stage.{Stage}
+use Rattle.spdm_grammar.specs.declared.told.phase.Stage.TheVariants.{Open}
 use Rattle.responder_session.specs.Turns.{KeepsKeys}
 use Rattle.responder_session.proofs.Moves.{same_stage}
 use Rattle.responder_session.proofs.Stands.{stands_past}

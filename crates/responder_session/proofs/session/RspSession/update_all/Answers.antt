@@ -9,7 +9,7 @@ use Rattle.responder_machine.specs.Responder.{inner_reply}
 use Rattle.responder_machine.specs.Session.{session_terms, t2_of, turns_of, request_epoch, response_epoch}
 use Rattle.session_keys.specs.Keys.{IsKeyOf}
 use Rattle.spdm_basis.specs.SessionIdBytes.{session_id_bytes}
-use Rattle.spdm_grammar.specs.declared.phase.Stage.TheVariants.{Verifying}
+use Rattle.spdm_grammar.specs.declared.told.phase.Stage.TheVariants.{Verifying}
 use Rattle.spdm_machine.specs.Keys.{sealed_of}
 use Rattle.responder_session.specs.Updates.{update_turn}
 use Rattle.responder_session.specs.declared.kept.Kept.{Kept}

@@ -6,7 +6,7 @@ use Rattle.responder_machine.specs.Records.{reply_record}
 use Rattle.responder_machine.specs.Responder.{inner_reply}
 use Rattle.responder_machine.specs.Session.{session_terms, t2_of, turns_of, request_epoch}
 use Rattle.session_keys.specs.Keys.{IsKeyOf}
-use Rattle.spdm_grammar.specs.declared.phase.Stage.TheVariants.{Verifying}
+use Rattle.spdm_grammar.specs.declared.told.phase.Stage.TheVariants.{Verifying}
 use Rattle.responder_session.specs.Updates.{update_turn}
 use Rattle.responder_session.specs.declared.kept.Kept.{Kept}
 use Rattle.responder_session.proofs.Stands.{stands_past}

@@ -2,7 +2,7 @@ use Rattle.std.proofs.Common.{◌∷◌, ap, sym, refl, ℕ, List}
 use Rattle.responder_machine.specs.Records.{reply_record}
 use Rattle.responder_machine.specs.Responder.{inner_reply}
 use Rattle.responder_machine.specs.Session.{session_terms, turns_of}
-use Rattle.spdm_grammar.specs.declared.phase.Stage.TheVariants.{Open}
+use Rattle.spdm_grammar.specs.declared.told.phase.Stage.TheVariants.{Open}
 use Rattle.responder_session.specs.Updates.{update_turn}
 use Rattle.responder_session.proofs.Stands.{stands_past}
 use Rattle.responder_session.proofs.Updating.{kept_verified}

@@ -1,5 +1,5 @@
 use Rattle.std.proofs.Common.{◌∙◌, sym, refl}
-use Rattle.spdm_grammar.specs.declared.phase.Stage.TheVariants.{Verifying}
+use Rattle.spdm_grammar.specs.declared.told.phase.Stage.TheVariants.{Verifying}
 use Rattle.responder_session.proofs.Stands.{closed_not_open}
 use Rattle.responder_session.proofs.verifying.RspVerifying.take_with.Goals as goal
 

@@ -1,7 +1,7 @@
 use Rattle.std.proofs.Common.{sym, ap, ◌∙◌}
 use Rattle.key_schedule.specs.Keys.{DirectionSecret}
 use Rattle.running_hash.specs.Hash.{hash_of}
-use Rattle.spdm_basis.specs.declared.hash_alg.HashAlg.{HashAlg}
+use Rattle.spdm_basis.specs.declared.values.hash_alg.HashAlg.{HashAlg}
 use Rattle.session_keys.proofs.handshake.Handshake.app_keys.Goals as goal
 
 pub returns-clause-request : goal.returns-clause-request

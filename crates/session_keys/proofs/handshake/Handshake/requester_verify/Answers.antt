@@ -1,7 +1,7 @@
 use Rattle.std.proofs.Common.{ap, ◌∙◌}
 use Rattle.key_schedule.specs.declared.direction.Direction.TheVariants.{Request}
 use Rattle.running_hash.specs.Hash.{hash_of}
-use Rattle.spdm_basis.specs.declared.hash_alg.HashAlg.{HashAlg}
+use Rattle.spdm_basis.specs.declared.values.hash_alg.HashAlg.{HashAlg}
 use Rattle.session_keys.proofs.Purposes.{verify_at}
 use Rattle.session_keys.proofs.handshake.Handshake.requester_verify.Goals as goal
 

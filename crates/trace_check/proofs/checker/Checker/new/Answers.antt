@@ -1,9 +1,9 @@
 use Rattle.std.proofs.Common.{[], ap, refl, sym, subst, List}
-use Rattle.capture_laws.proofs.RowsKept.{show_begins}
-use Rattle.capture_laws.specs.Rows.{StandsForRows}
-use Rattle.capture_laws.specs.declared.verdict.Seen.{Seen}
-use Rattle.configured_ends.specs.Configured.{configuration_in, requester_in}
-use Rattle.script_text.specs.declared.config.ReqPart.{ReqPart}
+use Rattle.check_laws.proofs.RowsKept.{show_begins}
+use Rattle.check_laws.specs.Rows.{StandsForRows}
+use Rattle.check_laws.specs.declared.verdict.Seen.{Seen}
+use Rattle.script_ends.specs.Configured.{configuration_in, requester_in}
+use Rattle.script_text.specs.declared.configuration.config.ReqPart.{ReqPart}
 use Rattle.std.specs.Prelude.{map}
 use Rattle.trace_check.proofs.checker.Checker.new.Goals as goal
 use Rattle.world_machine.specs.Setup.{Configuration}

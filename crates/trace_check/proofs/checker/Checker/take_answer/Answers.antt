@@ -2,14 +2,14 @@ use Rattle.std.proofs.Common.{◌≡◌, ◌∙◌, ◌==◌, ℕ, ap, arith, eq
 use Rattle.std.specs.Prelude.{◌∷◌}
 use Rattle.mctp_framing.specs.Packet.{PacketFields, view_of}
 use Rattle.spdm_machine.specs.Packets.{gathered_from}
-use Rattle.capture_laws.proofs.Telling.{going_unknown, is_its_answer}
-use Rattle.capture_laws.specs.Order.{is_answer}
+use Rattle.check_laws.proofs.Telling.{going_unknown, is_its_answer}
+use Rattle.check_laws.specs.Order.{is_answer}
 use Rattle.trace_check.proofs.AllPairs.{given_by, hit, none_known, one_of, refused_by}
 use Rattle.trace_check.proofs.checker.Checker.take_answer.Goals as goal
 use Rattle.trace_check.specs.Checker.{AreKept}
 use Rattle.trace_check.specs.JudgedPair.{StandsFor}
 use Rattle.trace_check.specs.declared.judged_pair.JudgedPair.{JudgedPair}
-use Rattle.world_machine.specs.Difference.Why.{UnknownEnd}
+use Rattle.capture_machine.specs.Difference.Why.{UnknownEnd}
 
 pub returns-in-Some-get_mut : goal.returns-in-Some-get_mut
 returns-in-Some-get_mut c = λ w older packet sound is few parses.

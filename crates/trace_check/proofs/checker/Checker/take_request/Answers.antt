@@ -1,14 +1,14 @@
 use Rattle.std.proofs.Common.{◌≡◌, ◌∙◌, ◌==◌, ℕ, ap, arith, eq-eqb, get_or, slice_set, subst, sym, true}
 use Rattle.std.specs.Prelude.{◌∷◌}
 use Rattle.mctp_framing.specs.Packet.{PacketFields, view_of}
-use Rattle.capture_laws.proofs.Telling.{coming_unknown, is_its_request}
-use Rattle.capture_laws.specs.Order.{is_request}
+use Rattle.check_laws.proofs.Telling.{coming_unknown, is_its_request}
+use Rattle.check_laws.specs.Order.{is_request}
 use Rattle.trace_check.proofs.AllPairs.{hit, none_known, one_of, refused_by, told_by}
 use Rattle.trace_check.proofs.checker.Checker.take_request.Goals as goal
 use Rattle.trace_check.specs.Checker.{AreKept}
 use Rattle.trace_check.specs.JudgedPair.{StandsFor}
 use Rattle.trace_check.specs.declared.judged_pair.JudgedPair.{JudgedPair}
-use Rattle.world_machine.specs.Difference.Why.{UnknownEnd}
+use Rattle.capture_machine.specs.Difference.Why.{UnknownEnd}
 
 pub returns-in-Some-get_mut : goal.returns-in-Some-get_mut
 returns-in-Some-get_mut c = λ w older packet sound is few parses.

@@ -1,9 +1,9 @@
 use Rattle.std.proofs.Common.{◌≡◌, ◌∙◌, ◌==◌, ℕ, false, ne_eqb, sym}
 use Rattle.mctp_framing.specs.Packet.{PacketFields, view_of}
-use Rattle.capture_laws.proofs.Telling.{of_none}
+use Rattle.check_laws.proofs.Telling.{of_none}
 use Rattle.trace_check.proofs.AllPairs.{refused_by}
 use Rattle.trace_check.proofs.checker.Checker.take_view.Goals as goal
-use Rattle.world_machine.specs.Difference.Why.{UnknownEnd}
+use Rattle.capture_machine.specs.Difference.Why.{UnknownEnd}
 
 pub returns : goal.returns
 returns c = λ w older packet sound is few parses.

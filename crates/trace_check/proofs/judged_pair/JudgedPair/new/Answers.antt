@@ -1,7 +1,7 @@
 use Rattle.std.proofs.Common.{◌≡◌, ◌∙◌, refl, sym, ap, ℕ}
-use Rattle.configured_ends.specs.Configured.{requester_in}
+use Rattle.script_ends.specs.Configured.{requester_in}
 use Rattle.requester_machine.specs.Setup.{ReqSetup}
-use Rattle.capture_laws.specs.Judged.{receiver_of}
+use Rattle.check_laws.specs.Judged.{receiver_of}
 use Rattle.trace_check.proofs.judged_pair.JudgedPair.new.Goals as goal
 
 pub returns : goal.returns

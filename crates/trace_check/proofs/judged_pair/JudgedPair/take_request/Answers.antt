@@ -3,11 +3,11 @@ use Rattle.mctp_framing.specs.Cutting.{route_of}
 use Rattle.mctp_framing.specs.Gathering.{Receiver}
 use Rattle.mctp_framing.specs.Packet.{view_of}
 use Rattle.spdm_machine.specs.Packets.{fields_in}
-use Rattle.capture_laws.proofs.Kept.{few_waiting}
-use Rattle.capture_laws.specs.Judged.{waiting_in}
+use Rattle.check_laws.proofs.Kept.{few_waiting}
+use Rattle.check_laws.specs.Judged.{waiting_in}
 use Rattle.trace_check.proofs.Requests.{request_dropped, request_is, request_told, request_waits}
 use Rattle.trace_check.proofs.judged_pair.JudgedPair.take_request.Goals as goal
-use Rattle.world_machine.specs.Rounds.{Round}
+use Rattle.capture_machine.specs.Rounds.{Round}
 
 pub returns-in-Whole : goal.returns-in-Whole
 returns-in-Whole c = λ w q older rows packet before is s entries.

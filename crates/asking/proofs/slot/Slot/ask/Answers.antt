@@ -1,9 +1,0 @@
-use Rattle.std.proofs.Common.{subst}
-use Rattle.asking.proofs.SlotLaws.{live_rests}
-use Rattle.asking.specs.Slot.{IsSlotOf}
-use Rattle.asking.specs.declared.slot.Slot.{Slot}
-use Rattle.asking.proofs.slot.Slot.ask.Goals as goal
-
-pub returns-in-Live : goal.returns-in-Live
-returns-in-Live c = λ psk s is fits few.
-    c.ask_of.ensures psk s (live_rests c.in-Live.session psk s (subst (λ (x : Slot). IsSlotOf x psk s) c.in-Live.is is) fits) few

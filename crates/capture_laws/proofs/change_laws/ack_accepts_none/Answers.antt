@@ -1,5 +1,0 @@
-use Rattle.capture_laws.proofs.AcceptedAnswers.{ack_accepts_none}
-use Rattle.capture_laws.proofs.change_laws.ack_accepts_none.Goals as goal
-
-pub returns : goal.returns
-returns c = ack_accepts_none

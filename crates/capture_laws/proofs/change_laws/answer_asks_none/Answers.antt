@@ -1,5 +1,0 @@
-use Rattle.capture_laws.proofs.ChangesMade.{answer_asks_none}
-use Rattle.capture_laws.proofs.change_laws.answer_asks_none.Goals as goal
-
-pub returns : goal.returns
-returns c = answer_asks_none

@@ -1,5 +1,0 @@
-use Rattle.capture_laws.proofs.KeptAnswers.{kept_is_restored}
-use Rattle.capture_laws.proofs.laws.kept_is_restored.Goals as goal
-
-pub returns : goal.returns
-returns c = kept_is_restored

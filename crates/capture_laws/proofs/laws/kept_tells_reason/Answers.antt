@@ -1,5 +1,0 @@
-use Rattle.capture_laws.proofs.KeptReasons.{kept_tells_reason}
-use Rattle.capture_laws.proofs.laws.kept_tells_reason.Goals as goal
-
-pub returns : goal.returns
-returns c = kept_tells_reason

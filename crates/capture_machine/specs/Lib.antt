@@ -1,0 +1,9 @@
+pub mod Rounds
+pub mod LargeRequests
+pub mod CapturedRequests
+pub mod LargeAnswers
+pub mod CapturedAnswers
+pub mod Capture
+pub mod SessionTable
+pub mod Opening
+pub mod Difference

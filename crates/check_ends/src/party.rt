@@ -1,0 +1,138 @@
+ghost use Rattle.std.specs.Prelude.{◌≡◌, Err, Ok, if◌then◌else◌};
+ghost use Rattle.check_ends.specs.Asker.{is_first_chunk};
+ghost use Rattle.check_ends.specs.declared.onward.Onward.TheVariants as onward;
+
+use crate::coming::Coming;
+use crate::owed_messages::is_first_chunk;
+use crate::{AnswerKeys, Answerer, Asker, Onward};
+use check_laws::{Places, Round, SessionTable};
+use responder_core::Setup;
+use spdm_basis::RecordFrame;
+use spdm_grammar::Why;
+
+/// A requester of a capture and the responder towards it, while no large message is under way: what
+/// the two ends hold, and the keys of answers that were given; its number, and where its entries stand
+/// in the table of sessions. It judges requests and answers whose order is right, and tells the table
+/// of those that go on. It takes no memory but when it is made.
+#[derive(Drop)]
+pub struct Party {
+    /// The requester.
+    pub asker: Asker,
+    /// The responder towards it.
+    pub answerer: Answerer,
+    /// The keys of answers that were given.
+    pub keys: AnswerKeys,
+    /// The requester's number, counted from 1.
+    pub number: u8,
+    /// Where its entries stand in the table of sessions.
+    pub places: Places,
+    /// What is had of the request whose answer is judged. Between two calls it does not matter.
+    pub coming: Coming,
+    /// Room for the text of a record. What it holds before and after a call does not matter.
+    pub text: RecordFrame,
+}
+
+// What is told of a request that is refused for this: its body may be the first chunk of a large one.
+fn refused(why: Why, body: &[u8]) -> Result<Onward, Why>
+    ensures { result ≡ (if is_first_chunk body.now then Ok onward.Large else Err why) }
+{
+    if is_first_chunk(body) {
+        return Ok(Onward::Large);
+    }
+    Err(why)
+}
+
+impl Party {
+    ghost use Rattle.std.specs.Prelude.{◌≡◌, ◌≤◌, ◌<◌, ◌-◌, ◌^◌, ℕ, List, [], None, Ok, OnErr, length};
+    ghost use Rattle.responder_core.specs.Setup.{IsSetUp};
+    ghost use Rattle.mctp_framing.specs.Cutting.{RouteFields};
+    ghost use Rattle.mctp_framing.specs.Gathering.Gathered.{Whole};
+    ghost use Rattle.requester_machine.specs.Setup.{ReqSetup};
+    ghost use Rattle.check_ends.specs.Asker.{Carries, IsAsker};
+    ghost use Rattle.check_laws.specs.Keeping.{Keeps, Kept, kept_of};
+    ghost use Rattle.check_laws.specs.Order.{asked_why};
+    ghost use Rattle.check_ends.specs.Party.{IsAsked, IsAskedBeside, IsBeside, IsParty};
+    ghost use Rattle.check_laws.specs.RepliesShown.{responder_for};
+    ghost use Rattle.check_laws.specs.Rows.{StandsForRows};
+    ghost use Rattle.capture_machine.specs.Rounds.{new_dialogue};
+    ghost use Rattle.capture_machine.specs.SessionTable.{Row, number_from};
+    ghost use Rattle.world_machine.specs.Setup.{Configuration};
+
+    /// A requester with this number, counted from 1, of which nothing came yet, and the responder that
+    /// is set up so towards it. The table of sessions has no entries.
+    pub fn new(asker: Asker, number: u8, setup: &Setup<'_>) -> Party
+        ensures { (w : Configuration) (q : ReqSetup) → IsAsker asker q (kept_of (new_dialogue q))
+            → number ≡ number_from 1 q.eid w.requesters
+            → IsSetUp setup.now (responder_for w (kept_of (new_dialogue q)))
+            → IsParty result w q (kept_of (new_dialogue q)) [] }
+    {
+        Party {
+            asker,
+            answerer: Answerer::new(setup),
+            keys: AnswerKeys::new(),
+            number,
+            places: Places::new(),
+            coming: Coming::new(),
+            text: RecordFrame::new(),
+        }
+    }
+
+    /// A request of at most 4,161 bytes came whole under a tag, in order behind this round: it goes
+    /// on, and the table of sessions with it; or it is refused, and then why, and the table stays.
+    /// Nothing is said of what is kept then, and where it may begin a large request.
+    pub fn asks(
+        &mut self,
+        table: &mut SessionTable,
+        round: &Round,
+        tag: u8,
+        body: &[u8],
+    ) -> Result<Onward, Why>
+        ensures told { (w : Configuration) (q : ReqSetup) (older : List (List ℕ)) (rows : List Row)
+            (k : Kept) (route : RouteFields) → Keeps w q older k → length older < 2 ^ 64 - 1
+            → length body.now ≤ 4161 → round.now ≡ k.round → route.tag ≡ tag
+            → asked_why k.round (Whole route body.now) ≡ None → IsParty self.old w q k rows
+            → StandsForRows table.old w (length older) rows
+            → IsAsked w q older rows k route body.now result self.new table.new }
+        ensures stays { (result ≡ Ok onward.Kept → ⊥) → table.new ≡ table.old }
+    {
+        match self.asks_whole(table, round, tag, body) {
+            Ok(()) => Ok(Onward::Kept),
+            Err(why) => refused(why, body),
+        }
+    }
+
+    /// The same of a request that goes whole, at any place where no large request is sent: it goes on, or why
+    /// it is refused as such a one. The responder's connection is not asked.
+    pub fn asks_whole(
+        &mut self,
+        table: &mut SessionTable,
+        round: &Round,
+        tag: u8,
+        body: &[u8],
+    ) -> Result<(), Why>
+        ensures told { (w : Configuration) (q : ReqSetup) (older : List (List ℕ)) (rows : List Row)
+            (k : Kept) (route : RouteFields) → Carries w q older k → length older < 2 ^ 64 - 1
+            → length body.now ≤ 4161 → round.now ≡ k.round → route.tag ≡ tag
+            → asked_why k.round (Whole route body.now) ≡ None → IsBeside self.old w q k rows
+            → StandsForRows table.old w (length older) rows
+            → IsAskedBeside w q older rows k route body.now result self.new table.new }
+        ensures answerer { self.new.answerer ≡ self.old.answerer }
+        ensures keys { self.new.keys ≡ self.old.keys }
+        ensures stays { OnErr result (table.new ≡ table.old) }
+    {
+        if round.is_copy(tag, body) {
+            table.ask(&self.places, None);
+            return Ok(());
+        }
+        if !round.may_begin(body) {
+            return Err(self.asker.why(body));
+        }
+        match self.asker.judge(body) {
+            Ok(()) => {
+                table.ask(&self.places, self.asker.sent());
+                Ok(())
+            }
+            Err(why) => Err(why),
+        }
+    }
+}

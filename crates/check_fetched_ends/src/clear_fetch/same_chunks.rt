@@ -1,0 +1,13 @@
+//! What both ends know of one another, each law as the contract of a function that does nothing.
+
+ghost use Rattle.check_fetched_ends.specs.SameChunks.{SameCapabilities, SameCommon};
+
+/// What the requester took as CAPABILITIES is what the responder told it last, as long as its negotiation counts.
+pub fn same_capabilities()
+    ensures { SameCapabilities }
+{}
+
+/// So what both ends can do is the same at both of them.
+pub fn same_common()
+    ensures { SameCommon }
+{}

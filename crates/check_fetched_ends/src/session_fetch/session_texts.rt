@@ -1,0 +1,78 @@
+ghost use Rattle.std.specs.Prelude.{◌≡◌, ◌≤◌, ◌<◌, ◌-◌, ◌^◌, ◌⊎◌, ℕ, List, MatchOption, drop, length, true, false};
+ghost use Rattle.check_ends.specs.AnswerKeys.{will_take};
+ghost use Rattle.check_ends.specs.Answerer.{IsAnswerer};
+ghost use Rattle.check_laws.specs.AnswersShown.{answered_text};
+ghost use Rattle.check_fetched_laws.specs.AnswerTexts.{Holds};
+ghost use Rattle.responder_machine.specs.BoundLaws.{messages_of};
+ghost use Rattle.responder_machine.specs.History.{History};
+ghost use Rattle.responder_machine.specs.Session.{id_in_record, session_of};
+ghost use Rattle.responder_machine.specs.Setup.{RspSetup};
+ghost use Rattle.capture_machine.specs.Opening.{turn_in};
+ghost use Rattle.check_fetched_ends.specs.InSession.{IsTextOf, is_chunk};
+ghost use Rattle.check_fetched_ends.specs.SessionOthers.{IsRefusing};
+
+use check_ends::Answerer;
+use check_fetched_laws::message_in;
+use session_keys::{behind_type, byte_at};
+use spdm_basis::RecordFrame;
+use spdm_grammar::names::response_code::{CHUNK_RESPONSE, ERROR};
+
+// The fewest bytes of a record.
+const LEAST_RECORD: usize = 26;
+
+// The length of no text passes this.
+const MOST_TEXT: usize = 65535;
+
+/// What a record holds as the answer to one that its session takes, in place of what `text` holds. False where
+/// the session does not take that one. Fewer than 2^64 - 1 messages came.
+pub(crate) fn reads_text(
+    answerer: &mut Answerer,
+    body: &[u8],
+    answer: &[u8],
+    text: &mut RecordFrame,
+) -> bool
+    requires { length answer.now ≤ 4161 }
+    ensures told { (r : RspSetup) (h : History) → IsAnswerer answerer.old r h
+        → messages_of h < 2 ^ 64 - 1 → result ≡ true
+        → IsTextOf r h body.now answer.now text.new }
+    ensures none { (r : RspSetup) (h : History) → IsAnswerer answerer.old r h
+        → messages_of h < 2 ^ 64 - 1 → result ≡ false
+        → (length (drop 1 answer.now) < 26) ⊎ (will_take r h body.now ≡ false) }
+    ensures same { answerer.new.connection ≡ answerer.old.connection }
+{
+    let sealed = behind_type(answer);
+    if sealed.len() < LEAST_RECORD {
+        return false;
+    }
+    match answerer.coming_key(body) {
+        Some(key) => {
+            key.text(sealed, text);
+            text.as_slice().len() <= MOST_TEXT
+        }
+        None => false,
+    }
+}
+
+/// The CHUNK_RESPONSE that a text holds, of fewer than 65,536 bytes; none where it holds something else.
+pub(crate) fn chunk_in(text: &[u8]) -> Option<&[u8]>
+    ensures { MatchOption result (length text.now < 65536 → (message : List ℕ)
+        → Holds text.now message → is_chunk message ≡ true → ⊥) (λ message. Holds text.now message.now × (is_chunk message.now ≡ true)) }
+{
+    let Some(message) = message_in(text) else {
+        return None;
+    };
+    if byte_at(message, 1) == CHUNK_RESPONSE {
+        return Some(message);
+    }
+    None
+}
+
+/// Whether a text, of fewer than 65,536 bytes, holds ERROR.
+pub(crate) fn holds_error(text: &[u8]) -> bool
+    ensures { length text.now < 65536 → IsRefusing text.now result }
+{
+    let Some(message) = message_in(text) else {
+        return false;
+    };
+    byte_at(message, 1) == ERROR
+}

@@ -1,0 +1,12 @@
+pub mod WholeValues
+pub mod LastShown
+pub mod AlikeAnswers
+pub mod AnswerTexts
+pub mod ClearChunks
+pub mod JudgedFor
+pub mod ClearRounds
+pub mod ClearSessions
+pub mod ClearApart
+pub mod StandsAlike
+pub mod ClearMeanwhile
+pub mod PassedConnection

@@ -1,0 +1,47 @@
+ghost use Rattle.std.specs.Prelude.{◌≤◌, MatchOption, length};
+ghost use Rattle.check_fetched_laws.specs.AnswerTexts.{Holds, HoldsNone, IsReadBy};
+
+use byteorder::{ByteOrder, LittleEndian};
+use responder_core::Connection;
+use session_keys::{SPDM_MESSAGE, behind_type, byte_at};
+use spdm_basis::RecordFrame;
+
+// The bytes of the length in front of an inner message.
+const SIZE_BYTES: usize = 2;
+
+/// The SPDM message that the text of a record holds; none where it holds something else.
+pub fn message_in(text: &[u8]) -> Option<&[u8]>
+    ensures { MatchOption result (HoldsNone text.now) (λ message. Holds text.now message.now) }
+{
+    let size = LittleEndian::read_u16(&[byte_at(text, 0), byte_at(text, 1)]) as usize;
+    if text.len() < SIZE_BYTES + size {
+        return None;
+    }
+    let inner = text.split_at(SIZE_BYTES).1.split_at(size).0;
+    if byte_at(inner, 0) != SPDM_MESSAGE {
+        return None;
+    }
+    Some(behind_type(inner))
+}
+
+/// What a record holds as the answer to one, in place of what `text` holds: the length of its inner message as
+/// two bytes, the lowest first, that message, and the padding. False where the session does not open the record
+/// that is answered. The connection may judge with any bytes as the large answer that is fetched. Whether the
+/// answer is authentic is not tested.
+pub fn read_answer(
+    connection: &Connection,
+    request: &[u8],
+    sealed: &[u8],
+    text: &mut RecordFrame,
+) -> bool
+    requires least { 26 ≤ length sealed.now }
+    requires most { length sealed.now ≤ 4160 }
+    ensures { IsReadBy connection.now request.now sealed.now text.new result }
+{
+    let mut inner = RecordFrame::new();
+    let Some(key) = connection.answer_key(request, &mut inner) else {
+        return false;
+    };
+    key.text(sealed, text);
+    true
+}

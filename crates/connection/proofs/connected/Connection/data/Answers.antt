@@ -1,4 +1,0 @@
-use Rattle.connection.proofs.connected.Connection.data.Goals as goal
-
-pub returns : goal.returns
-returns c = λ r h stands. c.data.ensures r h stands.sessions

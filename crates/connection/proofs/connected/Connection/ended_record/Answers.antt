@@ -1,5 +1,0 @@
-use Rattle.std.proofs.Common.{◌∙◌}
-use Rattle.connection.proofs.connected.Connection.ended_record.Goals as goal
-
-pub returns : goal.returns
-returns c = λ r h stands. c.copy.ensures ∙ stands.sessions.ended

@@ -1,5 +1,0 @@
-use Rattle.std.proofs.Common.{sym}
-use Rattle.connection.proofs.connected.Connection.held.Goals as goal
-
-pub returns : goal.returns
-returns c = λ r h stands. sym (c.held.ensures.value r h stands.sessions)

@@ -1,4 +1,0 @@
-use Rattle.connection.proofs.connected.Connection.is_timed.Goals as goal
-
-pub returns : goal.returns
-returns c = λ r h stands. c.is_timed.ensures r h stands.sessions

@@ -1,5 +1,0 @@
-use Rattle.connection.proofs.Sizes.{no_sizes_yet}
-use Rattle.connection.proofs.connected.Connection.new.Goals as goal
-
-pub returns : goal.returns
-returns c = λ r setup. record { clear = c.new.ensures r setup; sessions = c.new-2.ensures r; queue = c.new-3.ensures; sizes = no_sizes_yet r }

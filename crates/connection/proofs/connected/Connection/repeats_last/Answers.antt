@@ -1,4 +1,0 @@
-use Rattle.connection.proofs.connected.Connection.repeats_last.Goals as goal
-
-pub returns : goal.returns
-returns c = λ r h stands. c.repeats_last.ensures r h stands.sessions

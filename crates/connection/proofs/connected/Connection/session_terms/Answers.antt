@@ -1,4 +1,0 @@
-use Rattle.connection.proofs.connected.Connection.session_terms.Goals as goal
-
-pub returns : goal.returns
-returns c = λ r h stands. c.terms.ensures r h stands.sessions

@@ -1,9 +1,0 @@
-use Rattle.std.proofs.Common.{subst, Some}
-use Rattle.connection.specs.Connected as connected
-use Rattle.responder_machine.specs.History.{History}
-use Rattle.fetched_answers.proofs.PutBytes.{put_is}
-use Rattle.fetched_answers.proofs.pending_bytes.put_bytes.Goals as goal
-use Rattle.world_machine.specs.LargeAnswers.{with_large}
-
-pub returns : goal.returns
-returns c = λ r h whole one other long stands. subst (λ (l : History). connected.StandsFor c.put_pending.new.self r l) (put_is c.args.id whole c.args.bytes.now h (one.large, other.large)) (c.put_pending.ensures r (with_large (Some c.args.id) whole h) long one.more one.measured stands)

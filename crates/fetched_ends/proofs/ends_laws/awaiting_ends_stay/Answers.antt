@@ -1,5 +1,0 @@
-use Rattle.fetched_ends.proofs.EndsStay.{awaiting_ends}
-use Rattle.fetched_ends.proofs.ends_laws.awaiting_ends_stay.Goals as goal
-
-pub returns : goal.returns
-returns c = awaiting_ends

@@ -1,7 +1,0 @@
--- Before the first chunk nothing is known.
-use Rattle.std.proofs.Common.{refl}
-use Rattle.large_answers.proofs.Taken.{new_stands}
-use Rattle.large_answers.proofs.large_answer.LargeAnswer.new.Goals as goal
-
-pub returns : goal.returns
-returns c = λ f is. new_stands _ f refl refl c.new.ensures is

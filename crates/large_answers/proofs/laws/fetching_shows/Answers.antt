@@ -1,5 +1,0 @@
-use Rattle.large_answers.proofs.Rows.{fetching_shows}
-use Rattle.large_answers.proofs.laws.fetching_shows.Goals as goal
-
-pub returns : goal.returns
-returns c = fetching_shows c.one_changes_rows.ensures c.rows_are_of_all.ensures

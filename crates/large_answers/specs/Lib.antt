@@ -1,5 +1,0 @@
-pub mod Fetching
-pub mod FetchingLaws
-pub mod FetchingRows
-pub mod FetchingShown
-pub mod LargeAnswers

@@ -1,5 +1,0 @@
-use Rattle.std.proofs.Common.{◌∙◌}
-use Rattle.late_answers.proofs.marks.Marks.is_touched.Goals as goal
-
-pub returns : goal.returns
-returns c = λ h stands least most. c.marked.ensures ∙ stands c.args.id least most

@@ -1,0 +1,95 @@
+ghost use Rattle.std.specs.Prelude.{◌≡◌};
+ghost use Rattle.requester_machine.specs.History.{History, outstanding};
+ghost use Rattle.requester_machine.specs.Setup.{ReqSetup};
+ghost use Rattle.requester_core.specs.Gathering.{Gathers};
+ghost use Rattle.requester_core.specs.Hearing.{IsHeard, IsRegathered, exchange_id, heard_in, heard_of, rested};
+ghost use Rattle.requester_core.specs.Setup.{IsSetUp};
+ghost use Rattle.requester_core.specs.Talk.{StandsFor};
+
+use crate::clear::bodies::{error_in, is_clear, message_in};
+use crate::{Asked, Heard, Led, Setup, Talk, Waiting};
+use chunking::Collector;
+use spdm_basis::Frame;
+use spdm_grammar::{Event, ReqIgnored};
+
+impl Asked {
+    // The ReqSessionID of a PSK_EXCHANGE, and 0 for any other request.
+    fn exchange_id(self) -> u16
+        ensures { result ≡ exchange_id self }
+    {
+        match self {
+            Asked::Exchange { id, .. } => id,
+            _ => 0,
+        }
+    }
+
+    // What is told where nothing is sent upon a message to a request that asks this.
+    fn rested(self, told: Event) -> Heard
+        ensures { result ≡ rested self told }
+    {
+        match self {
+            Asked::Exchange { id, .. } => Heard::Closes { id, told },
+            _ => Heard::Rests(told),
+        }
+    }
+}
+
+impl Led {
+    // What is told of a body with a message to a request that asks this.
+    fn heard(self, asked: Asked) -> Heard
+        ensures { result ≡ heard_of asked self }
+    {
+        match self {
+            Led::Ignored(cause) => Heard::Ignored(cause),
+            Led::Rests(told) => asked.rested(told),
+            Led::Sends { tag } | Led::Large { tag } | Led::More { tag } => Heard::Sends { tag },
+            Led::Exchange => Heard::Exchange {
+                id: asked.exchange_id(),
+            },
+        }
+    }
+}
+
+// A body came that no test refuses, while a record of the session with this ReqSessionID is
+// outstanding.
+fn in_session(id: u16, body: &[u8]) -> Heard
+    ensures { result ≡ heard_in id body.now }
+{
+    if is_clear(body) {
+        return Heard::Warned(error_in(message_in(body)).unwrap_or(0));
+    }
+    Heard::Record { id }
+}
+
+impl Talk {
+    /// A whole body came, with its tag owner bit and tag. `gathered` has the chunks that came of
+    /// the large answer to the outstanding request. What is sent next in the clear, if anything
+    /// is, or the PSK_EXCHANGE_RSP that is awaited, is written in place of what `out` holds.
+    pub fn on_body(
+        &mut self,
+        setup: &Setup<'_>,
+        gathered: &mut Collector,
+        owner: bool,
+        tag: u8,
+        body: &[u8],
+        out: &mut Frame,
+    ) -> Heard
+        ensures heard { (q : ReqSetup) (h : History) → IsSetUp setup.now q → StandsFor self.old q h
+            → Gathers q (outstanding h) gathered.old
+            → IsHeard q h owner tag body.now result self.old self.new out.new }
+        ensures gathered { (q : ReqSetup) (h : History) → IsSetUp setup.now q
+            → StandsFor self.old q h → Gathers q (outstanding h) gathered.old
+            → IsRegathered q h owner tag body.now result gathered.old gathered.new }
+    {
+        if let Some(cause) = self.body_fault(setup, owner, tag, body) {
+            return Heard::Ignored(cause);
+        }
+        match self.outgoing.waiting() {
+            Waiting::Nothing => Heard::Ignored(ReqIgnored::NothingOutstanding),
+            Waiting::InSession { id, .. } => in_session(id, body),
+            Waiting::InClear { asked, .. } => self
+                .on_clear(setup, gathered, message_in(body), out)
+                .heard(asked),
+        }
+    }
+}

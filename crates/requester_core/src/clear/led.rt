@@ -1,0 +1,38 @@
+use spdm_grammar::{Event, ReqIgnored};
+
+/// What came of a message in the clear.
+#[derive(Clone, Copy, Debug, PartialEq, Eq)]
+pub enum Led {
+    /// It is ignored, and nothing changed.
+    Ignored(ReqIgnored),
+    /// This is told, and nothing is outstanding any more.
+    Rests(Event),
+    /// A further message was sent, with this tag.
+    Sends { tag: u8 },
+    /// CHUNK_GET for the first chunk of a large answer was sent, with this tag.
+    Large { tag: u8 },
+    /// CHUNK_GET for the next chunk of a large answer was sent, with this tag.
+    More { tag: u8 },
+    /// It brings the PSK_EXCHANGE_RSP that is awaited, whose verify data its session compares. That
+    /// is written, and nothing changed.
+    Exchange,
+}
+
+impl Led {
+    ghost use Rattle.std.specs.Prelude.{◌≡◌};
+    ghost use Rattle.requester_core.specs.Led.{changes_nothing, is_large};
+
+    // Whether nothing changed.
+    pub(crate) fn changes_nothing(&self) -> bool
+        ensures { result ≡ changes_nothing self.now }
+    {
+        matches!(self, Led::Ignored(_) | Led::Exchange)
+    }
+
+    // Whether it calls for the first chunk of a large answer.
+    pub(crate) fn is_large(&self) -> bool
+        ensures { result ≡ is_large self.now }
+    {
+        matches!(self, Led::Large { .. })
+    }
+}

@@ -1,0 +1,243 @@
+ghost use Rattle.std.specs.Prelude.{◌≡◌, ◌≤◌, ◌<◌, ◌+◌, [], false, length, ℕ};
+ghost use Rattle.chunking.specs.Cutting as cutting;
+ghost use Rattle.chunking.specs.Cutting.{chunk_count};
+ghost use Rattle.negotiate.specs.declared.shared.Common.{Common};
+ghost use Rattle.requester_machine.specs.Sending.{request_sent};
+ghost use Rattle.requester_core.specs.Waiting.{kind_of};
+ghost use Rattle.requester_machine.specs.History.{History, next_handle, next_tag};
+ghost use Rattle.spdm_grammar.specs.Message.{RequestMessage, request_message};
+ghost use Rattle.spdm_grammar.specs.Message.RequestMessage.{ChunkGet, ChunkSend};
+ghost use Rattle.spdm_grammar.specs.Requests.{IsSoundRequest, canonical_request};
+ghost use Rattle.spdm_grammar.specs.declared.names.TheConstants.{MAX_MESSAGE_SIZE, MIN_DATA_TRANSFER_SIZE};
+ghost use Rattle.requester_core.specs.Outgoing.{IsCut, Sends, message_for, passed_over, tag_after, taken_back};
+ghost use Rattle.requester_core.specs.declared.clear.waiting.Waiting.TheVariants as waits;
+ghost use Rattle.requester_core.specs.declared.clear.waiting.Way.TheVariants as ways;
+
+use crate::{Asked, Waiting, Way};
+use chunking::nth_chunk;
+use spdm_basis::Frame;
+use spdm_codec::write_request;
+use spdm_grammar::Request;
+use std::marker::Model;
+
+/// What a requester sends: the next tag and handle, what is waited for, and the bytes of the
+/// request in the clear that is outstanding. Tags and handles are never set back, but for a message
+/// that was never sent.
+#[derive(Drop)]
+pub struct Outgoing {
+    tag: u8,
+    handle: u8,
+    waiting: Waiting,
+    request: Frame,
+}
+
+impl Model for Outgoing {
+    ghost use Rattle.requester_core.specs.Outgoing.{Seen};
+
+    ghost Value = { Seen };
+
+    ghost view = { λ o. record {
+      tag = o.tag;
+      handle = o.handle;
+      waiting = o.waiting;
+      request = o.request;
+    } };
+}
+
+impl Outgoing {
+    /// Where nothing was sent yet.
+    pub fn new() -> Outgoing
+        ensures { result ≡ record { tag = 0; handle = 0; waiting = waits.Nothing; request = [] } }
+    {
+        Outgoing {
+            tag: 0,
+            handle: 0,
+            waiting: Waiting::Nothing,
+            request: Frame::new(),
+        }
+    }
+
+    /// What is waited for.
+    pub fn waiting(&self) -> Waiting
+        ensures { result ≡ self.now.waiting }
+    {
+        self.waiting
+    }
+
+    /// The handle that the next large request gets.
+    pub fn next_handle(&self) -> u8
+        ensures { result ≡ self.now.handle }
+    {
+        self.handle
+    }
+
+    /// The request in the clear that is outstanding, whole.
+    pub fn request(&self) -> &[u8]
+        ensures value { result.now ≡ self.now.request }
+        ensures fits { length result.now ≤ MAX_MESSAGE_SIZE }
+    {
+        self.request.as_slice()
+    }
+
+    /// Nothing is outstanding any more.
+    pub fn rest(&mut self)
+        ensures { self.new ≡ record self.old { waiting = waits.Nothing } }
+    {
+        self.waiting = Waiting::Nothing;
+    }
+
+    /// The outstanding message was never sent: its tag is the next one again, and so is its handle,
+    /// where it was the first chunk of a large request.
+    pub fn take_back(&mut self)
+        ensures { self.new ≡ taken_back self.old }
+    {
+        self.tag = (self.tag % 8 + 7) % 8;
+        if self.waiting.is_first() {
+            self.handle = self.handle.wrapping_sub(1);
+        }
+        self.waiting = Waiting::Nothing;
+    }
+
+    /// A large request was sent by chunks, of which this was the number of the last, from 0 on: they
+    /// took their tags, and it took its handle.
+    pub fn pass_over(&mut self, number: u16)
+        ensures { self.new ≡ passed_over number self.old }
+    {
+        self.tag = (self.tag % 8 + (number % 8) as u8 + 1) % 8;
+        self.handle = self.handle.wrapping_add(1);
+    }
+
+    // The next tag, which is taken.
+    fn take_tag(&mut self) -> u8
+        ensures tag { result ≡ self.old.tag }
+        ensures new { self.new ≡ record self.old { tag = tag_after self.old.tag } }
+    {
+        let tag = self.tag;
+        self.tag = (tag % 8 + 1) % 8;
+        tag
+    }
+
+    /// A record of the session with this ReqSessionID is sent, and outstanding: its tag.
+    pub fn send_record(&mut self, id: u16) -> u8
+        ensures tag { result ≡ self.old.tag }
+        ensures new { self.new ≡ record self.old {
+          tag = tag_after self.old.tag;
+          waiting = waits.InSession self.old.tag id;
+        } }
+    {
+        let tag = self.take_tag();
+        self.waiting = Waiting::InSession { tag, id };
+        tag
+    }
+
+    /// Keeps a request in place of the one before, where it has a spelling of at most 4,096 bytes.
+    pub fn keep(&mut self, request: &Request<'_>, hash_len: usize)
+        ensures { IsSoundRequest hash_len (request_message request.now)
+            → length (canonical_request (request_message request.now)) ≤ MAX_MESSAGE_SIZE
+            → self.new ≡ record self.old {
+              request = canonical_request (request_message request.now);
+            } }
+    {
+        write_sound(request, hash_len, &mut self.request);
+    }
+
+    /// Writes the message that is sent for the kept request, to a responder of this
+    /// DataTransferSize, in place of what `out` holds.
+    pub fn write(&self, way: Way, transfer: u32, out: &mut Frame)
+        ensures out { IsCut way transfer self.now.request
+            → out.new ≡ message_for way transfer self.now.request }
+        ensures fits { length self.now.request ≤ MAX_MESSAGE_SIZE }
+    {
+        let request = self.request.as_slice();
+        match way {
+            Way::Whole => {
+                out.clear();
+                let _ = out.extend(request);
+            }
+            Way::ByChunks { handle, number } => {
+                write_piece(request, transfer, handle, number, out);
+            }
+            Way::ForChunk { handle, number } => write_get(handle, number, out),
+        }
+    }
+
+    /// Whether the chunk of this number of the kept request is the last, for a responder of this
+    /// DataTransferSize.
+    pub fn is_last(&self, transfer: u32, handle: u8, number: u16) -> bool
+        ensures { IsCut (ways.ByChunks handle number) transfer self.now.request → result
+            ≡ (cutting.nth_chunk transfer handle self.now.request number).last }
+    {
+        match nth_chunk(self.request.as_slice(), transfer, handle, number) {
+            Some(chunk) => chunk.last,
+            None => false,
+        }
+    }
+
+    /// The message is sent for the kept request, to a responder of this DataTransferSize, in place
+    /// of what `out` holds: its tag.
+    pub fn send(&mut self, asked: Asked, way: Way, transfer: u32, out: &mut Frame) -> u8
+        ensures tag { result ≡ self.old.tag }
+        ensures new { self.new ≡ record self.old {
+          tag = tag_after self.old.tag;
+          waiting = waits.InClear self.old.tag asked way;
+        } }
+        ensures out { IsCut way transfer self.old.request
+            → out.new ≡ message_for way transfer self.old.request }
+        ensures fits { length self.old.request ≤ MAX_MESSAGE_SIZE }
+    {
+        self.write(way, transfer, out);
+        let tag = self.take_tag();
+        self.waiting = Waiting::InClear { tag, asked, way };
+        tag
+    }
+
+    /// The request that is kept is sent to a responder of this DataTransferSize, in place of what
+    /// `out` holds: whole, or by chunks under the next handle where it is longer. Its tag.
+    pub fn send_request(&mut self, transfer: u32, asked: Asked, out: &mut Frame) -> u8
+        ensures { (h : History) (request : RequestMessage) (common : Common)
+            → self.old.tag ≡ next_tag h → self.old.handle ≡ next_handle h
+            → self.old.request ≡ canonical_request request → kind_of request ≡ asked
+            → common.to_responder.transfer ≡ transfer → MIN_DATA_TRANSFER_SIZE ≤ transfer
+            → transfer ≤ MAX_MESSAGE_SIZE
+            → Sends (request_sent common h request) self.old self.new result out.new }
+    {
+        if self.request.as_slice().len() <= transfer as usize {
+            return self.send(asked, Way::Whole, transfer, out);
+        }
+        let handle = self.handle;
+        self.handle = handle.wrapping_add(1);
+        let first = Way::ByChunks { handle, number: 0 };
+        self.send(asked, first, transfer, out)
+    }
+}
+
+// CHUNK_SEND with the chunk of this number of a request.
+#[tactic(auto, using(crate::proofs::Pieces::piece_sound, crate::proofs::Pieces::piece_short))]
+fn write_piece(request: &[u8], transfer: u32, handle: u8, number: u16, out: &mut Frame)
+    requires { length request.now ≤ MAX_MESSAGE_SIZE }
+    ensures { MIN_DATA_TRANSFER_SIZE ≤ transfer → transfer ≤ MAX_MESSAGE_SIZE
+        → number < chunk_count transfer request.now → out.new ≡ canonical_request
+        (ChunkSend (cutting.nth_chunk transfer handle request.now number)) }
+{
+    if let Some(chunk) = nth_chunk(request, transfer, handle, number) {
+        write_sound(&Request::ChunkSend(chunk), 0, out);
+    }
+}
+
+// CHUNK_GET for the chunk of this number.
+fn write_get(handle: u8, number: u16, out: &mut Frame)
+    ensures { out.new ≡ canonical_request (ChunkGet handle number) }
+{
+    let _ = write_request(&Request::ChunkGet { handle, number }, 0, out);
+}
+
+// A request that has a spelling of at most 4,096 bytes.
+fn write_sound(request: &Request<'_>, hash_len: usize, out: &mut Frame)
+    ensures { IsSoundRequest hash_len (request_message request.now)
+        → length (canonical_request (request_message request.now)) ≤ MAX_MESSAGE_SIZE
+        → out.new ≡ canonical_request (request_message request.now) }
+{
+    if request.is_sound(hash_len) {
+        let _ = write_request(request, hash_len, out);
+    }
+}

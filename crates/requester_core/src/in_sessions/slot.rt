@@ -1,0 +1,271 @@
+ghost use Rattle.std.specs.Prelude.{◌≡◌, ◌≤◌, ◌<◌, ◌-◌, ◌^◌, ℕ, List, length};
+ghost use Rattle.requester_core.specs.SessionLed.{IsStepped, settled, told_led};
+ghost use Rattle.requester_core.specs.Slot.{IsFinishing, IsResting};
+ghost use Rattle.requester_core.specs.SlotSteps.{IsAskedOf};
+ghost use Rattle.requester_core.specs.declared.in_sessions.slot.Slot.TheVariants as slot;
+ghost use Rattle.psk_session.specs.AskLaws.{command_fault_of};
+ghost use Rattle.psk_session.specs.Course as course;
+ghost use Rattle.psk_session.specs.ReqSession.{IsAwaiting};
+ghost use Rattle.requester_machine.specs.Message as message;
+ghost use Rattle.requester_machine.specs.Message.Ask.{AskFinish};
+ghost use Rattle.requester_machine.specs.Session.{Steps, request_epoch, response_epoch, taken_of};
+
+use crate::SessionLed;
+use psk_session::{
+    Ask, AskFault, FinishTook, Finishing, OpenFault, Opening, Reply, ReqSession, Told,
+};
+use spdm_basis::{RecordFault, SessionId};
+use spdm_grammar::{CommandFault, Event, Finished, SessionView};
+use std::mem;
+
+/// The session of one ReqSessionID, as far as it has come.
+#[derive(Drop)]
+pub enum Slot {
+    /// There is none.
+    Empty,
+    /// PSK_EXCHANGE_RSP is awaited.
+    Opening(Opening),
+    /// PSK_FINISH_RSP is awaited.
+    Finishing(Finishing),
+    /// It is open, or awaits an answer.
+    Live(ReqSession),
+}
+
+// What is told of an answer in this session.
+fn event_of(id: SessionId, reply: Reply) -> Event
+    ensures { result ≡ course.event_of id reply }
+{
+    match reply {
+        Reply::Data => Event::Done(Finished::Answered(id)),
+        Reply::Alive => Event::Done(Finished::Alive(id)),
+        Reply::Updated => Event::Done(Finished::Updated(id)),
+        Reply::Measured(number) => Event::Done(Finished::Measured(number)),
+        Reply::Refused(code) => Event::Refused(code),
+    }
+}
+
+// What is told of a record in this session.
+fn led_as(id: SessionId, told: Told) -> SessionLed
+    ensures { result ≡ told_led id told }
+{
+    match told {
+        Told::Answer(reply) => SessionLed::Rests(event_of(id, reply)),
+        Told::Next => SessionLed::Sends,
+        Told::Ended => SessionLed::Ends(Event::Done(Finished::Ended(id))),
+        Told::Bad(fault) => SessionLed::Ends(Event::Lost(id, fault)),
+        Told::Stay(fault) => SessionLed::Ignored(fault),
+    }
+}
+
+// The fault of a command that asks this of a session.
+fn fault_as(fault: AskFault) -> CommandFault
+    ensures { result ≡ command_fault_of fault }
+{
+    match fault {
+        AskFault::NotNegotiated => CommandFault::NotNegotiated,
+        AskFault::KeySpent => CommandFault::KeySpent,
+        AskFault::TooLong => CommandFault::TooLong,
+    }
+}
+
+// A record for a session that awaits one.
+fn step(session: &mut ReqSession, sealed: &[u8], pad: &[u8]) -> SessionLed
+    requires { length pad.now ≤ 16 }
+    ensures { (psk : List ℕ) (s : Steps) (a : message.Ask) → IsAwaiting session.old psk s a
+        → request_epoch s < 2 ^ 64 - 1 → taken_of s < 2 ^ 64
+        → IsStepped psk s a sealed.now pad.now (settled result (slot.Live session.new)) result }
+{
+    if !session.is_awaiting() || session.request_epoch() == u64::MAX {
+        return SessionLed::Ignored(RecordFault::KeySpent);
+    }
+    let id = session.view().id;
+    led_as(id, session.take_with(sealed, pad))
+}
+
+// A record for a session that awaits PSK_FINISH_RSP.
+fn take_finish(state: Finishing, sealed: &[u8]) -> (Slot, SessionLed)
+    ensures { (psk : List ℕ) (s : Steps) (pad : List ℕ) → IsFinishing state psk s
+        → IsStepped psk s AskFinish sealed.now pad (settled result.1 result.0) result.1 }
+{
+    let id = state.view().id;
+    match state.take(sealed) {
+        FinishTook::Open(open) => (
+            Slot::Live(open.into_session()),
+            SessionLed::Rests(Event::Done(Finished::Opened(id))),
+        ),
+        FinishTook::Bad(_, fault) => (Slot::Empty, SessionLed::Ends(Event::Lost(id, fault))),
+        FinishTook::Stay(state, fault) => (Slot::Finishing(state), SessionLed::Ignored(fault)),
+    }
+}
+
+impl Slot {
+    ghost use Rattle.std.specs.Prelude.{◌≡◌, ◌≤◌, ◌<◌, ◌-◌, ◌^◌, ℕ, List, None, Some, length};
+    ghost use Rattle.requester_core.specs.SessionLed.{IsStepped, settled};
+    ghost use Rattle.requester_core.specs.Slot.{IsFinishingSlot, IsSlotOf, shown_of};
+    ghost use Rattle.requester_core.specs.SlotSteps.{IsAcceptedBy, IsAskedOf};
+    ghost use Rattle.psk_session.specs.Data.{data_of};
+    ghost use Rattle.psk_session.specs.Opening.{started};
+    ghost use Rattle.psk_session.specs.Waiting.{IsNewest};
+    ghost use Rattle.requester_machine.specs.Message as message;
+    ghost use Rattle.requester_machine.specs.Order.{FitsWaits, IsOrdered, Waits, waiting_ask};
+    ghost use Rattle.requester_machine.specs.Order.Waits.{Rests};
+    ghost use Rattle.requester_machine.specs.Session.{Steps, is_live, request_epoch, response_epoch, taken_of};
+    ghost use Rattle.transcript.specs.Transcripts.{Negotiation};
+
+    /// Whether there is a session.
+    pub fn is_live(&self) -> bool
+        ensures { (psk : List ℕ) (s : Steps) → IsSlotOf self.now psk s → result ≡ is_live s }
+    {
+        !matches!(self, Slot::Empty)
+    }
+
+    /// The answer to PSK_EXCHANGE came, and PSK_FINISH has this padding.
+    pub(crate) fn accept(&mut self, answer: &[u8], pad: &[u8]) -> Result<(), OpenFault>
+        requires { length pad.now ≤ 16 }
+        ensures { (psk : List ℕ) (n : Negotiation) (exchange : List ℕ)
+            → IsSlotOf self.old psk (started n exchange)
+            → IsAcceptedBy psk n exchange answer.now pad.now self.new result }
+    {
+        match mem::replace(self, Slot::Empty) {
+            Slot::Opening(state) => match state.take_response_with(answer, pad) {
+                Ok(state) => {
+                    *self = Slot::Finishing(state);
+                    Ok(())
+                }
+                Err((state, fault)) => {
+                    *self = Slot::Opening(state);
+                    Err(fault)
+                }
+            },
+            other => {
+                *self = other;
+                Err(OpenFault::Malformed(1))
+            }
+        }
+    }
+
+    /// Asks something of the session.
+    pub(crate) fn ask(&mut self, ask: Ask<'_>, pad: &[u8]) -> Result<(), CommandFault>
+        requires { length pad.now ≤ 16 }
+        ensures { (psk : List ℕ) (s : Steps) → IsSlotOf self.old psk s → FitsWaits Rests s
+            → response_epoch s < 2 ^ 64 - 1
+            → IsAskedOf psk s ask.entry pad.now self.new result }
+    {
+        match self {
+            Slot::Live(session) => ask_of(session, ask, pad),
+            Slot::Empty => Err(CommandFault::NoSuchSession),
+            Slot::Opening(_) | Slot::Finishing(_) => Err(CommandFault::Busy),
+        }
+    }
+
+    // A record for the session.
+    pub(crate) fn take(&mut self, sealed: &[u8], pad: &[u8]) -> SessionLed
+        requires { length pad.now ≤ 16 }
+        ensures { (psk : List ℕ) (s : Steps) (a : message.Ask) → IsSlotOf self.old psk s
+            → waiting_ask s ≡ Some a → request_epoch s < 2 ^ 64 - 1 → taken_of s < 2 ^ 64
+            → IsStepped psk s a sealed.now pad.now self.new result }
+    {
+        let led = self.answer(sealed, pad);
+        self.settle(&led);
+        led
+    }
+
+    // Empties the slot where the session is gone.
+    fn settle(&mut self, led: &SessionLed)
+        ensures { self.new ≡ settled led.now self.old }
+    {
+        if led.is_end() {
+            *self = Slot::Empty;
+        }
+    }
+
+    // A record for the session, which stays in its slot.
+    fn answer(&mut self, sealed: &[u8], pad: &[u8]) -> SessionLed
+        requires { length pad.now ≤ 16 }
+        ensures { (psk : List ℕ) (s : Steps) (a : message.Ask) → IsSlotOf self.old psk s
+            → waiting_ask s ≡ Some a → request_epoch s < 2 ^ 64 - 1 → taken_of s < 2 ^ 64
+            → IsStepped psk s a sealed.now pad.now (settled result self.new) result }
+    {
+        match self {
+            Slot::Live(session) => step(session, sealed, pad),
+            Slot::Finishing(_) => self.finish(sealed),
+            Slot::Opening(_) => SessionLed::Ignored(RecordFault::KeySpent),
+            Slot::Empty => SessionLed::Ignored(RecordFault::KeySpent),
+        }
+    }
+
+    // A record for a session that awaits PSK_FINISH_RSP.
+    fn finish(&mut self, sealed: &[u8]) -> SessionLed
+        ensures { (psk : List ℕ) (s : Steps) (a : message.Ask) (pad : List ℕ)
+            → IsFinishingSlot self.old psk s → waiting_ask s ≡ Some a
+            → IsStepped psk s a sealed.now pad (settled result self.new) result }
+    {
+        match mem::replace(self, Slot::Empty) {
+            Slot::Finishing(state) => {
+                let (slot, led) = take_finish(state, sealed);
+                *self = slot;
+                led
+            }
+            other => {
+                *self = other;
+                SessionLed::Ignored(RecordFault::KeySpent)
+            }
+        }
+    }
+
+    /// The record that awaits its answer; no bytes where there is none.
+    pub fn record(&self) -> &[u8]
+        ensures newest { (psk : List ℕ) (s : Steps) (a : message.Ask) → IsSlotOf self.now psk s
+            → waiting_ask s ≡ Some a → IsNewest a result.now s }
+        ensures fits { length result.now ≤ 4160 }
+    {
+        match self {
+            Slot::Empty | Slot::Opening(_) => &[],
+            Slot::Finishing(state) => state.again(),
+            Slot::Live(session) => session.again(),
+        }
+    }
+
+    /// The application data or the measurement record of the last answer; no bytes where it had
+    /// none.
+    pub fn data(&self) -> &[u8]
+        ensures { (psk : List ℕ) (s : Steps) → IsSlotOf self.now psk s → waiting_ask s ≡ None
+            → result.now ≡ data_of s }
+    {
+        match self {
+            Slot::Empty | Slot::Opening(_) | Slot::Finishing(_) => &[],
+            Slot::Live(session) => session.data(),
+        }
+    }
+
+    /// The session as it is shown, from its PSK_EXCHANGE_RSP on.
+    pub fn view(&self) -> Option<SessionView>
+        ensures { (psk : List ℕ) (w : Waits) (s : Steps) → IsSlotOf self.now psk s → IsOrdered s
+            → FitsWaits w s → taken_of s < 2 ^ 64 → result ≡ shown_of s }
+    {
+        match self {
+            Slot::Empty | Slot::Opening(_) => None,
+            Slot::Finishing(state) => Some(state.view()),
+            Slot::Live(session) => Some(session.view()),
+        }
+    }
+}
+
+// Asks something of a session that is open.
+fn ask_of(session: &mut ReqSession, ask: Ask<'_>, pad: &[u8]) -> Result<(), CommandFault>
+    requires { length pad.now ≤ 16 }
+    ensures { (psk : List ℕ) (s : Steps) → IsResting session.old psk s
+        → response_epoch s < 2 ^ 64 - 1
+        → IsAskedOf psk s ask.entry pad.now (slot.Live session.new) result }
+{
+    if !session.is_open() {
+        return Err(CommandFault::Busy);
+    }
+    if session.response_epoch() == u64::MAX {
+        return Err(CommandFault::KeySpent);
+    }
+    match session.ask(ask, pad) {
+        Ok(()) => Ok(()),
+        Err(fault) => Err(fault_as(fault)),
+    }
+}

@@ -1,0 +1,163 @@
+ghost use Rattle.std.specs.Prelude.{◌≡◌, ◌≤◌, ◌<◌, ◌^◌, ◌-◌, ◌∷◌, ℕ, None, Some, false, length};
+ghost use Rattle.requester_core.specs.Free.{IsFree};
+ghost use Rattle.requester_core.specs.Joined.{IsCommanded, IsDone, StandsFor, command_of};
+ghost use Rattle.requester_core.specs.Setup.{IsSetUp};
+ghost use Rattle.requester_core.specs.Talk as talk;
+ghost use Rattle.psk_session.specs.AskLaws.{command_at};
+ghost use Rattle.requester_machine.specs.Asking.{asks};
+ghost use Rattle.requester_machine.specs.Commands.{Free};
+ghost use Rattle.requester_machine.specs.History.{History};
+ghost use Rattle.requester_machine.specs.May.{IsAllowed};
+ghost use Rattle.requester_machine.specs.Message.Command.{Connect, Measure, Open, Retry};
+ghost use Rattle.requester_machine.specs.Setup.{ReqSetup};
+ghost use Rattle.requester_machine.specs.UnderWay.{HasSizes};
+ghost use Rattle.spdm_machine.specs.Keys.{Draw};
+
+use crate::body::{write_clear, write_record};
+use crate::{Again, Asking, Body, Command, FreeValues, Setup};
+use psk_session::Ask;
+use spdm_basis::Psk;
+use spdm_grammar::CommandFault;
+
+impl Asking {
+    // Begins anew, whatever stands of the sessions.
+    pub(crate) fn connect(&mut self, out: &mut Body) -> u8
+        ensures { (q : ReqSetup) (h : History) (f : Free) (d : Draw)
+            → talk.Counts self.old.talk h → self.old.gathered.max ≡ q.max
+            → IsDone q h (asks false q h Connect f d) result out.new self.new }
+    {
+        let tag = self.talk.connect(&mut self.message);
+        self.sessions.clear();
+        write_clear(self.message.as_slice(), out);
+        tag
+    }
+
+    // Begins a session with a measurement summary of a kind.
+    fn open(
+        &mut self,
+        setup: &Setup<'_>,
+        psk: &Psk,
+        summary: u8,
+        free: &FreeValues<'_>,
+        out: &mut Body,
+    ) -> Result<u8, CommandFault>
+        requires least { 1 ≤ free.now.id }
+        requires most { free.now.id ≤ 4 }
+        ensures { (q : ReqSetup) (h : History) (f : Free) (d : Draw) → IsSetUp setup.now q
+            → q.psk ≡ psk.now → IsFree free.now f → IsAllowed q h f → StandsFor self.old q h
+            → IsCommanded q h (asks false q h (Open summary) f d) result out.new self.new }
+    {
+        let live = self.sessions.count();
+        match self
+            .talk
+            .open(setup, live, summary, free, &mut self.message)
+        {
+            Err(fault) => Err(fault),
+            Ok(tag) => {
+                self.sessions.open(&self.talk, psk, free.id, summary);
+                write_clear(self.message.as_slice(), out);
+                Ok(tag)
+            }
+        }
+    }
+
+    // Asks for measurements in the clear.
+    fn measure(&mut self, op: u8, out: &mut Body) -> Result<u8, CommandFault>
+        ensures { (q : ReqSetup) (h : History) (f : Free) (d : Draw) → HasSizes q
+            → StandsFor self.old q h
+            → IsCommanded q h (asks false q h (Measure None op) f d) result out.new self.new }
+    {
+        match self.talk.measure(op, &mut self.message) {
+            Err(fault) => Err(fault),
+            Ok(tag) => {
+                write_clear(self.message.as_slice(), out);
+                Ok(tag)
+            }
+        }
+    }
+
+    // Asks something of the session of this ReqSessionID, in a record with this padding.
+    fn ask(&mut self, id: u16, ask: Ask<'_>, pad: &[u8], out: &mut Body) -> Result<u8, CommandFault>
+        requires pad { length pad.now ≤ 16 }
+        ensures { (q : ReqSetup) (h : History) (f : Free) (d : Draw) → f.pad ≡ pad.now
+            → length h < 2 ^ 64 - 1 → StandsFor self.old q h
+            → IsCommanded q h (asks false q h (command_at id ask.entry) f d) result out.new
+            self.new }
+    {
+        if let Some(fault) = self.talk.session_fault() {
+            return Err(fault);
+        }
+        match self.sessions.ask(id, ask, pad) {
+            Err(fault) => Err(fault),
+            Ok(()) => {
+                let tag = self.talk.send_record(id);
+                write_record(self.sessions.record(), out);
+                Ok(tag)
+            }
+        }
+    }
+
+    // The outstanding message goes out again.
+    fn retry(&mut self, out: &mut Body) -> Result<u8, CommandFault>
+        ensures { (q : ReqSetup) (h : History) (f : Free) (d : Draw) → HasSizes q
+            → StandsFor self.old q h
+            → IsCommanded q h (asks false q h Retry f d) result out.new self.new }
+    {
+        let again = self.talk.retry(&mut self.message)?;
+        match again {
+            Again::InClear { tag } => {
+                write_clear(self.message.as_slice(), out);
+                Ok(tag)
+            }
+            Again::InSession { tag, .. } => {
+                write_record(self.sessions.record(), out);
+                Ok(tag)
+            }
+        }
+    }
+
+    /// Does a command, with these free values and with this padding of at most 16 bytes where a
+    /// record is sealed. The body that is sent is written in place of what `out` holds: the tag of
+    /// its message. The ReqSessionID of `free` is from 1 to 4. The faults come in the order of
+    /// `CommandFault`, without `Worn`; after a fault nothing has changed.
+    pub fn command(
+        &mut self,
+        setup: &Setup<'_>,
+        psk: &Psk,
+        command: Command<'_>,
+        free: &FreeValues<'_>,
+        pad: &[u8],
+        out: &mut Body,
+    ) -> Result<u8, CommandFault>
+        requires least { 1 ≤ free.now.id }
+        requires most { free.now.id ≤ 4 }
+        requires pad { length pad.now ≤ 16 }
+        ensures { (q : ReqSetup) (h : History) (f : Free) (d : Draw) → IsSetUp setup.now q
+            → q.psk ≡ psk.now → IsFree free.now f → f.pad ≡ pad.now → IsAllowed q h f
+            → length h < 2 ^ 64 - 1 → StandsFor self.old q h → IsCommanded q h
+            (asks false q h (command_of command.entry) f d) result out.new self.new }
+    {
+        match command {
+            Command::Connect => Ok(self.connect(out)),
+            Command::Open { summary } => self.open(setup, psk, summary, free, out),
+            Command::Measure { session: None, op } => self.measure(op, out),
+            Command::Retry => self.retry(out),
+            Command::Send { session, bytes } => {
+                self.ask(u16::from(session), Ask::Data(bytes), pad, out)
+            }
+            Command::Beat { session } => self.ask(u16::from(session), Ask::Beat, pad, out),
+            Command::Update { session, all: true } => {
+                self.ask(u16::from(session), Ask::UpdateAll, pad, out)
+            }
+            Command::Update {
+                session,
+                all: false,
+            } => self.ask(u16::from(session), Ask::UpdateKey, pad, out),
+            Command::Measure {
+                session: Some(session),
+                op,
+            } => self.ask(u16::from(session), Ask::Measure { op }, pad, out),
+            Command::End { session } => self.ask(u16::from(session), Ask::End, pad, out),
+        }
+    }
+}

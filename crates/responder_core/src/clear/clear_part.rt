@@ -1,0 +1,149 @@
+ghost use Rattle.std.specs.Prelude.{◌≡◌, ◌≤◌, [], ℕ, List, IfSome, is_some, true, false, length, slice_index};
+ghost use Rattle.responder_machine.specs.Answer.{Free, answer_bytes};
+ghost use Rattle.responder_machine.specs.History.{History};
+ghost use Rattle.responder_machine.specs.Place.{clear_place, held_of};
+ghost use Rattle.responder_machine.specs.Refusal as refusals;
+ghost use Rattle.responder_machine.specs.Responder as responder;
+ghost use Rattle.responder_machine.specs.Setup.{RspSetup};
+ghost use Rattle.spdm_grammar.specs.declared.told.heard.Heard.TheVariants as hearing;
+ghost use Rattle.spdm_grammar.specs.declared.names.TheConstants.{MAX_MESSAGE_SIZE};
+ghost use Rattle.spdm_machine.specs.Keys.{Draw};
+ghost use Rattle.responder_core.specs.ClearPart.{IsAnswered, IsBeginning, IsTold, StandsFor};
+ghost use Rattle.responder_core.specs.Coming.{exchange_bytes, exchange_place};
+ghost use Rattle.responder_core.specs.Free.{IsFree};
+ghost use Rattle.responder_core.specs.Setup.{IsSetUp};
+
+use crate::clear::handling::replace;
+use crate::{Begun, Came, FreeValues, KeptReply, Requests, Setup, Told};
+use spdm_basis::Frame;
+use spdm_grammar::Heard;
+use std::marker::Model;
+
+/// The clear part of a responder's connection with one requester: what it keeps of the requests, and the kept
+/// reply. It lies in place, and takes no memory.
+#[derive(Drop)]
+pub struct ClearPart {
+    pub(crate) requests: Requests,
+    pub(crate) kept: KeptReply,
+}
+
+impl Model for ClearPart {
+    ghost use Rattle.responder_core.specs.ClearPart.{Seen};
+
+    ghost Value = { Seen };
+
+    ghost view = { λ c. record { requests = c.requests; kept = c.kept } };
+}
+
+// The request code of a message of at least two bytes; 0 for a shorter one.
+pub fn code_at(message: &[u8]) -> u8
+    ensures { result ≡ refusals.code_of message.now }
+{
+    match message {
+        [_, code, ..] => *code,
+        _ => 0,
+    }
+}
+
+impl ClearPart {
+    /// Where nothing came yet.
+    pub fn new(setup: &Setup<'_>) -> ClearPart
+        ensures { (r : RspSetup) → IsSetUp setup.now r → StandsFor result r [] }
+    {
+        ClearPart {
+            requests: Requests::new(setup),
+            kept: KeptReply::new(),
+        }
+    }
+
+    /// An equal one where no large answer is pending; none where one is.
+    pub fn idle_copy(&self) -> Option<ClearPart>
+        ensures same { IfSome result (λ copy. copy ≡ self.now) }
+        ensures idle { (r : RspSetup) (h : History) → StandsFor self.now r h
+            → refusals.has_pending (clear_place h) ≡ false → is_some result ≡ true }
+    {
+        let requests = self.requests.idle_copy()?;
+        Some(ClearPart {
+            requests,
+            kept: self.kept.copy(),
+        })
+    }
+
+    /// What is kept of the requests.
+    pub fn requests(&self) -> &Requests
+        ensures { result.now ≡ self.now.requests }
+    {
+        &self.requests
+    }
+
+    /// Whether a message with this tag is the last one that was not refused.
+    pub fn is_repeat(&self, tag: u8, message: &[u8]) -> bool
+        ensures { result ≡ responder.is_repeat self.now.kept tag message.now }
+    {
+        self.kept.is_repeat(tag, message)
+    }
+
+    /// A clear message came with a tag, beside so many sessions past their handshake. The message that answers
+    /// it is written in place of what `out` holds: a repeat gets the kept reply. Where it begins a session
+    /// nothing is sent yet: `begin` ends its turn.
+    pub fn on_clear(
+        &mut self,
+        setup: &Setup<'_>,
+        held: u8,
+        tag: u8,
+        message: &[u8],
+        free: &FreeValues<'_>,
+        out: &mut Frame,
+    ) -> Told
+        ensures { (r : RspSetup) (h : History) (f : Free) (d : Draw) → IsSetUp setup.now r
+            → IsFree free.now f → StandsFor self.old r h → held_of h ≡ held
+            → IsTold r h tag message.now f d result self.new out.new }
+    {
+        if self.kept.is_repeat(tag, message) {
+            replace(out, self.kept.reply());
+            return Told::Heard {
+                heard: Heard::Same,
+                drawn: false,
+            };
+        }
+        match self.requests.on_request(setup, held, message, free, out) {
+            Came::Refused(code) => Told::Heard {
+                heard: Heard::Refused(code.number()),
+                drawn: false,
+            },
+            Came::Answered { drawn } => {
+                self.kept.keep(tag, message, out.as_slice());
+                Told::Heard {
+                    heard: Heard::Answered(code_at(message)),
+                    drawn,
+                }
+            }
+            Came::Begins(begun) => Told::Begins(begun),
+        }
+    }
+
+    /// Ends the turn of a clear message that begins a session, with PSK_EXCHANGE_RSP whole, of at most 4,096
+    /// bytes, and with this handle where it goes by chunks. The message that is sent is written in place of
+    /// what `out` holds.
+    pub fn begin(
+        &mut self,
+        begun: Begun,
+        tag: u8,
+        message: &[u8],
+        answer: &[u8],
+        handle: u8,
+        out: &mut Frame,
+    )
+        requires { length answer.now ≤ MAX_MESSAGE_SIZE }
+        ensures { (r : RspSetup) (h : History) (f : Free) (d : Draw) → f.handle ≡ handle
+            → r.transfer ≤ r.max → r.max ≤ MAX_MESSAGE_SIZE
+            → IsBeginning r h tag message.now f begun self.old
+            → answer.now ≡ answer_bytes r (exchange_place begun (clear_place h))
+            (exchange_bytes begun message.now self.old.requests) f
+            → IsAnswered r h tag message.now f d
+            (hearing.Answered (refusals.code_of message.now)) self.new out.new }
+    {
+        self.requests.begin(begun, answer, handle, out);
+        self.kept.keep(tag, message, out.as_slice());
+    }
+}

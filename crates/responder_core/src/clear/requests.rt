@@ -1,0 +1,256 @@
+ghost use Rattle.std.specs.Prelude.{◌≡◌, ◌≤◌, ◌∷◌, [], true, false, None, Some, IfSome, is_some, ℕ, List, length};
+ghost use Rattle.chunking.specs.Collecting.{accepted_with, collected, joined, told_size, under_way};
+ghost use Rattle.chunking.specs.Keeping as keeping;
+ghost use Rattle.responder_machine.specs.Answer.{Free, answer_bytes, request_at};
+ghost use Rattle.responder_machine.specs.LargeMessages.{chunks_of};
+ghost use Rattle.responder_machine.specs.Laws.{completed_at};
+ghost use Rattle.responder_machine.specs.Place as places;
+ghost use Rattle.responder_machine.specs.Place.Where.{InClear};
+ghost use Rattle.responder_machine.specs.Refusal.{chunk_fault, has_pending, refusal, refused_form};
+ghost use Rattle.responder_machine.specs.Setup.{RspSetup};
+ghost use Rattle.responder_machine.specs.Turn.{Turn};
+ghost use Rattle.spdm_grammar.specs.Message.{chunk_message};
+ghost use Rattle.spdm_grammar.specs.Message.RequestMessage.{ChunkSend};
+ghost use Rattle.spdm_grammar.specs.declared.names.TheConstants.{MAX_MESSAGE_SIZE};
+ghost use Rattle.responder_core.specs.Coming.{Completes, IsBegun, IsCome, IsTakenTurn, IsTurned, StandsFor, exchange_bytes, exchange_place};
+ghost use Rattle.responder_core.specs.Free.{IsFree};
+ghost use Rattle.responder_core.specs.Refused.{chunk_refusal};
+ghost use Rattle.responder_core.specs.Setup.{IsSetUp};
+ghost use Rattle.responder_core.specs.Standing as standings;
+ghost use Rattle.responder_core.specs.Standing.{place_at};
+
+use crate::clear::answers::write_acknowledgement;
+use crate::clear::clear_part::code_at;
+use crate::clear::gathering::{Gathered, gather};
+use crate::{Begun, Came, FreeValues, Handled, Setup, Standing};
+use chunking::Collector;
+use responder_rules::Where;
+use spdm_basis::Frame;
+use spdm_grammar::names::request_code::GET_MEASUREMENTS;
+use spdm_grammar::{ChunkFault, ChunkView, ErrorCode};
+use std::marker::Model;
+
+/// The requests of the clear part of a connection: how it stands, and the large request that comes by chunks.
+#[derive(Drop)]
+pub struct Requests {
+    pub(crate) standing: Standing,
+    pub(crate) collector: Collector,
+    whole: Frame,
+}
+
+impl Model for Requests {
+    ghost use Rattle.responder_core.specs.Coming.{Seen};
+
+    ghost Value = { Seen };
+
+    ghost view = { λ q. record {
+      standing = q.standing;
+      collector = q.collector;
+      whole = q.whole;
+    } };
+}
+
+// The code for which a chunk is refused that breaks a rule of collecting.
+fn code_of_fault(fault: ChunkFault) -> ErrorCode
+    ensures { chunk_refusal (Some fault) ≡ Some result }
+{
+    match fault {
+        ChunkFault::TooLarge => ErrorCode::RequestTooLarge,
+        _ => ErrorCode::InvalidRequest,
+    }
+}
+
+impl Requests {
+    /// Where no request came yet.
+    pub fn new(setup: &Setup<'_>) -> Requests
+        ensures { (r : RspSetup) → IsSetUp setup.now r → StandsFor result r [] }
+    {
+        Requests {
+            standing: Standing::new(),
+            collector: Collector::new(setup.max),
+            whole: Frame::new(),
+        }
+    }
+
+    /// An equal one where no large answer is pending; none where one is.
+    pub fn idle_copy(&self) -> Option<Requests>
+        ensures same { IfSome result (λ copy. copy ≡ self.now) }
+        ensures idle { (at : places.Where) (turns : List Turn) (held : ℕ)
+            → standings.StandsFor self.now.standing turns
+            → has_pending (place_at at turns held) ≡ false → is_some result ≡ true }
+    {
+        let standing = self.standing.idle_copy()?;
+        let mut whole = Frame::new();
+        let _ = whole.extend(self.whole.as_slice());
+        Some(Requests {
+            standing,
+            collector: self.collector.copy(),
+            whole,
+        })
+    }
+
+    /// The large request that was completed last.
+    pub fn whole(&self) -> &[u8]
+        ensures value { result.now ≡ self.now.whole }
+        ensures fits { length result.now ≤ MAX_MESSAGE_SIZE }
+    {
+        self.whole.as_slice()
+    }
+
+    /// The bytes so far of the large request that comes by chunks; none where none does.
+    pub fn under_way(&self) -> &[u8]
+        ensures { (r : RspSetup) (turns : List Turn) → StandsFor self.now r turns
+            → result.now ≡ joined (under_way (chunks_of turns)) }
+    {
+        self.collector.under_way()
+    }
+
+    /// How the clear part stands.
+    pub fn standing(&self) -> &Standing
+        ensures { result.now ≡ self.now.standing }
+    {
+        &self.standing
+    }
+
+    /// The length that the large request under way tells; 0 where none is.
+    pub fn told(&self) -> u32
+        ensures value { (r : RspSetup) (turns : List Turn) → StandsFor self.now r turns
+            → result ≡ told_size (under_way (chunks_of turns)) }
+        ensures fits { result ≤ MAX_MESSAGE_SIZE }
+    {
+        self.collector.told()
+    }
+
+    // A large request was completed: what is sent for it goes into the acknowledgement of its last chunk.
+    fn on_whole(
+        &mut self,
+        setup: &Setup<'_>,
+        held: u8,
+        chunk: ChunkView<'_>,
+        free: &FreeValues<'_>,
+        out: &mut Frame,
+    ) -> Came
+        ensures { (r : RspSetup) (turns : List Turn) (m : List ℕ) (f : Free) → IsSetUp setup.now r
+            → IsFree free.now f
+            → Completes r (place_at InClear turns held) m f (chunk_message chunk.entry) self.old
+            → IsCome r (place_at InClear turns held) m f result self.new out.new }
+    {
+        let mut response = Frame::new();
+        let whole = self.whole.as_slice();
+        match self
+            .standing
+            .handle(Where::InChunks, setup, held, whole, free, &mut response)
+        {
+            Handled::Refused(_) => {
+                self.standing.take_nothing();
+                write_acknowledgement(chunk.handle, chunk.number, response.as_slice(), out);
+                Came::Answered { drawn: false }
+            }
+            Handled::Answered => {
+                let drawn = code_at(whole) == GET_MEASUREMENTS;
+                write_acknowledgement(chunk.handle, chunk.number, response.as_slice(), out);
+                Came::Answered { drawn }
+            }
+            Handled::Exchange(_) => Came::Begins(Begun::InChunks {
+                handle: chunk.handle,
+                number: chunk.number,
+            }),
+            // No chunk comes inside a large request.
+            Handled::Chunk(_) => Came::Answered { drawn: false },
+        }
+    }
+
+    // A chunk came that is refused for no more than for the chunks before it.
+    fn on_chunk(
+        &mut self,
+        setup: &Setup<'_>,
+        held: u8,
+        chunk: ChunkView<'_>,
+        message: &[u8],
+        free: &FreeValues<'_>,
+        out: &mut Frame,
+    ) -> Came
+        ensures { (r : RspSetup) (turns : List Turn) (f : Free) → IsSetUp setup.now r
+            → IsFree free.now f → StandsFor self.old r turns
+            → refused_form r (place_at InClear turns held) message.now ≡ None
+            → request_at (place_at InClear turns held) message.now
+            ≡ Some (ChunkSend (chunk_message chunk.entry))
+            → refusal r (place_at InClear turns held) message.now f ≡ chunk_refusal (chunk_fault r
+            (place_at InClear turns held) (Some (ChunkSend (chunk_message chunk.entry))))
+            → IsCome r (place_at InClear turns held) message.now f result self.new out.new }
+    {
+        match gather(&mut self.collector, chunk, &mut self.whole) {
+            Gathered::Refused(fault) => {
+                let code = code_of_fault(fault);
+                let place = self.standing.place(Where::InClear);
+                place.write_error(code, message, 0, out);
+                Came::Refused(code)
+            }
+            Gathered::More => {
+                self.standing.take_nothing();
+                write_acknowledgement(chunk.handle, chunk.number, &[], out);
+                Came::Answered { drawn: false }
+            }
+            Gathered::Whole => self.on_whole(setup, held, chunk, free, out),
+        }
+    }
+
+    /// Handles a request in the clear that is no repeat, beside so many sessions past their handshake. What is
+    /// sent is written in place of what `out` holds. Where it begins a session nothing is sent yet: `begin`
+    /// ends the turn.
+    pub fn on_request(
+        &mut self,
+        setup: &Setup<'_>,
+        held: u8,
+        message: &[u8],
+        free: &FreeValues<'_>,
+        out: &mut Frame,
+    ) -> Came
+        ensures { (r : RspSetup) (turns : List Turn) (f : Free) → IsSetUp setup.now r
+            → IsFree free.now f → StandsFor self.old r turns
+            → IsCome r (place_at InClear turns held) message.now f result self.new out.new }
+    {
+        match self
+            .standing
+            .handle(Where::InClear, setup, held, message, free, out)
+        {
+            Handled::Refused(code) => Came::Refused(code),
+            Handled::Answered => {
+                self.collector.clear();
+                Came::Answered {
+                    drawn: code_at(message) == GET_MEASUREMENTS,
+                }
+            }
+            Handled::Exchange(_) => Came::Begins(Begun::InClear),
+            Handled::Chunk(chunk) => self.on_chunk(setup, held, chunk, message, free, out),
+        }
+    }
+
+    /// Ends the turn of a PSK_EXCHANGE that begins a session, with PSK_EXCHANGE_RSP whole: what is sent for it
+    /// is written in place of what `out` holds, with this handle where it goes by chunks.
+    pub fn begin(&mut self, begun: Begun, answer: &[u8], handle: u8, out: &mut Frame)
+        requires { length answer.now ≤ MAX_MESSAGE_SIZE }
+        ensures { (r : RspSetup) (turns : List Turn) (held : ℕ) (m : List ℕ) (f : Free)
+            → f.handle ≡ handle → r.transfer ≤ r.max → r.max ≤ MAX_MESSAGE_SIZE
+            → IsBegun r (place_at InClear turns held) m f begun self.old
+            → answer.now ≡ answer_bytes r (exchange_place begun (place_at InClear turns held))
+            (exchange_bytes begun m self.old) f
+            → IsTakenTurn r (place_at InClear turns held) m f self.new out.new }
+    {
+        match begun {
+            Begun::InClear => {
+                self.standing.begin(Where::InClear, answer, handle, out);
+                self.collector.clear();
+            }
+            Begun::InChunks {
+                handle: of_chunk,
+                number,
+            } => {
+                let mut response = Frame::new();
+                self.standing
+                    .begin(Where::InChunks, answer, handle, &mut response);
+                write_acknowledgement(of_chunk, number, response.as_slice(), out);
+            }
+        }
+    }
+}

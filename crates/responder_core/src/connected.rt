@@ -1,0 +1,206 @@
+ghost use Rattle.std.specs.Prelude.{◌≡◌};
+ghost use Rattle.responder_core.specs.Connected.{queue_left, tells_measured};
+
+use crate::clear::clear_part::code_at;
+use crate::{Begun, ClearPart, FreeValues, Sessions, Setup, Told};
+use responder_session::{AppQueue, QueueFault, RecordFree, Work};
+use spdm_basis::{Frame, RecordFrame};
+use spdm_grammar::Heard;
+use spdm_grammar::names::request_code::GET_MEASUREMENTS;
+
+/// A responder's connection with one requester (DSP0274, section 10), with every free value handed in: the
+/// clear part, the sessions by RspSessionID, and the application data that waits to be sent in answer. It lies
+/// in place, and takes no memory.
+#[derive(Drop)]
+pub struct Connection {
+    pub(crate) clear: ClearPart,
+    pub(crate) sessions: Sessions,
+    pub(crate) queue: AppQueue,
+    // Whether the body that came last took a draw.
+    pub(crate) drawn: bool,
+}
+
+// Application data that was taken uses up what waits first.
+fn use_up(queue: &mut AppQueue, heard: Heard)
+    ensures { queue.new ≡ queue_left heard queue.old }
+{
+    if let Heard::Taken(_) = heard {
+        queue.advance();
+    }
+}
+
+// Whether what is told of a record tells GET_MEASUREMENTS, which takes a draw.
+fn tells_measured(heard: Heard) -> bool
+    ensures { result ≡ tells_measured heard }
+{
+    match heard {
+        Heard::Answered(code) => code == GET_MEASUREMENTS,
+        _ => false,
+    }
+}
+
+impl Connection {
+    ghost use Rattle.std.specs.Prelude.{◌≡◌, ◌≤◌, ◌<◌, ◌^◌, ◌-◌, ◌∷◌, [], ℕ, List, None, Some, MatchResult, length};
+    ghost use Rattle.responder_machine.specs.Answer.{Free};
+    ghost use Rattle.responder_machine.specs.BoundLaws.{messages_of};
+    ghost use Rattle.responder_machine.specs.History.{History, queue_of};
+    ghost use Rattle.responder_machine.specs.History.Entry.{Dropped, Queued, Ticked};
+    ghost use Rattle.responder_machine.specs.May.{IsAllowed};
+    ghost use Rattle.responder_machine.specs.Place.{clear_place};
+    ghost use Rattle.responder_machine.specs.Responder.{on_clear, on_record};
+    ghost use Rattle.responder_machine.specs.Setup.{RspSetup};
+    ghost use Rattle.responder_session.specs.Deeds.{AreFree};
+    ghost use Rattle.responder_session.specs.Queue.{queue_fault};
+    ghost use Rattle.spdm_machine.specs.Bodies.{clear_body};
+    ghost use Rattle.spdm_machine.specs.Keys.{Draw};
+    ghost use Rattle.responder_core.specs.ClearPart.{IsBeginning, is_drawn};
+    ghost use Rattle.responder_core.specs.Connected.{IsDone, StandsBeside, StandsFor};
+    ghost use Rattle.responder_core.specs.Free.{IsFree};
+    ghost use Rattle.responder_core.specs.Harmless.{IsClearHarmless, IsRecordHarmless};
+    ghost use Rattle.responder_core.specs.Sessions.{body_by};
+    ghost use Rattle.responder_core.specs.Setup.{IsSetUp};
+
+    /// Where nothing came yet.
+    pub fn new(setup: &Setup<'_>) -> Connection
+        ensures { (r : RspSetup) → IsSetUp setup.now r → StandsFor result r [] }
+    {
+        Connection {
+            clear: ClearPart::new(setup),
+            sessions: Sessions::new(),
+            queue: AppQueue::new(),
+            drawn: false,
+        }
+    }
+
+    /// A clear message came with a tag, and its answer has these free values. The message that answers it is
+    /// written in place of what `out` holds. The id is from 1 to 4; the context is at least as long as the
+    /// chosen hash. A refused message, and one that comes again, changes no session and nothing else.
+    pub fn on_clear(
+        &mut self,
+        setup: &Setup<'_>,
+        tag: u8,
+        message: &[u8],
+        free: &FreeValues<'_>,
+        out: &mut Frame,
+    ) -> Heard
+        requires least { 1 ≤ free.now.id }
+        requires most { free.now.id ≤ 4 }
+        ensures done { (r : RspSetup) (h : History) (f : Free) (d : Draw) → IsSetUp setup.now r
+            → IsFree free.now f → IsAllowed h (clear_place h) f → StandsFor self.old r h
+            → IsDone r h (on_clear r h tag message.now f d) result (clear_body out.new) self.new }
+        ensures drawn { (r : RspSetup) (h : History) (f : Free) (d : Draw) → IsSetUp setup.now r
+            → IsFree free.now f → IsAllowed h (clear_place h) f → StandsFor self.old r h
+            → self.new.drawn ≡ is_drawn (on_clear r h tag message.now f d) }
+        ensures harmless { (r : RspSetup) (h : History) (f : Free) (d : Draw)
+            → IsSetUp setup.now r → IsFree free.now f → IsAllowed h (clear_place h) f
+            → StandsFor self.old r h
+            → IsClearHarmless r h tag message.now f d result out.new }
+    {
+        let held = self.sessions.held();
+        match self.clear.on_clear(setup, held, tag, message, free, out) {
+            Told::Heard { heard, drawn } => {
+                self.sessions.follow(heard);
+                self.drawn = drawn;
+                heard
+            }
+            Told::Begins(begun) => self.begin(begun, setup, tag, message, free, out),
+        }
+    }
+
+    // Ends the turn of a clear message that begins a session.
+    fn begin(
+        &mut self,
+        begun: Begun,
+        setup: &Setup<'_>,
+        tag: u8,
+        message: &[u8],
+        free: &FreeValues<'_>,
+        out: &mut Frame,
+    ) -> Heard
+        requires least { 1 ≤ free.now.id }
+        requires most { free.now.id ≤ 4 }
+        ensures done { (r : RspSetup) (h : History) (f : Free) (d : Draw) → IsSetUp setup.now r
+            → IsFree free.now f → IsAllowed h (clear_place h) f
+            → IsBeginning r h tag message.now f begun self.old.clear → StandsBeside self.old r h
+            → IsDone r h (on_clear r h tag message.now f d) result (clear_body out.new) self.new }
+        ensures drawn { (r : RspSetup) (h : History) (f : Free) (d : Draw) → IsSetUp setup.now r
+            → IsFree free.now f → IsAllowed h (clear_place h) f
+            → IsBeginning r h tag message.now f begun self.old.clear → StandsBeside self.old r h
+            → self.new.drawn ≡ is_drawn (on_clear r h tag message.now f d) }
+    {
+        let mut answer = Frame::new();
+        let session = self.clear.start(begun, setup, message, free, &mut answer);
+        let bytes = answer.as_slice();
+        self.clear
+            .begin(begun, tag, message, bytes, free.handle, out);
+        self.sessions.begin(free.id, session, bytes);
+        self.drawn = true;
+        Heard::Answered(code_at(message))
+    }
+
+    /// A record came, and its answer has these free values. The record that answers, or ERROR DecryptError in
+    /// the clear, is written in place of what `out` holds. The nonce has 32 bytes, the opaque data and the reply
+    /// at most 1,024, and the padding at most 16. Application data that is taken uses up what waits first.
+    pub fn on_record(
+        &mut self,
+        setup: &Setup<'_>,
+        sealed: &[u8],
+        free: &RecordFree<'_>,
+        work: &mut Work,
+        out: &mut RecordFrame,
+    ) -> Heard
+        requires nonce { length free.now.nonce.now ≡ 32 }
+        requires opaque { length free.now.opaque.now ≤ 1024 }
+        requires reply { length free.now.reply.now ≤ 1024 }
+        requires pad { length free.now.pad.now ≤ 16 }
+        ensures done { (r : RspSetup) (h : History) (tag : ℕ) (f : Free) (d : Draw)
+            → IsSetUp setup.now r → AreFree free.now f → messages_of h < 2 ^ 64 - 1
+            → StandsFor self.old r h → IsDone r h (on_record r h tag sealed.now f d) result
+            (body_by result out.new) self.new }
+        ensures drawn { (r : RspSetup) (h : History) (tag : ℕ) (f : Free) (d : Draw)
+            → IsSetUp setup.now r → AreFree free.now f → messages_of h < 2 ^ 64 - 1
+            → StandsFor self.old r h
+            → self.new.drawn ≡ is_drawn (on_record r h tag sealed.now f d) }
+        ensures harmless { (r : RspSetup) (h : History) (tag : ℕ) (f : Free) (d : Draw)
+            → IsSetUp setup.now r → AreFree free.now f → messages_of h < 2 ^ 64 - 1
+            → StandsFor self.old r h
+            → IsRecordHarmless r h tag sealed.now f d result out.new }
+    {
+        let phase = self.clear.standing().phase();
+        let heard = self
+            .sessions
+            .on_record(phase, sealed, setup.inventory, free, work, out);
+        use_up(&mut self.queue, heard);
+        self.drawn = tells_measured(heard);
+        heard
+    }
+
+    /// Application data waits to be sent in answer. A refusal changes nothing.
+    pub fn queue(&mut self, bytes: &[u8]) -> Result<(), QueueFault>
+        ensures fault { (r : RspSetup) (h : History) → StandsFor self.old r h
+            → MatchResult result (λ _. queue_fault (queue_of h) bytes.now ≡ None)
+            (λ fault. queue_fault (queue_of h) bytes.now ≡ Some fault) }
+        ensures stands { (r : RspSetup) (h : History) → StandsFor self.old r h
+            → MatchResult result (λ _. StandsFor self.new r (Queued bytes.now ∷ h))
+            (λ _. StandsFor self.new r h) }
+    {
+        self.queue.push(bytes)
+    }
+
+    /// Seconds pass: a session past its handshake that has waited for twice its HeartbeatPeriod is gone
+    /// (DSP0274, "HEARTBEAT").
+    pub fn tick(&mut self, seconds: u32)
+        ensures { (r : RspSetup) (h : History) → StandsFor self.old r h
+            → StandsFor self.new r (Ticked seconds ∷ h) }
+    {
+        self.sessions.tick(seconds);
+    }
+
+    /// The session of this RspSessionID was dropped unseen, as a capture may show.
+    pub fn drop_unseen(&mut self, id: u16)
+        ensures { (r : RspSetup) (h : History) → StandsFor self.old r h
+            → StandsFor self.new r (Dropped id ∷ h) }
+    {
+        self.sessions.drop_unseen(id);
+    }
+}

@@ -1,0 +1,6 @@
+//! The sessions of a connection and their records.
+
+pub mod ended;
+pub mod live;
+pub mod records;
+pub mod sessions;

@@ -1,0 +1,410 @@
+ghost use Rattle.std.specs.Prelude.{◌≡◌, ◌≤◌};
+ghost use Rattle.responder_core.specs.Sessions.{tells_version};
+ghost use Rattle.responder_session.specs.Laws.{told_as};
+ghost use Rattle.spdm_machine.specs.Sessions.{one_if};
+
+use crate::in_sessions::records::{record_id, replace_record, write_decrypt_error};
+use crate::{EndedRecord, Live};
+use measurements::Inventory;
+use responder_session::{RecordFree, RspAct, RspSession, RspTold, Work};
+use spdm_basis::{RecordFrame, SessionId};
+use spdm_grammar::names::request_code::GET_VERSION;
+use spdm_grammar::{Heard, Phase, SessionView};
+
+/// The sessions of a connection: a slot for each RspSessionID from 1 to 4, and the last record of
+/// the one ended session. They lie in place.
+#[derive(Drop)]
+pub struct Sessions {
+    pub(crate) slots: [Option<Live>; 4],
+    pub(crate) ended: EndedRecord,
+}
+
+// How the responder tells what a record of this session did.
+fn heard_as(id: SessionId, act: RspAct) -> Heard
+    ensures { result ≡ told_as id act }
+{
+    match act {
+        RspAct::Answered(code) => Heard::Answered(code),
+        RspAct::Data => Heard::Taken(id),
+        RspAct::Refused(code) => Heard::Refused(code),
+    }
+}
+
+// Whether an answer tells GET_VERSION.
+fn tells_version(heard: Heard) -> bool
+    ensures { result ≡ tells_version heard }
+{
+    match heard {
+        Heard::Answered(code) => code == GET_VERSION,
+        _ => false,
+    }
+}
+
+// 1 where a test holds, and 0 where it does not.
+fn one_if(holds: bool) -> u8
+    ensures value { result ≡ one_if holds }
+    ensures most { result ≤ 1 }
+{
+    if holds { 1 } else { 0 }
+}
+
+impl Sessions {
+    ghost use Rattle.std.specs.Prelude.{◌≡◌, ◌≢◌, ◌≤◌, ◌<◌, ◌^◌, ◌-◌, ◌∷◌, [], None, Some, ℕ, List, MatchOption, true, length};
+    ghost use Rattle.responder_machine.specs.Answer.{Free};
+    ghost use Rattle.responder_machine.specs.BoundLaws.{messages_of};
+    ghost use Rattle.responder_machine.specs.History.{History, clear_turns, phase_of};
+    ghost use Rattle.responder_machine.specs.History.Entry.{Clear, Dropped, Ticked};
+    ghost use Rattle.responder_machine.specs.Heard.{heard_of};
+    ghost use Rattle.responder_machine.specs.Place.{free_id, held_of};
+    ghost use Rattle.responder_machine.specs.Responder.{after, on_clear};
+    ghost use Rattle.responder_machine.specs.Turn.{Turn, takes};
+    ghost use Rattle.responder_core.specs.ClearPart.{BeginsNone};
+    ghost use Rattle.responder_core.specs.Beginning.{IsBeginningAt, held_part};
+    ghost use Rattle.responder_machine.specs.LargeMessages.{next_handle};
+    ghost use Rattle.responder_machine.specs.Session.{Events, after_tick, session_of, turns_of};
+    ghost use Rattle.responder_session.specs.Data.{data_of};
+    ghost use Rattle.responder_machine.specs.Setup.{RspSetup, inventory_of};
+    ghost use Rattle.responder_session.specs.Deeds.{AreFree};
+    ghost use Rattle.responder_session.specs.Updates.{HasEpochs};
+    ghost use Rattle.spdm_grammar.specs.declared.names.request_code.TheConstants.{GET_VERSION};
+    ghost use Rattle.spdm_machine.specs.Keys.{Draw};
+    ghost use Rattle.responder_core.specs.Live.{IsSlotOf, IsTakenIn};
+    ghost use Rattle.responder_core.specs.Sessions.{IsAnswered, IsDelivered, IsViewOf, StandsFor, is_held_in, slot_of};
+    ghost use Rattle.responder_core.specs.declared.in_sessions.live.Live.{Live};
+    ghost use Rattle.responder_session.specs.Session.{IsEnded};
+
+    /// No sessions.
+    pub fn new() -> Sessions
+        ensures { (r : RspSetup) → StandsFor result r [] }
+    {
+        Sessions {
+            slots: [None, None, None, None],
+            ended: EndedRecord::none(),
+        }
+    }
+
+    // A record for the session of this RspSessionID; none where there is none.
+    fn take(
+        &mut self,
+        id: u16,
+        sealed: &[u8],
+        inventory: &Inventory,
+        free: &RecordFree<'_>,
+        work: &mut Work,
+        out: &mut RecordFrame,
+    ) -> Option<RspTold>
+        requires nonce { length free.now.nonce.now ≡ 32 }
+        requires opaque { length free.now.opaque.now ≤ 1024 }
+        requires reply { length free.now.reply.now ≤ 1024 }
+        requires pad { length free.now.pad.now ≤ 16 }
+        ensures taken { (r : RspSetup) (s : Events) (f : Free) → AreFree free.now f → HasEpochs s
+            → inventory_of r ≡ inventory.now → IsSlotOf (slot_of self.old id) r s
+            → IsTakenIn r s f sealed.now (slot_of self.new id) result out.new }
+        ensures others { (i : ℕ) → i ≢ id → slot_of self.new i ≡ slot_of self.old i }
+        ensures ended { self.new.ended ≡ self.old.ended }
+    {
+        if id == 0 || id > 4 {
+            return None;
+        }
+        match &mut self.slots[usize::from(id) - 1] {
+            Some(live) => Some(live.take(sealed, inventory, free, work, out)),
+            None => None,
+        }
+    }
+
+    // Where END_SESSION ended the session of this RspSessionID, its last record and reply are kept
+    // apart, and its slot is empty.
+    fn settle(&mut self, id: u16, sealed: &[u8], reply: &[u8])
+        requires reply { length reply.now ≤ 4160 }
+        ensures live { (r : RspSetup) (s : Events) → IsSlotOf (slot_of self.old id) r s
+            → self.new ≡ self.old }
+        ensures gone { (kept : Live) (bytes : List ℕ) → slot_of self.old id ≡ Some kept
+            → IsEnded kept.session bytes sealed.now reply.now → length sealed.now ≤ 4160
+            → (slot_of self.new id ≡ None)
+            × (self.new.ended ≡ Some (record { sealed = sealed.now; reply = reply.now })) }
+        ensures others { (i : ℕ) → i ≢ id → slot_of self.new i ≡ slot_of self.old i }
+    {
+        if id == 0 || id > 4 {
+            return;
+        }
+        let index = usize::from(id) - 1;
+        let is_ended = match &self.slots[index] {
+            Some(live) => live.is_ended(),
+            None => false,
+        };
+        if is_ended {
+            self.ended.keep(sealed, reply);
+            self.slots[index] = None;
+        }
+    }
+
+    // Ends the turn of a record of which this is told: what is sent is written.
+    fn answer(&mut self, phase: Phase, told: RspTold, sealed: &[u8], out: &mut RecordFrame) -> Heard
+        ensures { (r : RspSetup) (h : History) (tag : ℕ) (f : Free) (d : Draw)
+            → phase ≡ phase_of (clear_turns h)
+            → IsDelivered r h sealed.now f (Some told) self.old out.old
+            → IsAnswered r h tag sealed.now f d result self.new out.new }
+    {
+        let id = record_id(sealed);
+        match told {
+            RspTold::Moved(act) => {
+                self.settle(id.rsp, sealed, out.as_slice());
+                heard_as(id, act)
+            }
+            RspTold::Same => Heard::Same,
+            RspTold::Unopened(_) => {
+                write_decrypt_error(phase, out);
+                Heard::Unopened
+            }
+        }
+    }
+
+    /// A record came in this phase of the connection, and its answer has these free values. The
+    /// record that answers, or ERROR DecryptError in the clear, is written in place of what `out`
+    /// holds. The nonce has 32 bytes, the opaque data and the reply at most 1,024, and the padding
+    /// at most 16.
+    pub fn on_record(
+        &mut self,
+        phase: Phase,
+        sealed: &[u8],
+        inventory: &Inventory,
+        free: &RecordFree<'_>,
+        work: &mut Work,
+        out: &mut RecordFrame,
+    ) -> Heard
+        requires nonce { length free.now.nonce.now ≡ 32 }
+        requires opaque { length free.now.opaque.now ≤ 1024 }
+        requires reply { length free.now.reply.now ≤ 1024 }
+        requires pad { length free.now.pad.now ≤ 16 }
+        ensures { (r : RspSetup) (h : History) (tag : ℕ) (f : Free) (d : Draw)
+            → AreFree free.now f → messages_of h < 2 ^ 64 - 1 → inventory_of r ≡ inventory.now
+            → phase ≡ phase_of (clear_turns h) → StandsFor self.old r h
+            → IsAnswered r h tag sealed.now f d result self.new out.new }
+    {
+        if self.ended.is_repeat(sealed) {
+            replace_record(out, self.ended.reply());
+            return Heard::Same;
+        }
+        let id = record_id(sealed);
+        match self.take(id.rsp, sealed, inventory, free, work, out) {
+            Some(told) => self.answer(phase, told, sealed, out),
+            None => {
+                write_decrypt_error(phase, out);
+                Heard::Unopened
+            }
+        }
+    }
+
+    // Seconds pass for the session of this RspSessionID.
+    fn wait(&mut self, id: u16, seconds: u32)
+        ensures own { (r : RspSetup) (s : Events) → IsSlotOf (slot_of self.old id) r s
+            → IsSlotOf (slot_of self.new id) r (after_tick s seconds) }
+        ensures others { (i : ℕ) → i ≢ id → slot_of self.new i ≡ slot_of self.old i }
+        ensures ended { self.new.ended ≡ self.old.ended }
+    {
+        if id == 0 || id > 4 {
+            return;
+        }
+        let index = usize::from(id) - 1;
+        let stays = match &mut self.slots[index] {
+            Some(live) => live.wait(seconds),
+            None => true,
+        };
+        if !stays {
+            self.slots[index] = None;
+        }
+    }
+
+    /// Seconds pass: a session past its handshake that has waited for twice its HeartbeatPeriod is
+    /// gone, and its kept reply with it (DSP0274, "HEARTBEAT"). One whose period is 0 is not timed.
+    pub fn tick(&mut self, seconds: u32)
+        ensures { (r : RspSetup) (h : History) → StandsFor self.old r h
+            → StandsFor self.new r (Ticked seconds ∷ h) }
+    {
+        self.wait(1, seconds);
+        self.wait(2, seconds);
+        self.wait(3, seconds);
+        self.wait(4, seconds);
+    }
+
+    /// The session of this RspSessionID was dropped unseen, as a capture may show.
+    pub fn drop_unseen(&mut self, id: u16)
+        ensures { (r : RspSetup) (h : History) → StandsFor self.old r h
+            → StandsFor self.new r (Dropped id ∷ h) }
+    {
+        self.empty(id);
+    }
+
+    // Empties the slot of this RspSessionID.
+    fn empty(&mut self, id: u16)
+        ensures own { slot_of self.new id ≡ None }
+        ensures others { (i : ℕ) → i ≢ id → slot_of self.new i ≡ slot_of self.old i }
+        ensures ended { self.new.ended ≡ self.old.ended }
+    {
+        if id >= 1 && id <= 4 {
+            self.slots[usize::from(id) - 1] = None;
+        }
+    }
+
+    // A session of this RspSessionID that is in its handshake is gone.
+    pub(crate) fn leave(&mut self, id: u16)
+        ensures own { (r : RspSetup) (s : Events) → IsSlotOf (slot_of self.old id) r s
+            → IsSlotOf (slot_of self.new id) r (held_part s) }
+        ensures others { (i : ℕ) → i ≢ id → slot_of self.new i ≡ slot_of self.old i }
+        ensures ended { self.new.ended ≡ self.old.ended }
+    {
+        if id == 0 || id > 4 {
+            return;
+        }
+        let index = usize::from(id) - 1;
+        let stays = match &self.slots[index] {
+            Some(live) => live.is_held(),
+            None => true,
+        };
+        if !stays {
+            self.slots[index] = None;
+        }
+    }
+
+    /// PSK_EXCHANGE was taken: this session, which moves into its slot, begins under this
+    /// RspSessionID from 1 to 4 with this whole PSK_EXCHANGE_RSP. A session in its handshake is
+    /// gone, and so is the last record of an ended one.
+    pub fn begin(&mut self, id: u16, session: RspSession, answer: &[u8])
+        requires least { 1 ≤ id }
+        requires most { id ≤ 4 }
+        ensures { (r : RspSetup) (h : History) (tag : ℕ) (t : Turn) (d : Draw)
+            → IsBeginningAt r h t id session answer.now → StandsFor self.old r h
+            → StandsFor self.new r (Clear tag t d ∷ h) }
+    {
+        self.leave(1);
+        self.leave(2);
+        self.leave(3);
+        self.leave(4);
+        self.ended.clear();
+        self.put(id, Live::begin(session, answer));
+    }
+
+    /// GET_VERSION was taken: all sessions are gone, and so is the last record of an ended one.
+    pub fn clear(&mut self)
+        ensures { (r : RspSetup) (h : History) (tag : ℕ) (t : Turn) (d : Draw)
+            → takes GET_VERSION t ≡ true → StandsFor self.old r h
+            → StandsFor self.new r (Clear tag t d ∷ h) }
+    {
+        self.empty(1);
+        self.empty(2);
+        self.empty(3);
+        self.empty(4);
+        self.ended.clear();
+    }
+
+    /// A clear message that begins no session was answered so: GET_VERSION ends all sessions, and nothing else
+    /// changes one.
+    pub fn follow(&mut self, heard: Heard)
+        ensures { (r : RspSetup) (h : History) (tag : ℕ) (m : List ℕ) (f : Free) (d : Draw)
+            → heard ≡ heard_of (on_clear r h tag m f d) → BeginsNone (on_clear r h tag m f d)
+            → StandsFor self.old r h
+            → StandsFor self.new r (after h (on_clear r h tag m f d)) }
+    {
+        if tells_version(heard) {
+            self.clear();
+        }
+    }
+
+    // Whether there is a session of this RspSessionID, past its handshake.
+    fn is_held(&self, id: u16) -> bool
+        ensures { (r : RspSetup) (s : Events) → IsSlotOf (slot_of self.now id) r s
+            → result ≡ is_held_in s }
+    {
+        match self.session(id) {
+            Some(live) => live.is_held(),
+            None => false,
+        }
+    }
+
+    // The session of this RspSessionID; none where there is none.
+    pub(crate) fn session(&self, id: u16) -> Option<&Live>
+        ensures { MatchOption result (slot_of self.now id ≡ None)
+            (λ live. slot_of self.now id ≡ Some live.now) }
+    {
+        if id == 0 || id > 4 {
+            return None;
+        }
+        self.slots[usize::from(id) - 1].as_ref()
+    }
+
+    /// The session of this RspSessionID as it is shown, where fewer than 2^64 messages came; none where there is
+    /// none.
+    pub fn view(&self, id: u16) -> Option<SessionView>
+        ensures { (r : RspSetup) (h : History) → StandsFor self.now r h → messages_of h < 2 ^ 64
+            → IsViewOf result (session_of id h) }
+    {
+        match self.session(id) {
+            Some(live) => live.session.view(),
+            None => None,
+        }
+    }
+
+    /// The application data that the session of this RspSessionID took last; no bytes before the first, and where
+    /// there is no session.
+    pub fn data(&self, id: u16) -> &[u8]
+        ensures { (r : RspSetup) (h : History) → StandsFor self.now r h
+            → result.now ≡ data_of (session_of id h) }
+    {
+        match self.session(id) {
+            Some(live) => live.session.data(),
+            None => &[],
+        }
+    }
+
+    /// The handle that is given to the next large answer of the session of this RspSessionID; 0 where there is
+    /// none.
+    pub fn next_handle(&self, id: u16) -> u8
+        ensures { (r : RspSetup) (h : History) → StandsFor self.now r h
+            → result ≡ next_handle (turns_of (session_of id h)) }
+    {
+        match self.session(id) {
+            Some(live) => live.session.next_handle(),
+            None => 0,
+        }
+    }
+
+    /// How many sessions are past their handshake.
+    pub fn held(&self) -> u8
+        ensures value { (r : RspSetup) (h : History) → StandsFor self.now r h → held_of h ≡ result }
+        ensures most { result ≤ 4 }
+    {
+        one_if(self.is_held(1))
+            + one_if(self.is_held(2))
+            + one_if(self.is_held(3))
+            + one_if(self.is_held(4))
+    }
+
+    /// The least RspSessionID that no session past its handshake has; 4 where all four have one.
+    pub fn free_id(&self) -> u16
+        ensures value { (r : RspSetup) (h : History) → StandsFor self.now r h → result ≡ free_id h }
+        ensures least { 1 ≤ result }
+        ensures most { result ≤ 4 }
+    {
+        if !self.is_held(1) {
+            return 1;
+        }
+        if !self.is_held(2) {
+            return 2;
+        }
+        if !self.is_held(3) {
+            return 3;
+        }
+        4
+    }
+
+    // Puts a session into the slot of this RspSessionID.
+    fn put(&mut self, id: u16, live: Live)
+        requires least { 1 ≤ id }
+        requires most { id ≤ 4 }
+        ensures own { slot_of self.new id ≡ Some live }
+        ensures others { (i : ℕ) → i ≢ id → slot_of self.new i ≡ slot_of self.old i }
+        ensures ended { self.new.ended ≡ self.old.ended }
+    {
+        self.slots[usize::from(id) - 1] = Some(live);
+    }
+}

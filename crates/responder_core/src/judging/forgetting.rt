@@ -1,0 +1,183 @@
+use crate::{ClearPart, Connection, Live, Requests, Sessions, Standing};
+
+// The clear part without the MEASUREMENTS that were to go by LargeResponse in answer to what was taken
+// last: they were never seen.
+impl Standing {
+    ghost use Rattle.std.specs.Prelude.{◌∷◌, List};
+    ghost use Rattle.responder_rules.specs.LargeAnswer.{turn_unseen};
+    ghost use Rattle.responder_machine.specs.Turn.{Turn};
+    ghost use Rattle.responder_core.specs.Pending.{GoesLarge};
+    ghost use Rattle.responder_core.specs.Standing.{StandsFor};
+
+    fn forget(&mut self)
+        ensures { (t : Turn) (older : List Turn) → GoesLarge t → StandsFor self.old (t ∷ older)
+            → StandsFor self.new (turn_unseen t ∷ older) }
+    {
+        self.large.forget();
+    }
+}
+
+impl Requests {
+    ghost use Rattle.std.specs.Prelude.{◌∷◌, List};
+    ghost use Rattle.responder_rules.specs.LargeAnswer.{turn_unseen};
+    ghost use Rattle.responder_machine.specs.Setup.{RspSetup};
+    ghost use Rattle.responder_machine.specs.Turn.{Turn};
+    ghost use Rattle.responder_core.specs.Coming.{StandsFor};
+    ghost use Rattle.responder_core.specs.Pending.{GoesLarge};
+
+    fn forget(&mut self)
+        ensures { (r : RspSetup) (t : Turn) (older : List Turn) → GoesLarge t
+            → StandsFor self.old r (t ∷ older) → StandsFor self.new r (turn_unseen t ∷ older) }
+    {
+        self.standing.forget();
+    }
+}
+
+impl ClearPart {
+    ghost use Rattle.std.specs.Prelude.{◌∷◌, ℕ};
+    ghost use Rattle.responder_rules.specs.LargeAnswer.{turn_unseen};
+    ghost use Rattle.responder_machine.specs.History.{History};
+    ghost use Rattle.responder_machine.specs.History.Entry.{Clear};
+    ghost use Rattle.responder_machine.specs.Setup.{RspSetup};
+    ghost use Rattle.responder_machine.specs.Turn.{Turn};
+    ghost use Rattle.spdm_machine.specs.Keys.{Draw};
+    ghost use Rattle.responder_core.specs.ClearPart.{StandsFor};
+    ghost use Rattle.responder_core.specs.Pending.{GoesLarge};
+
+    fn forget(&mut self)
+        ensures { (r : RspSetup) (h : History) (tag : ℕ) (t : Turn) (d : Draw) → GoesLarge t
+            → StandsFor self.old r (Clear tag t d ∷ h)
+            → StandsFor self.new r (Clear tag (turn_unseen t) d ∷ h) }
+    {
+        self.requests.forget();
+    }
+}
+
+// A session without the MEASUREMENTS that went by LargeResponse last, though chunks of them may have been given.
+impl Live {
+    ghost use Rattle.std.specs.Prelude.{◌≡◌, is_some, true};
+    ghost use Rattle.responder_rules.specs.LargeAnswer.{last_takes};
+    ghost use Rattle.responder_machine.specs.LargeMessages.{large_of};
+    ghost use Rattle.responder_machine.specs.Session.{Events, turns_of};
+    ghost use Rattle.responder_machine.specs.Setup.{RspSetup};
+    ghost use Rattle.responder_session.specs.Pending.{IsUncounted, events_unseen};
+    ghost use Rattle.spdm_grammar.specs.declared.names.request_code.TheConstants.{GET_MEASUREMENTS};
+    ghost use Rattle.responder_core.specs.Live.{StandsFor};
+
+    fn forget(&mut self)
+        ensures { (r : RspSetup) (s : Events) → is_some (large_of (turns_of s)) ≡ true
+            → last_takes GET_MEASUREMENTS (turns_of s) ≡ true → StandsFor self.old r s
+            → StandsFor self.new r (events_unseen s) }
+    {
+        self.session.forget_pending();
+    }
+
+    // Without the count of one that others came after.
+    fn uncount(&mut self)
+        ensures { (r : RspSetup) (s e : Events) → IsUncounted s e → StandsFor self.old r s
+            → StandsFor self.new r e }
+    {
+        self.session.uncount();
+    }
+}
+
+impl Sessions {
+    ghost use Rattle.std.specs.Prelude.{◌≡◌, ◌≢◌, ℕ, is_some, true};
+    ghost use Rattle.responder_rules.specs.LargeAnswer.{last_takes};
+    ghost use Rattle.responder_machine.specs.History.{History};
+    ghost use Rattle.responder_machine.specs.LargeMessages.{large_of};
+    ghost use Rattle.responder_machine.specs.Session.{Events, session_of, turns_of};
+    ghost use Rattle.responder_machine.specs.Setup.{RspSetup};
+    ghost use Rattle.responder_session.specs.Pending.{events_unseen};
+    ghost use Rattle.spdm_grammar.specs.declared.names.request_code.TheConstants.{GET_MEASUREMENTS};
+    ghost use Rattle.responder_core.specs.Live.{IsSlotOf};
+    ghost use Rattle.responder_session.specs.Pending as sessions;
+    ghost use Rattle.responder_core.specs.Pending.{history_unseen};
+    ghost use Rattle.responder_core.specs.Sessions.{StandsFor, slot_of};
+
+    // The session of this RspSessionID.
+    fn forget_at(&mut self, id: u16)
+        ensures own { (r : RspSetup) (s : Events) → is_some (large_of (turns_of s)) ≡ true
+            → last_takes GET_MEASUREMENTS (turns_of s) ≡ true → IsSlotOf (slot_of self.old id) r s
+            → IsSlotOf (slot_of self.new id) r (events_unseen s) }
+        ensures others { (i : ℕ) → i ≢ id → slot_of self.new i ≡ slot_of self.old i }
+        ensures ended { self.new.ended ≡ self.old.ended }
+    {
+        if id == 0 || id > 4 {
+            return;
+        }
+        if let Some(live) = &mut self.slots[usize::from(id) - 1] {
+            live.forget();
+        }
+    }
+
+    fn forget(&mut self, id: u16)
+        ensures { (r : RspSetup) (h : History)
+            → is_some (large_of (turns_of (session_of id h))) ≡ true
+            → last_takes GET_MEASUREMENTS (turns_of (session_of id h)) ≡ true
+            → StandsFor self.old r h → StandsFor self.new r (history_unseen id h) }
+    {
+        self.forget_at(id);
+    }
+
+    // The session of this RspSessionID.
+    fn uncount_at(&mut self, id: u16)
+        ensures own { (r : RspSetup) (s e : Events) → sessions.IsUncounted s e
+            → IsSlotOf (slot_of self.old id) r s → IsSlotOf (slot_of self.new id) r e }
+        ensures others { (i : ℕ) → i ≢ id → slot_of self.new i ≡ slot_of self.old i }
+        ensures ended { self.new.ended ≡ self.old.ended }
+    {
+        if id == 0 || id > 4 {
+            return;
+        }
+        if let Some(live) = &mut self.slots[usize::from(id) - 1] {
+            live.uncount();
+        }
+    }
+}
+
+// A request whose large answer was never seen, for one who judges it.
+impl Connection {
+    ghost use Rattle.std.specs.Prelude.{◌≡◌, ◌∷◌, ℕ, is_some, true};
+    ghost use Rattle.responder_rules.specs.LargeAnswer.{last_takes, turn_unseen};
+    ghost use Rattle.responder_machine.specs.History.{History};
+    ghost use Rattle.responder_machine.specs.History.Entry.{Clear};
+    ghost use Rattle.responder_machine.specs.LargeMessages.{large_of};
+    ghost use Rattle.responder_machine.specs.Session.{session_of, turns_of};
+    ghost use Rattle.responder_machine.specs.Setup.{RspSetup};
+    ghost use Rattle.responder_machine.specs.Turn.{Turn};
+    ghost use Rattle.spdm_machine.specs.Keys.{Draw};
+    ghost use Rattle.responder_core.specs.Connected.{StandsFor};
+    ghost use Rattle.responder_core.specs.Pending.{GoesLarge, IsUncounted, history_unseen};
+    ghost use Rattle.spdm_grammar.specs.declared.names.request_code.TheConstants.{GET_MEASUREMENTS};
+
+    /// The MEASUREMENTS that were to go by LargeResponse in answer to the clear message that came last were never
+    /// seen: they stand with no bytes, are not pending, and took no handle.
+    pub fn forget_clear(&mut self)
+        ensures { (r : RspSetup) (h : History) (tag : ℕ) (t : Turn) (d : Draw) → GoesLarge t
+            → StandsFor self.old r (Clear tag t d ∷ h)
+            → StandsFor self.new r (Clear tag (turn_unseen t) d ∷ h) }
+    {
+        self.clear.forget();
+    }
+
+    /// The MEASUREMENTS that went by LargeResponse last in the session of this RspSessionID were never seen, though
+    /// chunks of them may have been given: they stand with no bytes, are not pending, and took no handle.
+    pub fn forget_in(&mut self, id: u16)
+        ensures { (r : RspSetup) (h : History)
+            → is_some (large_of (turns_of (session_of id h))) ≡ true
+            → last_takes GET_MEASUREMENTS (turns_of (session_of id h)) ≡ true
+            → StandsFor self.old r h → StandsFor self.new r (history_unseen id h) }
+    {
+        self.sessions.forget(id);
+    }
+
+    /// A large answer of the session of this RspSessionID was never seen, and other messages were taken there since:
+    /// it took no handle.
+    pub fn uncount_in(&mut self, id: u16)
+        ensures { (r : RspSetup) (h k : History) → IsUncounted id h k → StandsFor self.old r h
+            → StandsFor self.new r k }
+    {
+        self.sessions.uncount_at(id);
+    }
+}

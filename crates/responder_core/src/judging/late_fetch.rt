@@ -1,0 +1,103 @@
+use crate::{Connection, EndedRecord, Live, Sessions};
+
+// A session in which MEASUREMENTS that were never seen are pending again.
+impl Live {
+    ghost use Rattle.std.specs.Prelude.{◌≤◌, ◌<◌, ◌+◌, length};
+    ghost use Rattle.responder_machine.specs.Session.{Events, session_terms, turns_of};
+    ghost use Rattle.responder_machine.specs.Setup.{RspSetup};
+    ghost use Rattle.responder_session.specs.LateFetch.{IsNewestUnseen, events_pending};
+    ghost use Rattle.spdm_grammar.specs.declared.names.TheConstants.{MAX_MESSAGE_SIZE};
+    ghost use Rattle.responder_core.specs.Live.{StandsFor};
+
+    fn make_pending(&mut self, answer: &[u8], handle: u8)
+        requires { length answer.now ≤ MAX_MESSAGE_SIZE }
+        ensures { (r : RspSetup) (s : Events)
+            → (session_terms s).common.to_requester.transfer < length answer.now + 16
+            → IsNewestUnseen (turns_of s) → StandsFor self.old r s
+            → StandsFor self.new r (events_pending answer.now handle s) }
+    {
+        self.session.make_pending(answer, handle);
+    }
+}
+
+impl Sessions {
+    ghost use Rattle.std.specs.Prelude.{◌≡◌, ◌≢◌, ◌≤◌, ◌<◌, ◌+◌, ℕ, length};
+    ghost use Rattle.responder_machine.specs.History.{History};
+    ghost use Rattle.responder_machine.specs.Session.{Events, session_of, session_terms, turns_of};
+    ghost use Rattle.responder_machine.specs.Setup.{RspSetup};
+    ghost use Rattle.responder_session.specs.LateFetch.{IsNewestUnseen, events_pending};
+    ghost use Rattle.spdm_grammar.specs.declared.names.TheConstants.{MAX_MESSAGE_SIZE};
+    ghost use Rattle.responder_core.specs.LateFetch.{history_pending};
+    ghost use Rattle.responder_core.specs.Live.{IsSlotOf};
+    ghost use Rattle.responder_core.specs.Sessions.{StandsFor, slot_of};
+
+    // The session of this RspSessionID.
+    fn make_at(&mut self, id: u16, answer: &[u8], handle: u8)
+        requires { length answer.now ≤ MAX_MESSAGE_SIZE }
+        ensures own { (r : RspSetup) (s : Events)
+            → (session_terms s).common.to_requester.transfer < length answer.now + 16
+            → IsNewestUnseen (turns_of s) → IsSlotOf (slot_of self.old id) r s
+            → IsSlotOf (slot_of self.new id) r (events_pending answer.now handle s) }
+        ensures others { (i : ℕ) → i ≢ id → slot_of self.new i ≡ slot_of self.old i }
+        ensures ended { self.new.ended ≡ self.old.ended }
+    {
+        if id == 0 || id > 4 {
+            return;
+        }
+        if let Some(live) = &mut self.slots[usize::from(id) - 1] {
+            live.make_pending(answer, handle);
+        }
+    }
+
+    fn make_pending(&mut self, id: u16, answer: &[u8], handle: u8)
+        requires { length answer.now ≤ MAX_MESSAGE_SIZE }
+        ensures { (r : RspSetup) (h : History)
+            → (session_terms (session_of id h)).common.to_requester.transfer
+            < length answer.now + 16 → IsNewestUnseen (turns_of (session_of id h))
+            → StandsFor self.old r h
+            → StandsFor self.new r (history_pending id answer.now handle h) }
+    {
+        self.make_at(id, answer, handle);
+    }
+}
+
+// A large answer whose first chunk is asked for late, for one who judges it.
+impl Connection {
+    ghost use Rattle.std.specs.Prelude.{◌≡◌, ◌≤◌, ◌<◌, ◌+◌, length};
+    ghost use Rattle.responder_machine.specs.History.{History, ended_of};
+    ghost use Rattle.responder_machine.specs.Session.{session_of, session_terms, turns_of};
+    ghost use Rattle.responder_machine.specs.Setup.{RspSetup};
+    ghost use Rattle.responder_session.specs.LateFetch.{IsNewestUnseen};
+    ghost use Rattle.spdm_grammar.specs.declared.names.TheConstants.{MAX_MESSAGE_SIZE};
+    ghost use Rattle.responder_core.specs.Connected.{StandsFor};
+    ghost use Rattle.responder_core.specs.LateFetch.{history_pending, with_ended};
+
+    /// A copy of the last record of the ended session.
+    pub fn ended_record(&self) -> EndedRecord
+        ensures { (r : RspSetup) (h : History) → StandsFor self.now r h → result ≡ ended_of h }
+    {
+        self.sessions.ended.copy()
+    }
+
+    /// Puts a last record of the ended session in the place of the one that is kept, or of none: PSK_EXCHANGE that
+    /// is handed in late forgets it, and where it came before END_SESSION it does not.
+    pub fn put_ended(&mut self, last: EndedRecord)
+        ensures { self.new ≡ with_ended self.old last }
+    {
+        self.sessions.ended = last;
+    }
+
+    /// The MEASUREMENTS that answer the newest record of the session of this RspSessionID were never seen, and are
+    /// pending again: these bytes stand for them, which go by chunks under this handle, and no chunk of them was
+    /// given. `forget_in` undoes it.
+    pub fn make_pending(&mut self, id: u16, answer: &[u8], handle: u8)
+        requires { length answer.now ≤ MAX_MESSAGE_SIZE }
+        ensures { (r : RspSetup) (h : History)
+            → (session_terms (session_of id h)).common.to_requester.transfer
+            < length answer.now + 16 → IsNewestUnseen (turns_of (session_of id h))
+            → StandsFor self.old r h
+            → StandsFor self.new r (history_pending id answer.now handle h) }
+    {
+        self.sessions.make_pending(id, answer, handle);
+    }
+}

@@ -1,0 +1,85 @@
+use crate::clear::clear_part::code_at;
+use crate::{ClearPart, Connection, FreeValues, Setup, Told, Tried};
+use spdm_basis::Frame;
+use spdm_grammar::Heard;
+
+impl ClearPart {
+    ghost use Rattle.std.specs.Prelude.{◌≡◌, ℕ};
+    ghost use Rattle.responder_machine.specs.Answer.{Free};
+    ghost use Rattle.responder_machine.specs.History.{History};
+    ghost use Rattle.responder_machine.specs.May.{IsAllowed};
+    ghost use Rattle.responder_machine.specs.Place.{clear_place, held_of};
+    ghost use Rattle.responder_machine.specs.Setup.{RspSetup};
+    ghost use Rattle.spdm_machine.specs.Keys.{Draw};
+    ghost use Rattle.responder_core.specs.ClearPart.{IsAnswered, StandsFor};
+    ghost use Rattle.responder_core.specs.Free.{IsFree};
+    ghost use Rattle.responder_core.specs.Setup.{IsSetUp};
+
+    // A clear message came with a tag, beside so many sessions past their handshake. The message that answers it
+    // is written in place of what `out` holds. The session that it may begin is not kept.
+    fn answer(
+        &mut self,
+        setup: &Setup<'_>,
+        held: u8,
+        tag: u8,
+        message: &[u8],
+        free: &FreeValues<'_>,
+        out: &mut Frame,
+    ) -> Heard
+        ensures { (r : RspSetup) (h : History) (f : Free) (d : Draw) → IsSetUp setup.now r
+            → IsFree free.now f → IsAllowed h (clear_place h) f → StandsFor self.old r h
+            → held_of h ≡ held → IsAnswered r h tag message.now f d result self.new out.new }
+    {
+        match self.on_clear(setup, held, tag, message, free, out) {
+            Told::Heard { heard, drawn: _ } => heard,
+            Told::Begins(begun) => {
+                let mut answer = Frame::new();
+                let _session = self.start(begun, setup, message, free, &mut answer);
+                self.begin(begun, tag, message, answer.as_slice(), free.handle, out);
+                Heard::Answered(code_at(message))
+            }
+        }
+    }
+}
+
+// What would come of a message, for one who judges it.
+impl Connection {
+    ghost use Rattle.std.specs.Prelude.{◌≡◌, true, false, IfSome, is_some};
+    ghost use Rattle.responder_machine.specs.Answer.{Free};
+    ghost use Rattle.responder_machine.specs.History.{History};
+    ghost use Rattle.responder_machine.specs.May.{IsAllowed};
+    ghost use Rattle.responder_machine.specs.Place.{clear_place};
+    ghost use Rattle.responder_machine.specs.Refusal.{has_pending};
+    ghost use Rattle.responder_machine.specs.Responder.{on_clear};
+    ghost use Rattle.responder_machine.specs.Setup.{RspSetup};
+    ghost use Rattle.spdm_machine.specs.Bodies.{clear_body};
+    ghost use Rattle.spdm_machine.specs.Keys.{Draw};
+    ghost use Rattle.responder_core.specs.Connected.{StandsFor};
+    ghost use Rattle.responder_core.specs.Free.{IsFree};
+    ghost use Rattle.responder_core.specs.Setup.{IsSetUp};
+    ghost use Rattle.responder_core.specs.Trying.{IsTried};
+
+    /// What would come of a clear message with a tag, whose answer has these free values. The message that would
+    /// answer it is written in place of what `out` holds. Nothing changes. None where a large answer is pending.
+    pub fn would_answer(
+        &self,
+        setup: &Setup<'_>,
+        tag: u8,
+        message: &[u8],
+        free: &FreeValues<'_>,
+        out: &mut Frame,
+    ) -> Option<Tried>
+        ensures tried { (r : RspSetup) (h : History) (f : Free) (d : Draw) → IsSetUp setup.now r
+            → IsFree free.now f → IsAllowed h (clear_place h) f → StandsFor self.now r h
+            → IfSome result (λ tried. IsTried h (on_clear r h tag message.now f d) tried
+            (clear_body out.new)) }
+        ensures idle { (r : RspSetup) (h : History) → StandsFor self.now r h
+            → has_pending (clear_place h) ≡ false → is_some result ≡ true }
+    {
+        let mut clear = self.clear.idle_copy()?;
+        let held = self.sessions.held();
+        let heard = clear.answer(setup, held, tag, message, free, out);
+        let pending = clear.standing().is_pending();
+        Some(Tried { heard, pending })
+    }
+}

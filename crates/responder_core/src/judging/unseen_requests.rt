@@ -1,0 +1,116 @@
+use crate::{ClearPart, Connection, Requests, Sessions, Standing};
+
+// How the clear part stands behind a request that was taken, whose large answer was never seen.
+impl Standing {
+    ghost use Rattle.std.specs.Prelude.{◌∷◌, List};
+    ghost use Rattle.responder_machine.specs.Turn.{Turn};
+    ghost use Rattle.responder_core.specs.Standing.{StandsFor};
+    ghost use Rattle.responder_core.specs.UnseenRequests.{IsUnseenTurn};
+
+    fn pass_unseen(&mut self)
+        ensures { (t : Turn) (older : List Turn) → IsUnseenTurn t → StandsFor self.old older
+            → StandsFor self.new (t ∷ older) }
+    {
+        self.large.clear();
+    }
+}
+
+impl Requests {
+    ghost use Rattle.std.specs.Prelude.{◌∷◌, List};
+    ghost use Rattle.responder_machine.specs.Setup.{RspSetup};
+    ghost use Rattle.responder_machine.specs.Turn.{Turn};
+    ghost use Rattle.responder_core.specs.Coming.{StandsFor};
+    ghost use Rattle.responder_core.specs.UnseenRequests.{IsUnseenTurn};
+
+    fn pass_unseen(&mut self)
+        ensures { (r : RspSetup) (t : Turn) (older : List Turn) → IsUnseenTurn t
+            → StandsFor self.old r older → StandsFor self.new r (t ∷ older) }
+    {
+        self.standing.pass_unseen();
+        self.collector.clear();
+    }
+}
+
+impl ClearPart {
+    ghost use Rattle.std.specs.Prelude.{◌≤◌, ◌∷◌, Bool, length};
+    ghost use Rattle.responder_machine.specs.History.{History};
+    ghost use Rattle.responder_machine.specs.History.Entry.{Clear};
+    ghost use Rattle.responder_machine.specs.Setup.{RspSetup};
+    ghost use Rattle.responder_machine.specs.Turn.{Turn};
+    ghost use Rattle.spdm_grammar.specs.declared.names.TheConstants.{MAX_MESSAGE_SIZE};
+    ghost use Rattle.spdm_machine.specs.Keys.{Draw};
+    ghost use Rattle.responder_core.specs.ClearPart.{StandsFor};
+    ghost use Rattle.responder_core.specs.UnseenRequests.{IsTurnOf, IsUnseenTurn};
+
+    fn pass_unseen(&mut self, tag: u8, message: &[u8], reply: &[u8])
+        ensures { (r : RspSetup) (h : History) (t : Turn) (d : Draw) (exchange : Bool)
+            → length message.now ≤ MAX_MESSAGE_SIZE → length reply.now ≤ MAX_MESSAGE_SIZE
+            → IsUnseenTurn t → IsTurnOf t message.now reply.now exchange → StandsFor self.old r h
+            → StandsFor self.new r (Clear tag t d ∷ h) }
+    {
+        self.requests.pass_unseen();
+        self.kept.keep(tag, message, reply);
+    }
+}
+
+// The sessions behind it: PSK_EXCHANGE ends the one in its handshake, and begins none.
+impl Sessions {
+    ghost use Rattle.std.specs.Prelude.{◌≡◌, ◌∷◌, ℕ, true};
+    ghost use Rattle.responder_machine.specs.History.{History};
+    ghost use Rattle.responder_machine.specs.History.Entry.{Clear};
+    ghost use Rattle.responder_machine.specs.Setup.{RspSetup};
+    ghost use Rattle.responder_machine.specs.Turn.{Turn, takes};
+    ghost use Rattle.spdm_grammar.specs.declared.names.request_code.TheConstants.{PSK_EXCHANGE};
+    ghost use Rattle.spdm_machine.specs.Keys.{Draw};
+    ghost use Rattle.responder_core.specs.Sessions.{StandsFor};
+    ghost use Rattle.responder_core.specs.UnseenRequests.{IsUnseenTurn};
+
+    fn leave_handshake(&mut self)
+        ensures { (r : RspSetup) (h : History) (tag : ℕ) (t : Turn) (d : Draw) → IsUnseenTurn t
+            → takes PSK_EXCHANGE t ≡ true → StandsFor self.old r h
+            → StandsFor self.new r (Clear tag t d ∷ h) }
+    {
+        self.leave(1);
+        self.leave(2);
+        self.leave(3);
+        self.leave(4);
+        self.ended.clear();
+    }
+
+    fn pass_unseen(&mut self, exchange: bool)
+        ensures { (r : RspSetup) (h : History) (tag : ℕ) (t : Turn) (d : Draw) → IsUnseenTurn t
+            → takes PSK_EXCHANGE t ≡ exchange → StandsFor self.old r h
+            → StandsFor self.new r (Clear tag t d ∷ h) }
+    {
+        if exchange {
+            self.leave_handshake();
+        }
+    }
+}
+
+// A request whose large answer was never seen, for one who judges it.
+impl Connection {
+    ghost use Rattle.std.specs.Prelude.{◌≤◌, ◌∷◌, length};
+    ghost use Rattle.responder_machine.specs.History.{History};
+    ghost use Rattle.responder_machine.specs.History.Entry.{Clear};
+    ghost use Rattle.responder_machine.specs.Setup.{RspSetup};
+    ghost use Rattle.responder_machine.specs.Turn.{Turn};
+    ghost use Rattle.spdm_grammar.specs.declared.names.TheConstants.{MAX_MESSAGE_SIZE};
+    ghost use Rattle.spdm_machine.specs.Keys.{Draw};
+    ghost use Rattle.responder_core.specs.Connected.{StandsFor};
+    ghost use Rattle.responder_core.specs.UnseenRequests.{IsTurnOf, IsUnseenTurn};
+
+    /// A request came in the clear with a tag, and got this LargeResponse; its answer was never seen. It is
+    /// GET_MEASUREMENTS, or PSK_EXCHANGE where `exchange` tells so, whole in one message. It is kept with its
+    /// reply, no large answer is pending, and PSK_EXCHANGE ends a handshake and begins no session. The message
+    /// and the reply have at most 4,096 bytes.
+    pub fn pass_unseen(&mut self, tag: u8, message: &[u8], reply: &[u8], exchange: bool)
+        ensures { (r : RspSetup) (h : History) (t : Turn) (d : Draw)
+            → length message.now ≤ MAX_MESSAGE_SIZE → length reply.now ≤ MAX_MESSAGE_SIZE
+            → IsUnseenTurn t → IsTurnOf t message.now reply.now exchange → StandsFor self.old r h
+            → StandsFor self.new r (Clear tag t d ∷ h) }
+    {
+        self.clear.pass_unseen(tag, message, reply);
+        self.sessions.pass_unseen(exchange);
+    }
+}

@@ -1,0 +1,35 @@
+//! A responder's side of the connection with one requester (DSP0274, section 10), with every free value
+//! handed in: the clear part, which holds how far the negotiation has come and what was settled; the sessions;
+//! and the application data that waits to be sent in answer.
+//!
+//! Read first: `StandsFor` in `specs/Connected.antt`, which history a connection stands for. Calls
+//! are `Connection::on_clear` and `Connection::on_record`.
+#![tactic(auto)]
+
+mod clear;
+mod in_sessions;
+mod judging;
+mod connected;
+mod free_values;
+mod laws;
+mod setup;
+mod views;
+
+pub use clear::came::{Begun, Came};
+pub use clear::clear_part::ClearPart;
+pub use connected::Connection;
+pub use in_sessions::ended::EndedRecord;
+pub use free_values::FreeValues;
+pub use clear::handled::Handled;
+pub use clear::kept::KeptReply;
+pub use laws::others_keep_the_clear_part;
+pub use in_sessions::live::Live;
+pub use clear::negotiating::Negotiating;
+pub use in_sessions::records::record_id;
+pub use clear::refused::Refused;
+pub use clear::requests::Requests;
+pub use in_sessions::sessions::Sessions;
+pub use setup::Setup;
+pub use clear::standing::Standing;
+pub use clear::told::Told;
+pub use judging::tried::Tried;

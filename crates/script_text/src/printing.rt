@@ -1,0 +1,4 @@
+//! Configurations and scripts as texts.
+
+pub mod config_printing;
+pub mod script_printing;

@@ -1,5 +1,0 @@
-use Rattle.script_worlds.proofs.EndsRight.{no_end_has_fault}
-use Rattle.script_worlds.proofs.laws.ends_have_no_fault.Goals as goal
-
-pub returns : goal.returns
-returns c = no_end_has_fault

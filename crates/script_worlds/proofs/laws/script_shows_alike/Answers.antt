@@ -1,5 +1,0 @@
-use Rattle.script_worlds.proofs.WorldsRight.{shows_alike}
-use Rattle.script_worlds.proofs.laws.script_shows_alike.Goals as goal
-
-pub returns : goal.returns
-returns c = shows_alike

@@ -1,3 +1,0 @@
-mod EntriesBefore
-mod OneAnswer
-pub mod HasTold

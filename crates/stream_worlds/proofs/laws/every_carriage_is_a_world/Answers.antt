@@ -1,5 +1,0 @@
-use Rattle.stream_worlds.proofs.Carrying.{every_carriage}
-use Rattle.stream_worlds.proofs.laws.every_carriage_is_a_world.Goals as goal
-
-pub returns : goal.returns
-returns c = every_carriage

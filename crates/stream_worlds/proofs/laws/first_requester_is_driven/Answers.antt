@@ -1,5 +1,0 @@
-use Rattle.stream_worlds.proofs.Driving.{first_is_driven}
-use Rattle.stream_worlds.proofs.laws.first_requester_is_driven.Goals as goal
-
-pub returns : goal.returns
-returns c = first_is_driven

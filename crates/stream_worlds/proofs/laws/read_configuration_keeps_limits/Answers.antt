@@ -1,5 +1,0 @@
-use Rattle.stream_worlds.proofs.ReadText.{keeps_limits}
-use Rattle.stream_worlds.proofs.laws.read_configuration_keeps_limits.Goals as goal
-
-pub returns : goal.returns
-returns c = keeps_limits

@@ -1,5 +1,0 @@
-use Rattle.stream_worlds.proofs.Configurations.{are_such}
-use Rattle.stream_worlds.proofs.laws.script_worlds_are_such.Goals as goal
-
-pub returns : goal.returns
-returns c = are_such

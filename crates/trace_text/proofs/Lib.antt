@@ -1,0 +1,4 @@
+pub mod Decimals
+pub mod PairDigits
+pub mod HexText
+pub mod Folding
