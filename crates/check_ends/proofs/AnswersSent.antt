@@ -47,7 +47,7 @@ use Rattle.check_ends.specs.AnswerKeys as answer_keys
 use Rattle.check_ends.specs.Answerer.{IsAnswerer, history_shown}
 use Rattle.check_ends.specs.Asker.{IsAsker}
 use Rattle.check_ends.specs.Conversation.{IsAnswer, IsJudgedAnswer, IsUnderWay, NoneGoesOn, StandsBehind, meanwhile}
-use Rattle.check_ends.specs.PartyReplies.{IsApartInClear, IsGivenNever}
+use Rattle.check_ends.specs.Given.{IsApartInClear, IsGivenNever}
 use Rattle.check_ends.specs.declared.answer_keys.AnswerKeys.{AnswerKeys}
 use Rattle.check_ends.specs.declared.answerer.Answerer.{Answerer}
 use Rattle.check_ends.specs.declared.asker.Asker.{Asker}

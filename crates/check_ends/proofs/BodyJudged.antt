@@ -21,7 +21,7 @@ use Rattle.check_laws.specs.AnswersShown.{values_shown_by}
 use Rattle.check_laws.specs.ApartShown.{IsApartShown, answer_shown}
 use Rattle.check_laws.specs.DropsShown.{drops_shown_by, outcome_shown}
 use Rattle.check_laws.specs.LargeShown.{drops_before, large_shown, last_shown}
-use Rattle.check_ends.specs.PartyReplies.{IsApartInClear, IsGiven, IsGivenNever, judged_of}
+use Rattle.check_ends.specs.Given.{IsApartInClear, IsGiven, IsGivenNever, judged_of}
 use Rattle.check_ends.specs.RecordAnswers.{IsGivenTo, history_behind}
 use Rattle.check_ends.specs.declared.answerer.Answerer.{Answerer}
 use Rattle.check_ends.specs.declared.given.Given.{Given}

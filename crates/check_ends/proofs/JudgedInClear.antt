@@ -6,7 +6,7 @@ use Rattle.responder_machine.specs.Setup.{RspSetup}
 use Rattle.spdm_machine.specs.Bodies.{clear_body}
 use Rattle.check_ends.specs.Answerer.{IsAnswerer}
 use Rattle.check_ends.specs.ClearAnswers.{IsJudged, given_in, history_given}
-use Rattle.check_ends.specs.PartyReplies.{IsGiven, IsGivenNever}
+use Rattle.check_ends.specs.Given.{IsGiven, IsGivenNever}
 use Rattle.check_ends.specs.declared.answerer.Answerer.{Answerer}
 use Rattle.check_ends.specs.declared.given.Given.{Given}
 use Rattle.check_ends.specs.declared.given.Given.TheVariants as given

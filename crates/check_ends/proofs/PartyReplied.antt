@@ -38,7 +38,8 @@ use Rattle.check_laws.specs.Order.{replies_wrong}
 use Rattle.check_laws.specs.Judged.{why_of}
 use Rattle.check_laws.specs.Order.{body_in, tag_in}
 use Rattle.check_ends.specs.ClearAnswers.{EndsLarge}
-use Rattle.check_ends.specs.PartyReplies.{IsGivenNever, IsGoingWhy, IsReplied}
+use Rattle.check_ends.specs.Given.{IsGivenNever}
+use Rattle.check_ends.specs.PartyReplies.{IsGoingWhy, IsReplied}
 use Rattle.check_laws.specs.RepliesShown.{AnswersRound, PlainlyKept, answered_from, responder_for}
 use Rattle.check_laws.specs.RepliesTold.{UnfetchedKept}
 use Rattle.check_laws.specs.Rows as rows_of

@@ -9,6 +9,7 @@ pub mod AnswerKeys
 pub mod Opening
 pub mod HeardKept
 pub mod Party
+pub mod Given
 pub mod PartyReplies
 pub mod ClearAnswers
 pub mod WholeAnswers

@@ -1,5 +1,5 @@
 ghost use Rattle.std.specs.Prelude.{◌≡◌};
-ghost use Rattle.check_ends.specs.PartyReplies.{judged_of};
+ghost use Rattle.check_ends.specs.Given.{judged_of};
 
 use crate::bodies::is_clear;
 use crate::coming::Coming;
@@ -26,7 +26,7 @@ impl Answerer {
     ghost use Rattle.responder_machine.specs.Setup.{RspSetup};
     ghost use Rattle.check_ends.specs.AnswerKeys.{IsComing};
     ghost use Rattle.check_ends.specs.Answerer.{IsAnswerer};
-    ghost use Rattle.check_ends.specs.PartyReplies.{IsApartInClear, IsGiven};
+    ghost use Rattle.check_ends.specs.Given.{IsApartInClear, IsGiven};
     ghost use Rattle.capture_machine.specs.Capture.{IsBody};
     ghost use Rattle.capture_machine.specs.Rounds.{Dialogue, Round};
 

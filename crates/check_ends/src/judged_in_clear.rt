@@ -9,7 +9,7 @@ impl Answerer {
     ghost use Rattle.responder_machine.specs.BoundLaws.{messages_of};
     ghost use Rattle.responder_machine.specs.Setup.{RspSetup};
     ghost use Rattle.check_ends.specs.Answerer.{IsAnswerer};
-    ghost use Rattle.check_ends.specs.PartyReplies.{IsGiven};
+    ghost use Rattle.check_ends.specs.Given.{IsGiven};
     ghost use Rattle.capture_machine.specs.Rounds.{Dialogue, Round};
 
     /// Judges a body as the answer to another one, both in the clear, by what it shows. Fewer than

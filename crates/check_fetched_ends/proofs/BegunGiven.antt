@@ -8,7 +8,7 @@ use Rattle.check_ends.proofs.InTurn.{AnswersInTurn}
 use Rattle.check_ends.proofs.KeptTyped.{kept_apart, kept_body}
 use Rattle.check_ends.specs.Answerer.{IsAnswerer}
 use Rattle.check_ends.specs.Asker.{Carries}
-use Rattle.check_ends.specs.PartyReplies.{IsGivenNever}
+use Rattle.check_ends.specs.Given.{IsGivenNever}
 use Rattle.check_ends.specs.RecordAnswers.{IsGivenTo, history_behind}
 use Rattle.check_ends.specs.declared.answerer.Answerer.{Answerer}
 use Rattle.check_ends.specs.declared.given.Given.{Given}

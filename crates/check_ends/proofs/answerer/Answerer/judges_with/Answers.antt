@@ -5,7 +5,7 @@ use Rattle.check_ends.proofs.BodyJudged.{judged_to_record}
 use Rattle.check_ends.proofs.KeysComing.{record_coming}
 use Rattle.check_ends.proofs.answerer.Answerer.judges_with.Goals as goal
 use Rattle.check_ends.specs.AnswerKeys.{IsComing}
-use Rattle.check_ends.specs.PartyReplies.{IsGiven}
+use Rattle.check_ends.specs.Given.{IsGiven}
 use Rattle.check_ends.specs.declared.given.Judged.{Judged}
 
 pub returns-then-is_clear : goal.returns-then-is_clear

@@ -19,7 +19,7 @@ use Rattle.check_ends.specs.AnswerKeys as answer_keys
 use Rattle.check_ends.specs.AnswerKeys.{IsComingKey}
 use Rattle.check_ends.specs.Answerer.{history_shown}
 use Rattle.check_ends.specs.Conversation.{meanwhile}
-use Rattle.check_ends.specs.PartyReplies.{IsGiven}
+use Rattle.check_ends.specs.Given.{IsGiven}
 use Rattle.check_ends.specs.declared.given.Judged.{Judged}
 use Rattle.check_ends.specs.declared.given.Judged.TheVariants as judged
 use Rattle.check_laws.specs.Large.SendingLaws.{aside}

@@ -24,7 +24,7 @@ use Rattle.check_ends.specs.AnswerKeys.{IsComing, IsComingKey, StandFor}
 use Rattle.check_ends.specs.Answerer.{IsAnswerer, history_shown}
 use Rattle.check_ends.specs.Asker.{IsAsker}
 use Rattle.check_ends.specs.HeardKept.{asks_upon, heard_kept}
-use Rattle.check_ends.specs.PartyReplies.{IsGiven}
+use Rattle.check_ends.specs.Given.{IsGiven}
 use Rattle.check_ends.specs.declared.given.Judged.{Judged}
 use Rattle.check_ends.specs.declared.given.Judged.TheVariants as judged
 use Rattle.check_ends.specs.declared.party.Party.{Party}

@@ -7,7 +7,7 @@ use Rattle.check_ends.specs.AnswerKeys.{IsComingKey, StandFor}
 use Rattle.check_ends.specs.Answerer.{IsAnswerer}
 use Rattle.check_ends.specs.Asker.{Carries, IsAsker}
 use Rattle.check_ends.specs.HeardKept.{heard_kept}
-use Rattle.check_ends.specs.PartyReplies.{IsApartInClear, IsGiven}
+use Rattle.check_ends.specs.Given.{IsApartInClear, IsGiven}
 use Rattle.check_ends.specs.declared.answerer.Answerer.{Answerer}
 use Rattle.check_ends.specs.declared.given.Judged.{Judged}
 use Rattle.check_ends.specs.declared.given.Judged.TheVariants as judged
