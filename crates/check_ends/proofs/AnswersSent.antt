@@ -37,20 +37,20 @@ use Rattle.check_laws.specs.Walks.{StepsBy, StepsTo, Walks}
 use Rattle.check_laws.specs.declared.change.Change.{Change}
 use Rattle.check_laws.specs.declared.places.Places.{Places}
 use Rattle.check_laws.specs.declared.verdict.Seen.{Seen}
-use Rattle.check_ends.proofs.FewMessages.{after_more, dropped_same, walks_few}
+use Rattle.check_requester.proofs.FewMessages.{after_more, dropped_same, walks_few}
 use Rattle.check_ends.proofs.InTurn.{AnswersInTurn}
 use Rattle.check_ends.proofs.KeptTyped.{walk_apart, walk_body}
 use Rattle.check_ends.proofs.SendingTold.{asker_before, asker_meanwhile}
 use Rattle.check_ends.proofs.SendingWalks.{form, own_setup, walk_form}
 use Rattle.check_ends.proofs.WalkRows.{places_for}
-use Rattle.check_ends.specs.AnswerKeys as answer_keys
-use Rattle.check_ends.specs.Answerer.{IsAnswerer, history_shown}
-use Rattle.check_ends.specs.Asker.{IsAsker}
+use Rattle.check_responder.specs.AnswerKeys as answer_keys
+use Rattle.check_responder.specs.Answerer.{IsAnswerer, history_shown}
+use Rattle.check_requester.specs.Asker.{IsAsker}
 use Rattle.check_ends.specs.Conversation.{IsAnswer, IsJudgedAnswer, IsUnderWay, NoneGoesOn, StandsBehind, meanwhile}
-use Rattle.check_ends.specs.Given.{IsApartInClear, IsGivenNever}
-use Rattle.check_ends.specs.declared.answer_keys.AnswerKeys.{AnswerKeys}
-use Rattle.check_ends.specs.declared.answerer.Answerer.{Answerer}
-use Rattle.check_ends.specs.declared.asker.Asker.{Asker}
+use Rattle.check_responder.specs.Given.{IsApartInClear, IsGivenNever}
+use Rattle.check_responder.specs.declared.answer_keys.AnswerKeys.{AnswerKeys}
+use Rattle.check_responder.specs.declared.answerer.Answerer.{Answerer}
+use Rattle.check_requester.specs.declared.asker.Asker.{Asker}
 use Rattle.check_ends.specs.declared.party.Party.{Party}
 use Rattle.check_laws.proofs.Large.Onward.{replies as steps_replying}
 use Rattle.check_laws.proofs.Large.Replied.{behind_next, replies_all, sending_is_replied, sending_replies}

@@ -12,11 +12,11 @@ use Rattle.check_ends.proofs.RequestRows.{IsToldNothing, before, chunk_session, 
 use Rattle.check_ends.proofs.SendingTold.{in_round}
 use Rattle.check_ends.proofs.SendingWalks.{form, walk_form}
 use Rattle.check_ends.proofs.WalkRows.{places_for}
-use Rattle.check_ends.specs.Asker.{IsAsker}
+use Rattle.check_requester.specs.Asker.{IsAsker}
 use Rattle.check_ends.specs.Conversation.{IsBeginning, IsJudgedRequest, IsRequest, StandsBehind, meanwhile}
-use Rattle.check_ends.specs.LargeAsked.{IsBegun}
+use Rattle.check_requester.specs.LargeAsked.{IsBegun}
 use Rattle.check_ends.specs.Party.{IsAskedWhole, IsParty}
-use Rattle.check_ends.specs.declared.asker.Asker.{Asker}
+use Rattle.check_requester.specs.declared.asker.Asker.{Asker}
 use Rattle.check_ends.specs.declared.party.Party.{Party}
 use Rattle.check_laws.proofs.Rounded.{no_copy}
 use Rattle.check_laws.specs.ChangeLaws.{CopyIsRequest, RoundIsRequest}

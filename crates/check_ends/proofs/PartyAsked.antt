@@ -12,10 +12,10 @@ use Rattle.requester_machine.specs.Setup.{ReqSetup}
 use Rattle.spdm_grammar.specs.declared.told.why.Why as declared
 use Rattle.spdm_basis.proofs.Bools.{and_first, and_second}
 use Rattle.check_ends.proofs.InTurn.{AsksInTurn}
-use Rattle.check_ends.specs.AnswerKeys.{StandFor as keys_stand}
-use Rattle.check_ends.specs.Answerer.{IsAnswerer}
-use Rattle.check_ends.specs.Asked.{IsRefusedFor}
-use Rattle.check_ends.specs.Asker.{IsAsker, is_first_chunk}
+use Rattle.check_responder.specs.AnswerKeys.{StandFor as keys_stand}
+use Rattle.check_responder.specs.Answerer.{IsAnswerer}
+use Rattle.check_requester.specs.Asked.{IsRefusedFor}
+use Rattle.check_requester.specs.Asker.{IsAsker, is_first_chunk}
 use Rattle.check_laws.proofs.RequestSteps.{kept_copy_is_request, kept_round_is_request}
 use Rattle.check_laws.specs.ChangeLaws.{IsRequestStep}
 use Rattle.check_laws.specs.Changes.{session_in}
@@ -27,9 +27,9 @@ use Rattle.check_laws.specs.RepliesShown.{responder_for}
 use Rattle.check_laws.specs.Rows.{StandFor, StandsForRows}
 use Rattle.check_laws.specs.declared.places.Places.{Places}
 use Rattle.check_laws.specs.declared.verdict.Seen.{Seen}
-use Rattle.check_ends.specs.declared.answer_keys.AnswerKeys.{AnswerKeys}
-use Rattle.check_ends.specs.declared.answerer.Answerer.{Answerer}
-use Rattle.check_ends.specs.declared.asker.Asker.{Asker}
+use Rattle.check_responder.specs.declared.answer_keys.AnswerKeys.{AnswerKeys}
+use Rattle.check_responder.specs.declared.answerer.Answerer.{Answerer}
+use Rattle.check_requester.specs.declared.asker.Asker.{Asker}
 use Rattle.check_ends.specs.declared.onward.Onward.{Onward}
 use Rattle.check_ends.specs.declared.onward.Onward.TheVariants as onward
 use Rattle.check_ends.specs.declared.party.Party.{Party}

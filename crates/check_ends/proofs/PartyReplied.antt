@@ -19,26 +19,26 @@ use Rattle.spdm_grammar.specs.declared.told.why.Why.TheVariants as declared
 use Rattle.spdm_basis.proofs.Bools.{and_first, and_second}
 use Rattle.spdm_machine.specs.Packets.{body_type}
 use Rattle.check_laws.proofs.ApartShown.{apart_is_shown}
-use Rattle.check_ends.proofs.FewMessages.{kept_messages}
+use Rattle.check_requester.proofs.FewMessages.{kept_messages}
 use Rattle.check_ends.proofs.InTurn.{AnswersInTurn}
-use Rattle.check_ends.proofs.KeysKept.{same_bytes}
+use Rattle.check_responder.proofs.KeysKept.{same_bytes}
 use Rattle.check_laws.proofs.LargeShown.{large_is_shown}
 use Rattle.check_laws.proofs.PlainShown.{plain_is_shown}
 use Rattle.check_laws.proofs.RepliesTold.{replies_are_told}
-use Rattle.check_ends.specs.AnswerKeys.{StandFor}
-use Rattle.check_ends.specs.Answerer.{IsAnswerer, history_shown}
+use Rattle.check_responder.specs.AnswerKeys.{StandFor}
+use Rattle.check_responder.specs.Answerer.{IsAnswerer, history_shown}
 use Rattle.check_laws.specs.ApartShown.{IsApartShown}
-use Rattle.check_ends.specs.Asker.{Carries, IsAsker}
+use Rattle.check_requester.specs.Asker.{Carries, IsAsker}
 use Rattle.check_laws.specs.AnswersShown.{values_shown_by}
 use Rattle.check_laws.specs.DropsShown.{IsShownAnswer, drops_shown_by, outcome_shown}
-use Rattle.check_ends.specs.HeardKept.{asks_upon, heard_kept}
+use Rattle.check_requester.specs.HeardKept.{asks_upon, heard_kept}
 use Rattle.check_laws.specs.Keeping.{Keeps, Kept, RepliesKept, restored}
 use Rattle.check_laws.specs.LargeShown.{IsShownLarge}
 use Rattle.check_laws.specs.Order.{replies_wrong}
 use Rattle.check_laws.specs.Judged.{why_of}
 use Rattle.check_laws.specs.Order.{body_in, tag_in}
-use Rattle.check_ends.specs.ClearAnswers.{EndsLarge}
-use Rattle.check_ends.specs.Given.{IsGivenNever}
+use Rattle.check_responder.specs.ClearAnswers.{EndsLarge}
+use Rattle.check_responder.specs.Given.{IsGivenNever}
 use Rattle.check_ends.specs.PartyReplies.{IsGoingWhy, IsReplied}
 use Rattle.check_laws.specs.RepliesShown.{AnswersRound, PlainlyKept, answered_from, responder_for}
 use Rattle.check_laws.specs.RepliesTold.{UnfetchedKept}
@@ -46,7 +46,7 @@ use Rattle.check_laws.specs.Rows as rows_of
 use Rattle.check_laws.specs.Rows.{StandsForRows}
 use Rattle.check_laws.specs.declared.places.Places.{Places}
 use Rattle.check_laws.specs.declared.verdict.Seen.{Seen}
-use Rattle.check_ends.specs.declared.asker.Asker.{Asker}
+use Rattle.check_requester.specs.declared.asker.Asker.{Asker}
 use Rattle.check_ends.specs.declared.onward.Onward.TheVariants as onward
 use Rattle.check_ends.specs.declared.party.Party.{Party}
 use Rattle.capture_machine.specs.Capture.{RepliesBy}

@@ -16,12 +16,12 @@ use Rattle.check_laws.specs.KeptChanges.{IsAnswerStep, accepted_from, begun_show
 use Rattle.check_laws.specs.Keeping.{Keeps, Kept, restored}
 use Rattle.check_laws.specs.RepliesShown.{answered_from, responder_for}
 use Rattle.check_laws.specs.declared.change.Change.{Change}
-use Rattle.check_ends.proofs.FewMessages.{after_more, dropped_same}
+use Rattle.check_requester.proofs.FewMessages.{after_more, dropped_same}
 use Rattle.check_ends.proofs.InTurn.{AnswersInTurn}
-use Rattle.check_ends.proofs.CarriedBy.{keeps_carries}
+use Rattle.check_requester.proofs.CarriedBy.{keeps_carries}
 use Rattle.check_ends.proofs.PartyReplied.{few_messages, whole_kept, whole_replies}
-use Rattle.check_ends.specs.Answerer.{history_shown}
-use Rattle.check_ends.specs.HeardKept.{asks_upon}
+use Rattle.check_responder.specs.Answerer.{history_shown}
+use Rattle.check_requester.specs.HeardKept.{asks_upon}
 use Rattle.capture_machine.specs.Rounds.{Round}
 use Rattle.capture_machine.specs.SessionTable.{Row}
 use Rattle.world_machine.specs.Setup.{Configuration}

@@ -31,11 +31,11 @@ use Rattle.check_ends.proofs.PartyAsked.{copy_of, is_no_copy}
 use Rattle.check_ends.proofs.RequestRows.{IsToldNothing, before, chunk_session, over_before, places_behind, table_behind}
 use Rattle.check_ends.proofs.SendingWalks.{ended_behind, form, none_sends, sent_behind, sent_reason, walk_form}
 use Rattle.check_ends.proofs.WalkRows.{places_for}
-use Rattle.check_ends.specs.Asker.{IsAsker}
+use Rattle.check_requester.specs.Asker.{IsAsker}
 use Rattle.check_ends.specs.Conversation.{IsJudgedRequest, IsRequest, IsUnderWay, StandsBehind, meanwhile}
-use Rattle.check_ends.specs.LargeAsked.{IsConnectedOver, refused_why}
+use Rattle.check_requester.specs.LargeAsked.{IsConnectedOver, refused_why}
 use Rattle.check_ends.specs.Party.{IsParty}
-use Rattle.check_ends.specs.declared.asker.Asker.{Asker}
+use Rattle.check_requester.specs.declared.asker.Asker.{Asker}
 use Rattle.check_ends.specs.declared.party.Party.{Party}
 use Rattle.check_laws.proofs.Large.Meanwhile.{sending_connects}
 use Rattle.check_laws.specs.Large.LargeRequests as large_requests

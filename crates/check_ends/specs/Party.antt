@@ -6,9 +6,9 @@ use Rattle.mctp_framing.specs.Gathering.{Gathered}
 use Rattle.mctp_framing.specs.Gathering.Gathered.{Whole}
 use Rattle.requester_machine.specs.Setup.{ReqSetup}
 use Rattle.spdm_grammar.specs.declared.told.why.Why as declared
-use Rattle.check_ends.specs.AnswerKeys as answer_keys
-use Rattle.check_ends.specs.Answerer.{IsAnswerer}
-use Rattle.check_ends.specs.Asker.{IsAsker, is_first_chunk}
+use Rattle.check_responder.specs.AnswerKeys as answer_keys
+use Rattle.check_responder.specs.Answerer.{IsAnswerer}
+use Rattle.check_requester.specs.Asker.{IsAsker, is_first_chunk}
 use Rattle.check_laws.specs.Judged.{why_of}
 use Rattle.check_laws.specs.Keeping.{AsksKept, Kept, restored}
 use Rattle.check_laws.specs.RepliesShown.{responder_for}

@@ -6,12 +6,12 @@ use Rattle.mctp_framing.specs.Gathering.Gathered.{Whole}
 use Rattle.requester_machine.specs.Setup.{ReqSetup}
 use Rattle.responder_machine.specs.Setup.{RspSetup}
 use Rattle.spdm_grammar.specs.declared.told.why.Why as declared
-use Rattle.check_ends.specs.ClearAnswers.{EndsLarge}
+use Rattle.check_responder.specs.ClearAnswers.{EndsLarge}
 use Rattle.check_laws.specs.DropsShown.{IsShownAnswer}
 use Rattle.check_laws.specs.Judged.{why_of}
 use Rattle.check_laws.specs.Keeping.{Kept, RepliesKept, restored}
 use Rattle.check_laws.specs.LargeShown.{IsShownLarge}
-use Rattle.check_ends.specs.HeardKept.{asks_upon}
+use Rattle.check_requester.specs.HeardKept.{asks_upon}
 use Rattle.check_ends.specs.Party.{StandBehind}
 use Rattle.check_laws.specs.RepliesShown.{AnswersRound, responder_for}
 use Rattle.check_laws.specs.declared.verdict.Seen.{Seen}

@@ -1,4 +1,5 @@
-use crate::{Conversation, Given, Judged, Onward, Party};
+use crate::{Conversation, Onward, Party};
+use check_responder::{Given, Judged};
 use check_laws::{Round, SessionTable, ack_accepts_none, answer_asks_none, walks_step};
 use responder_core::Setup;
 use check_laws::LargeRequest;

@@ -1,5 +1,5 @@
-use crate::bodies::is_get_version;
-use crate::owed_messages::is_first_chunk;
+use check_laws::is_get_version;
+use check_requester::is_first_chunk;
 use crate::{Conversation, Party};
 use check_laws::{Round, SessionTable, copy_is_request, round_is_request};
 use check_laws::{LargeRequest, Piece};
@@ -183,7 +183,7 @@ impl Conversation {
     ghost use Rattle.mctp_framing.specs.Cutting.{RouteFields};
     ghost use Rattle.mctp_framing.specs.Gathering.Gathered.{Whole};
     ghost use Rattle.requester_machine.specs.Setup.{ReqSetup};
-    ghost use Rattle.check_ends.specs.Asker.{is_first_chunk};
+    ghost use Rattle.check_requester.specs.Asker.{is_first_chunk};
     ghost use Rattle.check_ends.specs.Conversation.{IsAskedOf, IsRequest, StandsFor};
     ghost use Rattle.check_laws.specs.Order.{asked_why, round_of};
     ghost use Rattle.check_laws.specs.Rows.{StandsForRows};

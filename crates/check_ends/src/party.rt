@@ -1,10 +1,12 @@
 ghost use Rattle.std.specs.Prelude.{◌≡◌, Err, Ok, if◌then◌else◌};
-ghost use Rattle.check_ends.specs.Asker.{is_first_chunk};
+ghost use Rattle.check_requester.specs.Asker.{is_first_chunk};
 ghost use Rattle.check_ends.specs.declared.onward.Onward.TheVariants as onward;
 
-use crate::coming::Coming;
-use crate::owed_messages::is_first_chunk;
-use crate::{AnswerKeys, Answerer, Asker, Onward};
+use check_responder::Coming;
+use check_requester::is_first_chunk;
+use crate::Onward;
+use check_requester::Asker;
+use check_responder::{AnswerKeys, Answerer};
 use check_laws::{Places, Round, SessionTable};
 use responder_core::Setup;
 use spdm_basis::RecordFrame;
@@ -48,7 +50,7 @@ impl Party {
     ghost use Rattle.mctp_framing.specs.Cutting.{RouteFields};
     ghost use Rattle.mctp_framing.specs.Gathering.Gathered.{Whole};
     ghost use Rattle.requester_machine.specs.Setup.{ReqSetup};
-    ghost use Rattle.check_ends.specs.Asker.{Carries, IsAsker};
+    ghost use Rattle.check_requester.specs.Asker.{Carries, IsAsker};
     ghost use Rattle.check_laws.specs.Keeping.{Keeps, Kept, kept_of};
     ghost use Rattle.check_laws.specs.Order.{asked_why};
     ghost use Rattle.check_ends.specs.Party.{IsAsked, IsAskedBeside, IsBeside, IsParty};

@@ -1,5 +1,7 @@
-use crate::answer_reasons::why_so;
-use crate::{Given, Heard, Judged, Onward, Party};
+use check_responder::why_so;
+use crate::{Onward, Party};
+use check_requester::Heard;
+use check_responder::{Given, Judged};
 use check_laws::{Change, Round, SessionTable};
 use responder_core::Setup;
 use responder_session::AnswerKey;
@@ -21,10 +23,10 @@ impl Party {
     ghost use Rattle.responder_machine.specs.Responder.{after};
     ghost use Rattle.responder_machine.specs.Setup.{RspSetup};
     ghost use Rattle.spdm_machine.specs.Keys.{Draw};
-    ghost use Rattle.check_ends.specs.AnswerKeys.{IsComing, IsComingKey, StandFor};
-    ghost use Rattle.check_ends.specs.Answerer.{IsAnswerer};
-    ghost use Rattle.check_ends.specs.Asker.{Carries, IsAsker};
-    ghost use Rattle.check_ends.specs.HeardKept.{asks_upon, heard_kept};
+    ghost use Rattle.check_responder.specs.AnswerKeys.{IsComing, IsComingKey, StandFor};
+    ghost use Rattle.check_responder.specs.Answerer.{IsAnswerer};
+    ghost use Rattle.check_requester.specs.Asker.{Carries, IsAsker};
+    ghost use Rattle.check_requester.specs.HeardKept.{asks_upon, heard_kept};
     ghost use Rattle.check_laws.specs.Changes.{views_in};
     ghost use Rattle.check_laws.specs.DropsShown.{id_begun, response_of};
     ghost use Rattle.check_laws.specs.Keeping.{Keeps, Kept, restored};

@@ -7,15 +7,15 @@ use Rattle.std.proofs.lemmas.Bool.Decides.{nat_tests}
 use Rattle.std.proofs.lemmas.List.{length-replicate}
 use Rattle.std.proofs.lemmas.Option.{same_Some}
 use Rattle.std.proofs.lemmas.Slice.Eq.{bytes_eq-Decides}
-use Rattle.check_ends.proofs.AnyAnswers.{session_few}
-use Rattle.check_ends.proofs.CarriedBy.{keeps_carries}
+use Rattle.check_responder.proofs.AnyAnswers.{session_few}
+use Rattle.check_requester.proofs.CarriedBy.{keeps_carries}
 use Rattle.check_ends.proofs.InTurn.{AnswersInTurn}
-use Rattle.check_ends.proofs.RecordAnswered.{session_sized}
-use Rattle.check_ends.specs.AnswerKeys.{StandFor, will_take}
-use Rattle.check_ends.specs.Answerer.{IsAnswerer}
-use Rattle.check_ends.specs.Asker.{Carries, IsAsker}
-use Rattle.check_ends.specs.HeardKept.{asks_upon, heard_kept}
-use Rattle.check_ends.specs.ShownBy.{HasFewBlocks}
+use Rattle.check_responder.proofs.RecordAnswered.{session_sized}
+use Rattle.check_responder.specs.AnswerKeys.{StandFor, will_take}
+use Rattle.check_responder.specs.Answerer.{IsAnswerer}
+use Rattle.check_requester.specs.Asker.{Carries, IsAsker}
+use Rattle.check_requester.specs.HeardKept.{asks_upon, heard_kept}
+use Rattle.check_responder.specs.ShownBy.{HasFewBlocks}
 use Rattle.check_ends.specs.declared.party.Party.{Party}
 use Rattle.check_laws.proofs.KeptAnswers.{kept_is_restored}
 use Rattle.check_laws.proofs.LeastValues.{least_allowed}

@@ -3,7 +3,7 @@
 use Rattle.std.proofs.Common.{◌≡◌, ◌≤◌, ◌<◌, ◌&&◌, ◌↔◌, ◌∙◌, ℕ, List, [], ◌∷◌, refl, sym, ap, subst, drop, length, Bool, true, false, Option, Some, None, is_some, is_none, inl, inr}
 use Rattle.std.specs.Prelude.{not}
 use Rattle.std.proofs.lemmas.Bool.{false≢true}
-use Rattle.check_ends.specs.AnswerKeys.{will_take}
+use Rattle.check_responder.specs.AnswerKeys.{will_take}
 use Rattle.check_laws.proofs.LeastValues.{least_allowed, padded}
 use Rattle.check_laws.proofs.SessionShown.{record_is}
 use Rattle.check_laws.specs.LargeShown.{whole_of}

@@ -5,8 +5,8 @@ use Rattle.std.proofs.lemmas.Bool.{false≢true}
 use Rattle.std.proofs.lemmas.Option.{none-some}
 use Rattle.mctp_framing.specs.Cutting.{RouteFields}
 use Rattle.mctp_framing.specs.Gathering.Gathered.{Whole}
-use Rattle.check_ends.specs.Asker.{Carries}
-use Rattle.check_ends.specs.HeardKept.{asks_upon, heard_kept}
+use Rattle.check_requester.specs.Asker.{Carries}
+use Rattle.check_requester.specs.HeardKept.{asks_upon, heard_kept}
 use Rattle.check_laws.specs.Keeping.{Kept}
 use Rattle.check_laws.specs.RepliesShown.{AnswersRound, answered, responder_for}
 use Rattle.check_fetched_laws.proofs.HeardOn.{IsHeardOn, asks_on, heard_on}

@@ -6,13 +6,13 @@ use Rattle.std.proofs.lemmas.Option.{none-some}
 use Rattle.mctp_framing.specs.Cutting.{RouteFields}
 use Rattle.check_ends.proofs.InTurn.{AnswersInTurn}
 use Rattle.check_ends.proofs.KeptTyped.{kept_apart, kept_body}
-use Rattle.check_ends.specs.Answerer.{IsAnswerer}
-use Rattle.check_ends.specs.Asker.{Carries}
-use Rattle.check_ends.specs.Given.{IsGivenNever}
-use Rattle.check_ends.specs.RecordAnswers.{IsGivenTo, history_behind}
-use Rattle.check_ends.specs.declared.answerer.Answerer.{Answerer}
-use Rattle.check_ends.specs.declared.given.Given.{Given}
-use Rattle.check_ends.specs.declared.given.Given.TheVariants as given
+use Rattle.check_responder.specs.Answerer.{IsAnswerer}
+use Rattle.check_requester.specs.Asker.{Carries}
+use Rattle.check_responder.specs.Given.{IsGivenNever}
+use Rattle.check_responder.specs.RecordAnswers.{IsGivenTo, history_behind}
+use Rattle.check_responder.specs.declared.answerer.Answerer.{Answerer}
+use Rattle.check_responder.specs.declared.given.Given.{Given}
+use Rattle.check_responder.specs.declared.given.Given.TheVariants as given
 use Rattle.check_laws.specs.ApartShown.{IsApartShown}
 use Rattle.check_laws.specs.DropsShown.{id_begun, response_of}
 use Rattle.check_laws.specs.Keeping.{Kept, restored}

@@ -8,9 +8,9 @@ use Rattle.std.proofs.lemmas.Grind.{div_ceil_times}
 use Rattle.mctp_framing.specs.Cutting.{RouteFields}
 use Rattle.spdm_basis.proofs.Bools.{and_first, and_second}
 use Rattle.check_ends.proofs.InTurn.{AnswersInTurn}
-use Rattle.check_ends.specs.AnswerKeys.{StandFor, will_take}
-use Rattle.check_ends.specs.Answerer.{IsAnswerer}
-use Rattle.check_ends.specs.Asker.{Carries, IsAsker}
+use Rattle.check_responder.specs.AnswerKeys.{StandFor, will_take}
+use Rattle.check_responder.specs.Answerer.{IsAnswerer}
+use Rattle.check_requester.specs.Asker.{Carries, IsAsker}
 use Rattle.check_ends.specs.declared.party.Party.{Party}
 use Rattle.check_laws.proofs.OneWalk.{walks_alike}
 use Rattle.check_laws.specs.Keeping.{Kept, restored}

@@ -2,14 +2,14 @@
 use Rattle.std.proofs.Common.{◌≡◌, ◌<◌, ◌-◌, ◌^◌, ◌==◌, ◌&&◌, ◌||◌, ℕ, List, [], ◌∷◌, sym, ap, ◌∙◌, subst, drop, arith, Bool, true, false, Option, Some, cond, eqb-true}
 use Rattle.std.specs.Prelude.{slice_index}
 use Rattle.mctp_framing.specs.Cutting.{RouteFields}
-use Rattle.check_ends.proofs.FewMessages.{after_more}
+use Rattle.check_requester.proofs.FewMessages.{after_more}
 use Rattle.check_ends.proofs.InTurn.{AnswersInTurn}
-use Rattle.check_ends.specs.AnswerKeys.{will_take}
-use Rattle.check_ends.specs.Answerer.{IsAnswerer}
-use Rattle.check_ends.specs.Asker.{Carries}
-use Rattle.check_ends.specs.RecordAnswers.{history_behind}
-use Rattle.check_ends.specs.declared.answerer.Answerer.{Answerer}
-use Rattle.check_ends.specs.declared.given.Given.TheVariants as given
+use Rattle.check_responder.specs.AnswerKeys.{will_take}
+use Rattle.check_responder.specs.Answerer.{IsAnswerer}
+use Rattle.check_requester.specs.Asker.{Carries}
+use Rattle.check_responder.specs.RecordAnswers.{history_behind}
+use Rattle.check_responder.specs.declared.answerer.Answerer.{Answerer}
+use Rattle.check_responder.specs.declared.given.Given.TheVariants as given
 use Rattle.check_laws.specs.Keeping.{Kept}
 use Rattle.check_laws.specs.LargeShown.{IsShownLarge, drops_before, first_dropped, large_shown}
 use Rattle.check_laws.specs.Order.{body_in, tag_in}

@@ -6,10 +6,10 @@ use Rattle.mctp_framing.specs.Cutting.{RouteFields}
 use Rattle.mctp_framing.specs.Gathering.Gathered.{Whole}
 use Rattle.spdm_basis.proofs.Bools.{and_first, and_second}
 use Rattle.check_ends.proofs.InTurn.{AnswersInTurn}
-use Rattle.check_ends.specs.AnswerKeys.{StandFor, will_take}
-use Rattle.check_ends.specs.Answerer.{IsAnswerer}
-use Rattle.check_ends.specs.Asker.{Carries, IsAsker}
-use Rattle.check_ends.specs.HeardKept.{asks_upon, heard_kept}
+use Rattle.check_responder.specs.AnswerKeys.{StandFor, will_take}
+use Rattle.check_responder.specs.Answerer.{IsAnswerer}
+use Rattle.check_requester.specs.Asker.{Carries, IsAsker}
+use Rattle.check_requester.specs.HeardKept.{asks_upon, heard_kept}
 use Rattle.check_ends.specs.Party.{StandBehind}
 use Rattle.check_ends.specs.PartyReplies.{IsReplied}
 use Rattle.check_ends.specs.declared.onward.Onward.TheVariants as onward

@@ -3,15 +3,15 @@ use Rattle.std.proofs.Common.{◌≡◌, ◌≤◌, ◌<◌, ◌-◌, ◌^◌, �
 use Rattle.std.specs.Prelude.{slice_index}
 use Rattle.std.proofs.lemmas.Bool.{false≢true}
 use Rattle.mctp_framing.specs.Cutting.{RouteFields}
-use Rattle.check_ends.proofs.FewMessages.{after_more}
+use Rattle.check_requester.proofs.FewMessages.{after_more}
 use Rattle.check_ends.proofs.InTurn.{AnswersInTurn}
 use Rattle.check_ends.proofs.KeptTyped.{kept_body}
-use Rattle.check_ends.specs.AnswerKeys.{StandFor}
-use Rattle.check_ends.specs.Answerer.{IsAnswerer, history_shown}
-use Rattle.check_ends.specs.RecordAnswers.{IsGivenTo, history_behind}
-use Rattle.check_ends.specs.declared.answerer.Answerer.{Answerer}
-use Rattle.check_ends.specs.declared.given.Given.{Given}
-use Rattle.check_ends.specs.declared.given.Given.TheVariants as given
+use Rattle.check_responder.specs.AnswerKeys.{StandFor}
+use Rattle.check_responder.specs.Answerer.{IsAnswerer, history_shown}
+use Rattle.check_responder.specs.RecordAnswers.{IsGivenTo, history_behind}
+use Rattle.check_responder.specs.declared.answerer.Answerer.{Answerer}
+use Rattle.check_responder.specs.declared.given.Given.{Given}
+use Rattle.check_responder.specs.declared.given.Given.TheVariants as given
 use Rattle.check_ends.specs.declared.party.Party.{Party}
 use Rattle.check_laws.specs.AnswersShown.{values_shown_by}
 use Rattle.check_laws.specs.Keeping.{Kept, restored}

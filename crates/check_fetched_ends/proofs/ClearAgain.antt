@@ -5,9 +5,9 @@ use Rattle.std.specs.Prelude.{not, slice_index}
 use Rattle.std.proofs.lemmas.Bool.{false≢true, not-false}
 use Rattle.check_ends.proofs.InTurn.{AnswersInTurn}
 use Rattle.check_ends.proofs.KnownFetches.{kept_asks_none}
-use Rattle.check_ends.proofs.LargeReplies.{turn_tells}
-use Rattle.check_ends.specs.Answerer.{shows_large}
-use Rattle.check_ends.specs.HeardKept.{asks_upon}
+use Rattle.check_responder.proofs.LargeReplies.{turn_tells}
+use Rattle.check_responder.specs.Answerer.{shows_large}
+use Rattle.check_requester.specs.HeardKept.{asks_upon}
 use Rattle.check_laws.proofs.KeptAnswers.{kept_is_restored}
 use Rattle.check_laws.specs.AnswersShown.{values_shown_by}
 use Rattle.check_laws.specs.DropsShown.{IsShownAnswer, drops_shown_by, outcome_shown, response_of}

@@ -4,7 +4,7 @@ use Rattle.std.specs.Prelude.{slice_index}
 use Rattle.std.proofs.lemmas.Bool.{false≢true}
 use Rattle.std.proofs.lemmas.Option.{same_Some}
 use Rattle.check_ends.proofs.InTurn.{AnswersInTurn}
-use Rattle.check_ends.specs.HeardKept.{asks_upon}
+use Rattle.check_requester.specs.HeardKept.{asks_upon}
 use Rattle.check_laws.proofs.KeptAnswers.{kept_is_restored}
 use Rattle.check_laws.specs.DropsShown.{IsShownAnswer}
 use Rattle.check_laws.specs.Keeping.{Keeps, Kept, restored}

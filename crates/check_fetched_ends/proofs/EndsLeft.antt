@@ -3,7 +3,7 @@ use Rattle.std.proofs.Common.{◌≡◌, ◌==◌, ◌∙◌, ℕ, List, ◌∷�
 use Rattle.std.specs.Prelude.{IfOk, slice_index}
 use Rattle.std.proofs.lemmas.Bool.{false≢true}
 use Rattle.check_ends.proofs.AnswerWalks.{told_on}
-use Rattle.check_ends.specs.ClearAnswers.{EndsLarge}
+use Rattle.check_responder.specs.ClearAnswers.{EndsLarge}
 use Rattle.check_ends.specs.Conversation as conversations
 use Rattle.check_ends.specs.Conversation.{IsAnswer}
 use Rattle.check_ends.specs.PartyReplies.{IsPartOfLarge, IsReplied}

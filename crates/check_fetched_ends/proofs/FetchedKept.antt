@@ -1,9 +1,9 @@
 -- What is kept of a large answer that is fetched in a session hangs on the set-up and the responder's history alone, so a
 -- request leaves it.
 use Rattle.std.proofs.Common.{◌≡◌, List, sym, ap, ◌∙◌, subst, false, true, Some}
-use Rattle.check_ends.specs.Answerer.{IsAnswerer}
+use Rattle.check_responder.specs.Answerer.{IsAnswerer}
 use Rattle.check_ends.specs.Party.{IsBeside}
-use Rattle.check_ends.specs.declared.answerer.Answerer.{Answerer}
+use Rattle.check_responder.specs.declared.answerer.Answerer.{Answerer}
 use Rattle.check_ends.specs.declared.party.Party.{Party}
 use Rattle.check_laws.specs.Keeping.{Kept}
 use Rattle.check_laws.specs.RepliesShown.{responder_for}

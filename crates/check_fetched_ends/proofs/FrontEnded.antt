@@ -3,7 +3,7 @@
 use Rattle.std.proofs.Common.{◌≡◌, ◌<◌, ◌==◌, ◌||◌, ◌++◌, ◌∙◌, ℕ, List, [], ◌∷◌, refl, sym, ap, subst, Bool, true, false, Option, Some, None, cond, inl, inr, eq-eqb, eqb-true}
 use Rattle.std.specs.Prelude.{MatchBool}
 use Rattle.std.proofs.lemmas.Bool.{false≢true}
-use Rattle.check_ends.specs.AnswerKeys.{IsEndedKey, IsKeyOfTurn}
+use Rattle.check_responder.specs.AnswerKeys.{IsEndedKey, IsKeyOfTurn}
 use Rattle.check_laws.specs.DropsShown.{dropped_for, may_be_dropped}
 use Rattle.responder_core.specs.Connected as connected
 use Rattle.responder_core.specs.LateFetch.{with_ended}

@@ -7,7 +7,7 @@ use Rattle.std.proofs.lemmas.Option.{none-some}
 use Rattle.mctp_framing.specs.Cutting.{RouteFields}
 use Rattle.mctp_framing.specs.Gathering.Gathered.{Whole}
 use Rattle.check_ends.proofs.InTurn.{AnswersInTurn}
-use Rattle.check_ends.specs.HeardKept.{asks_upon, heard_kept}
+use Rattle.check_requester.specs.HeardKept.{asks_upon, heard_kept}
 use Rattle.check_laws.specs.ChangeLaws.{AnswerAccepts}
 use Rattle.check_laws.specs.Changes.{IsChange, IsStep, answered_between, answered_in, begun_between, views_in}
 use Rattle.check_laws.specs.Keeping.{Kept, kept_of, restored}

@@ -8,8 +8,8 @@ use Rattle.check_late_laws.specs.LargeAnswers as large_answers
 use Rattle.std.proofs.lemmas.Bool.{false≢true}
 use Rattle.mctp_framing.specs.Cutting.{RouteFields}
 use Rattle.check_ends.proofs.InTurn.{AnswersInTurn}
-use Rattle.check_ends.specs.HeardKept.{asks_upon, heard_kept}
-use Rattle.check_ends.specs.ShownBy.{HasFewBlocks}
+use Rattle.check_requester.specs.HeardKept.{asks_upon, heard_kept}
+use Rattle.check_responder.specs.ShownBy.{HasFewBlocks}
 use Rattle.check_ends.specs.declared.party.Party.{Party}
 use Rattle.check_laws.specs.KeptChanges.{accepted_from}
 use Rattle.check_laws.specs.Order.{body_in, tag_in}

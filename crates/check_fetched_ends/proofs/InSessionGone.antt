@@ -4,8 +4,8 @@ use Rattle.std.specs.Prelude.{not, slice_index}
 use Rattle.std.proofs.lemmas.Bool.{not-false, not-true}
 use Rattle.mctp_framing.specs.Cutting.{RouteFields}
 use Rattle.check_ends.proofs.InTurn.{AnswersInTurn}
-use Rattle.check_ends.specs.AnswerKeys.{StandFor, will_take}
-use Rattle.check_ends.specs.declared.answer_keys.AnswerKeys.{AnswerKeys}
+use Rattle.check_responder.specs.AnswerKeys.{StandFor, will_take}
+use Rattle.check_responder.specs.declared.answer_keys.AnswerKeys.{AnswerKeys}
 use Rattle.check_laws.specs.ChangeLaws.{AnswerAccepts, WholeAnswerChanges}
 use Rattle.check_laws.specs.Changes.{IsChange, IsStep, views_in}
 use Rattle.check_laws.specs.DropsShown.{IsShownAnswer}

@@ -3,10 +3,10 @@ use Rattle.std.proofs.Common.{◌≡◌, ◌≤◌, ◌<◌, ◌-◌, ◌^◌, �
 use Rattle.std.specs.Prelude.{slice_index}
 use Rattle.std.proofs.lemmas.Bool.{false≢true}
 use Rattle.mctp_framing.specs.Cutting.{RouteFields}
-use Rattle.check_ends.proofs.FewMessages.{kept_messages}
+use Rattle.check_requester.proofs.FewMessages.{kept_messages}
 use Rattle.check_ends.proofs.InTurn.{AnswersInTurn}
-use Rattle.check_ends.specs.AnswerKeys.{StandFor}
-use Rattle.check_ends.specs.declared.answerer.Answerer.{Answerer}
+use Rattle.check_responder.specs.AnswerKeys.{StandFor}
+use Rattle.check_responder.specs.declared.answerer.Answerer.{Answerer}
 use Rattle.check_ends.specs.declared.party.Party.{Party}
 use Rattle.check_laws.specs.RepliesShown.{responder_for}
 use Rattle.responder_core.specs.declared.connected.Connection.{Connection}

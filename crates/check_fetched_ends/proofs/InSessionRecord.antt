@@ -6,9 +6,9 @@ use Rattle.std.proofs.lemmas.Option.{same_Some}
 use Rattle.mctp_framing.specs.Cutting.{RouteFields}
 use Rattle.mctp_framing.specs.Gathering.Gathered.{Whole}
 use Rattle.check_ends.proofs.InTurn.{AnswersInTurn}
-use Rattle.check_ends.specs.AnswerKeys.{will_take}
-use Rattle.check_ends.specs.Asker.{Carries}
-use Rattle.check_ends.specs.HeardKept.{asks_upon, heard_kept}
+use Rattle.check_responder.specs.AnswerKeys.{will_take}
+use Rattle.check_requester.specs.Asker.{Carries}
+use Rattle.check_requester.specs.HeardKept.{asks_upon, heard_kept}
 use Rattle.check_laws.proofs.OneWalk.{walks_alike}
 use Rattle.check_laws.proofs.PlainShown.{plain_is_shown}
 use Rattle.check_laws.specs.AnswersShown.{LeadsAt, answered_text, values_shown_by}

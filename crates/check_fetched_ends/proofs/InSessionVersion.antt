@@ -5,13 +5,13 @@ use Rattle.std.proofs.lemmas.Bool.{false≢true, false_from_ne_true}
 use Rattle.std.proofs.lemmas.Option.{none-some, same_Some}
 use Rattle.mctp_framing.specs.Cutting.{RouteFields}
 use Rattle.mctp_framing.specs.Gathering.Gathered.{Whole}
-use Rattle.check_ends.proofs.FewMessages.{after_more}
+use Rattle.check_requester.proofs.FewMessages.{after_more}
 use Rattle.check_ends.proofs.InTurn.{AnswersInTurn}
-use Rattle.check_ends.specs.AnswerKeys.{IsComingKey, StandFor, is_taken_in, will_take}
-use Rattle.check_ends.specs.Answerer.{IsAnswerer, history_shown}
-use Rattle.check_ends.specs.Asker.{IsAsker}
-use Rattle.check_ends.specs.HeardKept.{heard_kept}
-use Rattle.check_ends.specs.declared.answerer.Answerer.{Answerer}
+use Rattle.check_responder.specs.AnswerKeys.{IsComingKey, StandFor, is_taken_in, will_take}
+use Rattle.check_responder.specs.Answerer.{IsAnswerer, history_shown}
+use Rattle.check_requester.specs.Asker.{IsAsker}
+use Rattle.check_requester.specs.HeardKept.{heard_kept}
+use Rattle.check_responder.specs.declared.answerer.Answerer.{Answerer}
 use Rattle.check_ends.specs.declared.party.Party.{Party}
 use Rattle.check_laws.proofs.OneWalk.{walks_alike}
 use Rattle.check_laws.specs.ChangeLaws.{AnswerAccepts, WholeAnswerChanges}

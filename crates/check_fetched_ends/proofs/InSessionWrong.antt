@@ -5,9 +5,9 @@ use Rattle.std.proofs.lemmas.Bool.{false≢true, not-false}
 use Rattle.std.proofs.lemmas.Option.{same_Some}
 use Rattle.mctp_framing.specs.Cutting.{RouteFields}
 use Rattle.check_ends.proofs.InTurn.{AnswersInTurn}
-use Rattle.check_ends.specs.AnswerKeys.{will_take}
-use Rattle.check_ends.specs.ClearAnswers.{EndsLarge}
-use Rattle.check_ends.specs.HeardKept.{asks_upon}
+use Rattle.check_responder.specs.AnswerKeys.{will_take}
+use Rattle.check_responder.specs.ClearAnswers.{EndsLarge}
+use Rattle.check_requester.specs.HeardKept.{asks_upon}
 use Rattle.check_laws.proofs.LargeShown.{large_is_shown}
 use Rattle.check_laws.proofs.PlainShown.{plain_is_shown}
 use Rattle.check_laws.specs.AnswersShown.{LeadsAt, answered_text, is_whole, values_shown_by}

@@ -4,7 +4,7 @@ use Rattle.std.specs.Prelude.{slice_index}
 use Rattle.std.proofs.lemmas.Bool.{false≢true}
 use Rattle.std.proofs.lemmas.Option.{same_Some}
 use Rattle.check_ends.proofs.InTurn.{AnswersInTurn}
-use Rattle.check_ends.specs.AnswerKeys.{asks_for}
+use Rattle.check_responder.specs.AnswerKeys.{asks_for}
 use Rattle.check_laws.specs.AnswersShown.{values_shown_by}
 use Rattle.check_laws.specs.Keeping.{Kept}
 use Rattle.check_laws.specs.LargeShown.{IsShownLarge}

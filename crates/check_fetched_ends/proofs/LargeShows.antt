@@ -3,8 +3,8 @@
 use Rattle.std.proofs.Common.{◌≡◌, ◌≢◌, ◌⊎◌, ◌==◌, ◌&&◌, ◌||◌, ◌++◌, ◌+◌, ◌-◌, ◌≤◌, ◌<◌, ◌∙◌, ℕ, List, [], ◌∷◌, refl, sym, ap, subst, drop, length, arith, Bool, true, false, Option, Some, None, Result, Ok, Err, is_some, cond, inl, inr}
 use Rattle.std.specs.Prelude.{MatchBool, nat_lt, not, slice_index}
 use Rattle.std.proofs.lemmas.Bool.{false≢true}
-use Rattle.check_ends.proofs.LargeReplies.{turn_tells}
-use Rattle.check_ends.specs.Answerer.{shows_large}
+use Rattle.check_responder.proofs.LargeReplies.{turn_tells}
+use Rattle.check_responder.specs.Answerer.{shows_large}
 use Rattle.check_laws.specs.DropsShown.{response_of}
 use Rattle.check_laws.specs.Order.{is_answer, is_request}
 use Rattle.check_laws.specs.Walks.{StepsBy, StepsTo, Walks}

@@ -5,12 +5,12 @@ use Rattle.std.proofs.lemmas.Option.{same_Some}
 use Rattle.mctp_framing.specs.Cutting.{RouteFields}
 use Rattle.mctp_framing.specs.Gathering.Gathered.{Whole}
 use Rattle.check_ends.proofs.InTurn.{AnswersInTurn}
-use Rattle.check_ends.specs.AnswerKeys.{StandFor}
-use Rattle.check_ends.specs.Answerer.{IsAnswerer}
-use Rattle.check_ends.specs.Asker.{Carries, IsAsker}
-use Rattle.check_ends.specs.HeardKept.{asks_upon, heard_kept}
-use Rattle.check_ends.specs.declared.answer_keys.AnswerKeys.{AnswerKeys}
-use Rattle.check_ends.specs.declared.answerer.Answerer.{Answerer}
+use Rattle.check_responder.specs.AnswerKeys.{StandFor}
+use Rattle.check_responder.specs.Answerer.{IsAnswerer}
+use Rattle.check_requester.specs.Asker.{Carries, IsAsker}
+use Rattle.check_requester.specs.HeardKept.{asks_upon, heard_kept}
+use Rattle.check_responder.specs.declared.answer_keys.AnswerKeys.{AnswerKeys}
+use Rattle.check_responder.specs.declared.answerer.Answerer.{Answerer}
 use Rattle.check_ends.specs.declared.party.Party.{Party}
 use Rattle.check_laws.proofs.AnswerSteps.{taken_same}
 use Rattle.check_late_laws.proofs.Late.StepsMoved.{IsMoved, replies_moved, walks_held}

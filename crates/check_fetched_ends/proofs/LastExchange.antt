@@ -1,8 +1,8 @@
 -- Whether the request of a large answer that is held is PSK_EXCHANGE.
 use Rattle.std.proofs.Common.{◌≡◌, ◌∙◌, ℕ, List, [], refl, sym, ap, subst, Bool, true, Option, None, is_some}
-use Rattle.check_ends.proofs.ClearJudged.{adds_at}
-use Rattle.check_ends.specs.declared.answer_keys.AnswerKeys.{AnswerKeys}
-use Rattle.check_ends.specs.declared.answerer.Answerer.{Answerer}
+use Rattle.check_responder.proofs.ClearJudged.{adds_at}
+use Rattle.check_responder.specs.declared.answer_keys.AnswerKeys.{AnswerKeys}
+use Rattle.check_responder.specs.declared.answerer.Answerer.{Answerer}
 use Rattle.check_fetched_ends.proofs.HeldTurns.{IsLargeTurn, large_turn}
 use Rattle.check_fetched_laws.proofs.LastBefore.{left_like}
 use Rattle.check_fetched_ends.proofs.LastWhole.{adds_anew}

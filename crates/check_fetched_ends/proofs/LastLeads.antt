@@ -4,9 +4,9 @@ use Rattle.std.specs.Prelude.{bytes_eq, not, slice_index}
 use Rattle.std.specs.Int.{div_ceil}
 use Rattle.std.proofs.lemmas.Bool.{false≢true}
 use Rattle.std.proofs.lemmas.Slice.Eq.{bytes_eq-Decides}
-use Rattle.check_ends.specs.WholeAnswers.{IsLargeAt, clear_shown}
-use Rattle.check_ends.specs.declared.answer_keys.AnswerKeys.{AnswerKeys}
-use Rattle.check_ends.specs.declared.answerer.Answerer.{Answerer}
+use Rattle.check_responder.specs.WholeAnswers.{IsLargeAt, clear_shown}
+use Rattle.check_responder.specs.declared.answer_keys.AnswerKeys.{AnswerKeys}
+use Rattle.check_responder.specs.declared.answerer.Answerer.{Answerer}
 use Rattle.chunking.specs.Cutting.{chunk_count, unit_of}
 use Rattle.responder_core.specs.Connected as connected
 use Rattle.responder_core.specs.declared.connected.Connection.{Connection}

@@ -5,7 +5,7 @@ use Rattle.std.proofs.lemmas.Bool.{false≢true, lt-ltb, ltb-true}
 use Rattle.std.proofs.lemmas.Bool.Decides.{nat_tests}
 use Rattle.std.proofs.lemmas.Slice.Eq.{bytes_eq-Decides}
 use Rattle.byteorder.specs.Endian.{little_bytes, little_number}
-use Rattle.check_ends.specs.ClearAnswers.{tells_get}
+use Rattle.check_responder.specs.ClearAnswers.{tells_get}
 use Rattle.chunking.specs.Cutting.{chunk_count}
 use Rattle.check_fetched_laws.proofs.GetSteps.{next_of}
 use Rattle.check_fetched_laws.proofs.ReadyGets.{IsBegun, IsReady, LargeStand, begun, common_at, ready_begins, ready_few, ready_next}

@@ -3,11 +3,11 @@
 use Rattle.std.proofs.Common.{◌≡◌, ◌≢◌, ◌≤◌, ◌<◌, ◌+◌, ◌==◌, ◌++◌, ◌∙◌, ℕ, zero, suc, List, [], ◌∷◌, refl, sym, ap, subst, drop, length, arith, Bool, true, false, Option, Some, None, cond, eqb-true, is_some, inl, inr}
 use Rattle.std.specs.Prelude.{MatchBool, nat_lt, slice_index}
 use Rattle.std.proofs.lemmas.Bool.Decides.{nat_tests}
-use Rattle.check_ends.proofs.ClearAnswered.{get_told}
-use Rattle.check_ends.proofs.ClearJudged.{adds_at}
-use Rattle.check_ends.specs.AnswerKeys as answer_keys
-use Rattle.check_ends.specs.AnswerKeys.{IsEndedKey, IsLastKey, last_key}
-use Rattle.check_ends.specs.declared.answer_keys.AnswerKeys.{AnswerKeys}
+use Rattle.check_responder.proofs.ClearAnswered.{get_told}
+use Rattle.check_responder.proofs.ClearJudged.{adds_at}
+use Rattle.check_responder.specs.AnswerKeys as answer_keys
+use Rattle.check_responder.specs.AnswerKeys.{IsEndedKey, IsLastKey, last_key}
+use Rattle.check_responder.specs.declared.answer_keys.AnswerKeys.{AnswerKeys}
 use Rattle.check_ends.specs.declared.party.Party.{Party}
 use Rattle.check_laws.proofs.OneWalk.{walks_alike}
 use Rattle.check_laws.specs.RepliesShown.{responder_for}

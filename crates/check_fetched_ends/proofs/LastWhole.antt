@@ -2,10 +2,10 @@
 use Rattle.std.proofs.Common.{◌≡◌, ◌≤◌, ◌<◌, ◌==◌, ◌↔◌, ◌∙◌, ℕ, List, [], ◌∷◌, refl, sym, ap, subst, length, Bool, true, false, Option, Some, None, cond, is_some}
 use Rattle.std.proofs.lemmas.Bool.{false≢true}
 use Rattle.std.specs.Prelude.{slice_index}
-use Rattle.check_ends.proofs.ClearJudged.{adds_at, parts_large, repeats_at, shown_anew}
-use Rattle.check_ends.specs.ClearAnswers.{given_of}
-use Rattle.check_ends.specs.WholeAnswers.{IsLargeAt, clear_shown, clear_whole}
-use Rattle.check_ends.specs.declared.given.Given.TheVariants as kinds
+use Rattle.check_responder.proofs.ClearJudged.{adds_at, parts_large, repeats_at, shown_anew}
+use Rattle.check_responder.specs.ClearAnswers.{given_of}
+use Rattle.check_responder.specs.WholeAnswers.{IsLargeAt, clear_shown, clear_whole}
+use Rattle.check_responder.specs.declared.given.Given.TheVariants as kinds
 use Rattle.check_laws.proofs.LargeFits.{large_fits}
 use Rattle.check_laws.specs.AnswersShown.{LeadsAt, clear_values, values_shown_by}
 use Rattle.check_laws.specs.DropsShown.{dropped_for}

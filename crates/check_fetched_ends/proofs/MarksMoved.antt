@@ -4,7 +4,7 @@ use Rattle.std.specs.Prelude.{bytes_eq, not, slice_index}
 use Rattle.std.proofs.Math.Bool.{and-false}
 use Rattle.std.proofs.lemmas.Bool.{and_parts, false≢true}
 use Rattle.std.proofs.lemmas.Slice.Eq.{bytes_eq-Decides}
-use Rattle.check_ends.proofs.KeysKept.{dropped_session as sessions_dropped}
+use Rattle.check_responder.proofs.KeysKept.{dropped_session as sessions_dropped}
 use Rattle.check_laws.specs.KeptChanges.{is_kept_record}
 use Rattle.check_late_laws.proofs.Late.SeenAlike.{last_alike, live_alike}
 use Rattle.check_late_laws.proofs.Late.SeenSessions.{seen_alike}

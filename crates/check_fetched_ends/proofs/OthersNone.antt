@@ -5,8 +5,8 @@ use Rattle.std.proofs.lemmas.Bool.{false≢true}
 use Rattle.mctp_framing.specs.Cutting.{RouteFields}
 use Rattle.chunking.specs.Cutting.{chunk_count}
 use Rattle.check_ends.proofs.InTurn.{AnswersInTurn}
-use Rattle.check_ends.proofs.KeysKept.{LeadsBy, record_leads}
-use Rattle.check_ends.specs.AnswerKeys.{is_taken_in, will_take}
+use Rattle.check_responder.proofs.KeysKept.{LeadsBy, record_leads}
+use Rattle.check_responder.specs.AnswerKeys.{is_taken_in, will_take}
 use Rattle.check_laws.specs.AnswersShown.{answered_text}
 use Rattle.check_laws.specs.RepliesShown.{responder_for}
 use Rattle.check_fetched_laws.specs.AnswerTexts.{Holds}

@@ -5,8 +5,8 @@ use Rattle.std.proofs.lemmas.Bool.{false≢true}
 use Rattle.mctp_framing.specs.Cutting.{RouteFields}
 use Rattle.spdm_basis.proofs.Bools.{and_first}
 use Rattle.check_ends.proofs.InTurn.{AnswersInTurn}
-use Rattle.check_ends.specs.Answerer.{IsAnswerer, history_shown}
-use Rattle.check_ends.specs.declared.answerer.Answerer.{Answerer}
+use Rattle.check_responder.specs.Answerer.{IsAnswerer, history_shown}
+use Rattle.check_responder.specs.declared.answerer.Answerer.{Answerer}
 use Rattle.check_ends.specs.declared.party.Party.{Party}
 use Rattle.check_laws.specs.ChangeLaws.{answered_by}
 use Rattle.check_laws.specs.DropsShown.{IsShownAnswer}

@@ -6,18 +6,18 @@ use Rattle.std.proofs.lemmas.Option.{none-some}
 use Rattle.mctp_framing.specs.Cutting.{RouteFields}
 use Rattle.mctp_framing.specs.Gathering.Gathered.{Whole}
 use Rattle.spdm_basis.proofs.Bools.{and_first}
-use Rattle.check_ends.proofs.FewMessages.{after_more, dropped_same}
+use Rattle.check_requester.proofs.FewMessages.{after_more, dropped_same}
 use Rattle.check_ends.proofs.InTurn.{AnswersInTurn}
 use Rattle.check_ends.proofs.KeptTyped.{kept_body}
-use Rattle.check_ends.specs.AnswerKeys.{StandFor}
-use Rattle.check_ends.specs.Answerer.{IsAnswerer, history_shown}
-use Rattle.check_ends.specs.Asker.{Carries, IsAsker}
-use Rattle.check_ends.specs.ClearAnswers.{EndsLarge}
-use Rattle.check_ends.specs.HeardKept.{asks_upon}
-use Rattle.check_ends.specs.RecordAnswers.{IsGivenTo, history_behind}
-use Rattle.check_ends.specs.declared.answerer.Answerer.{Answerer}
-use Rattle.check_ends.specs.declared.given.Given.{Given}
-use Rattle.check_ends.specs.declared.given.Given.TheVariants as given
+use Rattle.check_responder.specs.AnswerKeys.{StandFor}
+use Rattle.check_responder.specs.Answerer.{IsAnswerer, history_shown}
+use Rattle.check_requester.specs.Asker.{Carries, IsAsker}
+use Rattle.check_responder.specs.ClearAnswers.{EndsLarge}
+use Rattle.check_requester.specs.HeardKept.{asks_upon}
+use Rattle.check_responder.specs.RecordAnswers.{IsGivenTo, history_behind}
+use Rattle.check_responder.specs.declared.answerer.Answerer.{Answerer}
+use Rattle.check_responder.specs.declared.given.Given.{Given}
+use Rattle.check_responder.specs.declared.given.Given.TheVariants as given
 use Rattle.check_ends.specs.declared.party.Party.{Party}
 use Rattle.check_laws.proofs.AnswerChanges.{kept_answer_changes}
 use Rattle.check_laws.proofs.OneWalk.{walks_alike}

@@ -1,7 +1,7 @@
 -- Whether a session takes a record, and what an answer to it holds, hangs on no byte of a large answer that was not seen.
 use Rattle.std.proofs.Common.{◌≡◌, ◌==◌, ◌&&◌, ℕ, List, sym, ap, ◌∙◌, drop, Bool, true, Option, Some}
 use Rattle.std.specs.Prelude.{is_none, not, slice_index}
-use Rattle.check_ends.specs.AnswerKeys.{will_take}
+use Rattle.check_responder.specs.AnswerKeys.{will_take}
 use Rattle.check_laws.specs.AnswersShown.{answered_text}
 use Rattle.key_schedule.specs.Purpose.{Purpose, iv_of, key_of}
 use Rattle.responder_machine.specs.History.{History, KeptRecord, ended_of}

@@ -4,14 +4,14 @@ use Rattle.std.specs.Prelude.{not, slice_index}
 use Rattle.mctp_framing.specs.Cutting.{RouteFields}
 use Rattle.mctp_framing.specs.Gathering.Gathered.{Whole}
 use Rattle.check_ends.proofs.InTurn.{AnswersInTurn}
-use Rattle.check_ends.specs.AnswerKeys.{StandFor, will_take}
-use Rattle.check_ends.specs.Answerer.{IsAnswerer}
-use Rattle.check_ends.specs.Asker.{Carries}
-use Rattle.check_ends.specs.HeardKept.{asks_upon, heard_kept}
-use Rattle.check_ends.specs.RecordAnswers.{history_behind}
-use Rattle.check_ends.specs.declared.answer_keys.AnswerKeys.{AnswerKeys}
-use Rattle.check_ends.specs.declared.answerer.Answerer.{Answerer}
-use Rattle.check_ends.specs.declared.given.Given.TheVariants as given
+use Rattle.check_responder.specs.AnswerKeys.{StandFor, will_take}
+use Rattle.check_responder.specs.Answerer.{IsAnswerer}
+use Rattle.check_requester.specs.Asker.{Carries}
+use Rattle.check_requester.specs.HeardKept.{asks_upon, heard_kept}
+use Rattle.check_responder.specs.RecordAnswers.{history_behind}
+use Rattle.check_responder.specs.declared.answer_keys.AnswerKeys.{AnswerKeys}
+use Rattle.check_responder.specs.declared.answerer.Answerer.{Answerer}
+use Rattle.check_responder.specs.declared.given.Given.TheVariants as given
 use Rattle.check_ends.specs.declared.party.Party.{Party}
 use Rattle.check_laws.proofs.LargeShown.{large_is_shown}
 use Rattle.check_laws.specs.Changes.{views_in}

@@ -6,13 +6,13 @@ use Rattle.std.proofs.lemmas.Bool.{false≢true}
 use Rattle.mctp_framing.specs.Cutting.{RouteFields}
 use Rattle.spdm_basis.proofs.Bools.{and_first, and_second}
 use Rattle.std.specs.Int.{div_ceil}
-use Rattle.check_ends.proofs.FewMessages.{after_more}
+use Rattle.check_requester.proofs.FewMessages.{after_more}
 use Rattle.check_ends.proofs.InTurn.{AnswersInTurn}
 use Rattle.check_ends.proofs.KeptTyped.{kept_body}
-use Rattle.check_ends.specs.AnswerKeys.{StandFor, will_take}
-use Rattle.check_ends.specs.Answerer.{IsAnswerer}
-use Rattle.check_ends.specs.Asker.{IsAsker}
-use Rattle.check_ends.specs.HeardKept.{asks_upon}
+use Rattle.check_responder.specs.AnswerKeys.{StandFor, will_take}
+use Rattle.check_responder.specs.Answerer.{IsAnswerer}
+use Rattle.check_requester.specs.Asker.{IsAsker}
+use Rattle.check_requester.specs.HeardKept.{asks_upon}
 use Rattle.check_ends.specs.declared.party.Party.{Party}
 use Rattle.check_laws.specs.ChangeLaws.{AnswerAccepts, LargeAnswerChanges}
 use Rattle.check_laws.specs.Changes.{IsChange, IsStep, views_in}

@@ -2,7 +2,7 @@
 -- to where that one was not seen.
 use Rattle.std.proofs.Common.{◌≡◌, ◌≤◌, ◌<◌, ◌==◌, ◌&&◌, ◌↔◌, ℕ, List, [], ◌∷◌, refl, sym, ap, ◌∙◌, subst, drop, length, Bool, true, false, Option, Some, None, cond, is_none}
 use Rattle.std.specs.Prelude.{not, slice_index}
-use Rattle.check_ends.specs.AnswerKeys.{will_take}
+use Rattle.check_responder.specs.AnswerKeys.{will_take}
 use Rattle.check_laws.proofs.LargeShown.{large_is_shown}
 use Rattle.check_laws.specs.LargeShown.{IsShownLarge, begun_large, large_shown, whole_of}
 use Rattle.check_fetched_laws.specs.LastShown.{IsShownWhole}

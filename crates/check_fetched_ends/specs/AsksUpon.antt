@@ -1,6 +1,6 @@
 -- Upon which answers the requester asks for a chunk while a large answer is fetched. This project's own.
 use Rattle.std.specs.Prelude.{◌≡◌, ◌≢◌, ◌==◌, ℕ, List, slice_index, true, false, Some, None}
-use Rattle.check_ends.specs.HeardKept.{asks_upon, heard_kept}
+use Rattle.check_requester.specs.HeardKept.{asks_upon, heard_kept}
 use Rattle.check_laws.specs.KeptChanges.{accepted_from}
 use Rattle.check_laws.specs.Keeping.{Kept}
 use Rattle.check_laws.specs.RepliesShown.{AnswersRound, responder_for}

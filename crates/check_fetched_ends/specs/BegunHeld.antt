@@ -3,7 +3,7 @@ use Rattle.std.specs.Prelude.{◌≡◌, ◌+◌, ◌==◌, ◌||◌, ℕ, List,
 use Rattle.mctp_framing.specs.Cutting.{RouteFields}
 use Rattle.mctp_framing.specs.Gathering.Gathered.{Whole}
 use Rattle.requester_machine.specs.Setup.{ReqSetup}
-use Rattle.check_ends.specs.HeardKept.{asks_upon}
+use Rattle.check_requester.specs.HeardKept.{asks_upon}
 use Rattle.check_ends.specs.Party.{IsParty, StandBehind}
 use Rattle.check_ends.specs.declared.party.Party.{Party}
 use Rattle.check_laws.specs.Keeping.{Kept, RepliesKept}

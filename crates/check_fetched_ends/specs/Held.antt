@@ -1,11 +1,11 @@
 -- A large answer that is fetched in the clear, as the program keeps it: the connection stands as before its request, and what
 -- came since is held beside it. This project's own.
 use Rattle.std.specs.Prelude.{◌≡◌, ◌≢◌, ◌≤◌, ◌<◌, ◌+◌, ◌++◌, ◌∷◌, ℕ, List, Option, Some, None, drop, length, slice_index, Bool, true, false, if◌then◌else◌, nat_lt}
-use Rattle.check_ends.specs.AnswerKeys as answer_keys
-use Rattle.check_ends.specs.Asker.{IsAsker}
+use Rattle.check_responder.specs.AnswerKeys as answer_keys
+use Rattle.check_requester.specs.Asker.{IsAsker}
 use Rattle.check_ends.specs.Party.{IsBeside}
-use Rattle.check_ends.specs.declared.answer_keys.AnswerKeys.{AnswerKeys}
-use Rattle.check_ends.specs.declared.answerer.Answerer.{Answerer}
+use Rattle.check_responder.specs.declared.answer_keys.AnswerKeys.{AnswerKeys}
+use Rattle.check_responder.specs.declared.answerer.Answerer.{Answerer}
 use Rattle.check_ends.specs.declared.party.Party.{Party}
 use Rattle.check_laws.specs.Changes.{answered_in, views_in}
 use Rattle.check_laws.specs.Keeping.{restored}

@@ -1,7 +1,7 @@
 -- A large answer that is fetched in a session, as the program keeps it: the connection judges with some bytes in its place.
 -- This project's own.
 use Rattle.std.specs.Prelude.{◌≡◌, ◌≤◌, ◌<◌, ◌-◌, ◌==◌, ◌++◌, ◌↔◌, ℕ, List, drop, length, slice_index, Bool, true, false, if◌then◌else◌, Option, Some, None, unwrap_or}
-use Rattle.check_ends.specs.AnswerKeys.{will_take}
+use Rattle.check_responder.specs.AnswerKeys.{will_take}
 use Rattle.check_ends.specs.Party.{IsBeside}
 use Rattle.check_ends.specs.declared.party.Party.{Party}
 use Rattle.check_laws.specs.AnswersShown.{answered_text}

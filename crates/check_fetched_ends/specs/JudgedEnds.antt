@@ -9,7 +9,7 @@ use Rattle.requester_machine.specs.Setup.{ReqSetup}
 use Rattle.spdm_grammar.specs.declared.told.why.Why as declared
 use Rattle.check_ends.specs.Conversation as conversations
 use Rattle.check_ends.specs.Conversation.{NoneGoesOn}
-use Rattle.check_ends.specs.HeardKept.{asks_upon}
+use Rattle.check_requester.specs.HeardKept.{asks_upon}
 use Rattle.check_ends.specs.declared.conversation.Conversation.{Conversation}
 use Rattle.check_ends.specs.declared.party.Party.{Party}
 use Rattle.check_ends.specs.declared.onward.Onward.{Onward}

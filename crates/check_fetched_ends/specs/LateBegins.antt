@@ -1,7 +1,7 @@
 -- How a fetch begins late in the clear, by LargeResponse again, by what is told of an answer. This project's own.
 use Rattle.std.specs.Prelude.{◌≡◌, ◌+◌, ◌==◌, ◌&&◌, ℕ, List, Bool, true, bytes_eq, drop, length, slice_index}
-use Rattle.check_ends.specs.Answerer.{shows_large}
-use Rattle.check_ends.specs.HeardKept.{asks_upon}
+use Rattle.check_responder.specs.Answerer.{shows_large}
+use Rattle.check_requester.specs.HeardKept.{asks_upon}
 use Rattle.check_ends.specs.Party.{StandBehind}
 use Rattle.check_ends.specs.declared.party.Party.{Party}
 use Rattle.check_laws.specs.DropsShown.{IsShownAnswer}

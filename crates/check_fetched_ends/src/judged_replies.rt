@@ -11,21 +11,19 @@ use session_keys::byte_at;
 use spdm_basis::OutOfMemory;
 use spdm_grammar::Why;
 use spdm_grammar::names::request_code::GET_MEASUREMENTS;
-
-// The type of a body that is an SPDM message in the clear (DSP0275).
-const CLEAR: u8 = 5;
+use spdm_grammar::names::message_type::SPDM;
 
 // Whether a body is a message in the clear.
 pub(crate) fn is_clear(body: &[u8]) -> bool
     ensures { result ≡ (slice_index body.now 0 == 5) }
 {
-    byte_at(body, 0) == CLEAR
+    byte_at(body, 0) == SPDM
 }
 
 // The answers that a responder gives.
 impl JudgedEnds {
     ghost use Rattle.std.specs.Prelude.{◌≡◌, ◌≤◌, ◌<◌, ◌-◌, ◌^◌, ℕ, List, None, IfOk, OnErr, IsSome, drop, length};
-    ghost use Rattle.check_ends.specs.AnswerKeys.{IsComing};
+    ghost use Rattle.check_responder.specs.AnswerKeys.{IsComing};
     ghost use Rattle.check_ends.specs.Conversation as conversations;
     ghost use Rattle.check_ends.specs.Conversation.{IsAnswer};
     ghost use Rattle.check_ends.specs.Party.{IsParty};

@@ -19,9 +19,7 @@ ghost use Rattle.world_machine.specs.Setup.{Configuration};
 use crate::{Fetch, JudgedEnds};
 use responder_core::{Connection, record_id};
 use session_keys::{behind_type, byte_at};
-
-// The type of a body that is an SPDM message in the clear (DSP0275).
-const CLEAR: u8 = 5;
+use spdm_grammar::names::message_type::SPDM;
 
 // Whether a message in the clear is a repeat while this large answer is fetched.
 fn repeats_fetched(large: &Fetch, connection: &Connection, tag: u8, message: &[u8]) -> bool
@@ -96,13 +94,13 @@ pub(crate) fn moves_behind(
         else is_touched_by h d.responder (drop 1 body.now) answer.now) }
 {
     let message = behind_type(body);
-    if byte_at(body, 0) == CLEAR {
+    if byte_at(body, 0) == SPDM {
         if repeats {
             return false;
         }
         return repeats_clear(ends, tag, message);
     }
-    if byte_at(answer, 0) == CLEAR {
+    if byte_at(answer, 0) == SPDM {
         if !live {
             return false;
         }

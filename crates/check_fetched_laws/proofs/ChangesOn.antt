@@ -1,7 +1,7 @@
 -- What an answer changes of what rows of the table hang on, whether a large answer is fetched or not.
 use Rattle.std.proofs.Common.{◌≡◌, ◌==◌, ℕ, List, refl, sym, ap, ◌∙◌, Bool, false, Option, Some, None, cond, eq-eqb}
 use Rattle.std.specs.Prelude.{not}
-use Rattle.check_ends.specs.HeardKept.{heard_kept}
+use Rattle.check_requester.specs.HeardKept.{heard_kept}
 use Rattle.check_laws.proofs.AnswerSteps.{taken_same}
 use Rattle.check_laws.specs.ChangeLaws.{AnswerAccepts}
 use Rattle.check_laws.specs.Changes.{asked_between, session_in}

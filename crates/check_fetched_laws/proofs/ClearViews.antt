@@ -10,7 +10,7 @@ use Rattle.responder_machine.specs.Session.Event.{Began}
 use Rattle.responder_machine.specs.Setup.{RspSetup}
 use Rattle.responder_machine.specs.Turn.{Turn, answer_in, request_in, takes}
 use Rattle.responder_session.specs.declared.answer_key.AnswerKey.{AnswerKey}
-use Rattle.check_ends.specs.AnswerKeys.{IsLastKey, last_key}
+use Rattle.check_responder.specs.AnswerKeys.{IsLastKey, last_key}
 use Rattle.check_laws.specs.Changes.{shown}
 use Rattle.check_fetched_laws.proofs.ClearLeft.{sessions_are_left}
 use Rattle.check_fetched_laws.specs.ClearSessions.{ClearWhyIsBefore, KeysStandOn, ViewsAreLeft}

@@ -4,11 +4,11 @@ use Rattle.requester_machine.specs.Setup.{ReqSetup}
 use Rattle.responder_machine.specs.BoundLaws.{messages_of}
 use Rattle.responder_machine.specs.History.{History}
 use Rattle.responder_machine.specs.Setup.{RspSetup}
-use Rattle.check_ends.proofs.CarriedBy.{keeps_carries}
+use Rattle.check_requester.proofs.CarriedBy.{keeps_carries}
 use Rattle.check_ends.proofs.PartyPrepared.{same_party}
 use Rattle.check_ends.proofs.PartyReplied.{few_messages}
-use Rattle.check_ends.specs.AnswerKeys.{IsComing}
-use Rattle.check_ends.specs.Answerer.{IsAnswerer}
+use Rattle.check_responder.specs.AnswerKeys.{IsComing}
+use Rattle.check_responder.specs.Answerer.{IsAnswerer}
 use Rattle.check_ends.specs.Conversation as conversations
 use Rattle.check_ends.specs.Party.{IsParty}
 use Rattle.check_ends.specs.declared.party.Party.{Party}

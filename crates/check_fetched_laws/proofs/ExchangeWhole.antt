@@ -31,7 +31,7 @@ use Rattle.responder_machine.proofs.VerifyLength.{length_verify}
 use Rattle.check_laws.proofs.AnswerLengths.{exchange_rsp_read}
 use Rattle.check_laws.proofs.CarriedExchange.{apart_is}
 use Rattle.check_laws.specs.AnswersShown.{asks_summary, with_fields}
-use Rattle.check_ends.specs.WholeAnswers.{whole_values}
+use Rattle.check_responder.specs.WholeAnswers.{whole_values}
 use Rattle.capture_machine.specs.Difference.{is_apart}
 
 module _ (r : RspSetup) (p : Place) (m : List ℕ) (f : Free) where

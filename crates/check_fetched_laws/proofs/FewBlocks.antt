@@ -5,7 +5,7 @@ use Rattle.std.proofs.lemmas.Bool.{false≢true}
 use Rattle.measurements.specs.Blocks.{record_of}
 use Rattle.measurements.specs.Records.{asked, is_missing}
 use Rattle.spdm_grammar.specs.declared.told.block_spec.BlockSpec.{BlockSpec}
-use Rattle.check_ends.proofs.ClearAsked.{asked_few}
+use Rattle.check_responder.proofs.ClearAsked.{asked_few}
 
 -- All blocks are never missing.
 all_few : {T E : Type 0} (blocks : List BlockSpec) (out : List ℕ) (result : Result T E) → is_err result ≡ is_missing 255 blocks → OnOk result (out ≡ record_of (asked 255 blocks)) → OnOk result (length out ≤ 4054)

@@ -17,8 +17,8 @@ use Rattle.spdm_grammar.specs.declared.messages.capabilities.Caps.{Caps}
 use Rattle.spdm_grammar.specs.declared.messages.part_faults.CapsFault.TheVariants.{SizeTooSmall, SizesCrossed, NoPsk, NoProtection}
 use Rattle.spdm_grammar.specs.declared.names.TheConstants.{MAX_MESSAGE_SIZE}
 use Rattle.spdm_machine.specs.Terms.{asked_caps, common_from, no_common, request_value, response_value, terms_of, told_caps}
-use Rattle.check_ends.proofs.AnyAnswers.{least_few}
-use Rattle.check_ends.specs.ShownBy.{HasFewBlocks}
+use Rattle.check_responder.proofs.AnyAnswers.{least_few}
+use Rattle.check_responder.specs.ShownBy.{HasFewBlocks}
 use Rattle.check_laws.specs.AnswersShown.{least_values}
 
 -- ---- What stands in a chunk.

@@ -2,8 +2,8 @@
 use Rattle.std.proofs.Common.{◌≡◌, ◌==◌, ◌&&◌, ℕ, List, [], ◌∷◌, sym, ap, ◌∙◌, drop, length, arith, Bool, true, false, cond, inl, inr}
 use Rattle.std.specs.Prelude.{not, slice_index}
 use Rattle.std.proofs.lemmas.Bool.{false≢true}
-use Rattle.check_ends.proofs.KeysKept.{LeadsBy, record_leads}
-use Rattle.check_ends.specs.AnswerKeys.{is_taken_in, will_take}
+use Rattle.check_responder.proofs.KeysKept.{LeadsBy, record_leads}
+use Rattle.check_responder.specs.AnswerKeys.{is_taken_in, will_take}
 use Rattle.check_laws.specs.AnswersShown.{is_whole, values_shown_by}
 use Rattle.check_laws.specs.LargeShown.{IsShownLarge, drops_before, first_dropped, large_shown}
 use Rattle.responder_machine.specs.Answer.{Free}

@@ -37,7 +37,7 @@ use Rattle.check_fetched_laws.proofs.WholeDrops.{entry_led, entry_shown}
 use Rattle.check_fetched_laws.specs.ClearApart.{IsLastApart, LastApartIsShown}
 use Rattle.check_fetched_laws.specs.ClearSessions.{AreGets}
 use Rattle.check_fetched_laws.specs.LastShown.{drops_with}
-use Rattle.check_ends.specs.WholeAnswers.{clear_whole}
+use Rattle.check_responder.specs.WholeAnswers.{clear_whole}
 use Rattle.check_fetched_laws.specs.WholeValues.{values_with_whole}
 use Rattle.capture_machine.proofs.DropsTell.{clear_form, turns_stay}
 use Rattle.capture_machine.proofs.FetchedSessions.{takes_with}

@@ -3,7 +3,7 @@ use Rattle.std.proofs.Common.{◌≡◌, ◌≢◌, ◌≤◌, ◌==◌, ◌&&�
 use Rattle.std.specs.Prelude.{MatchBool, not}
 use Rattle.std.proofs.lemmas.Bool.{false≢true, not-true}
 use Rattle.spdm_basis.proofs.Bools.{and_first, and_second}
-use Rattle.check_ends.specs.WholeAnswers.{clear_shown, clear_whole}
+use Rattle.check_responder.specs.WholeAnswers.{clear_shown, clear_whole}
 use Rattle.check_laws.specs.AnswersShown.{LeadsAt, least_values, values_in_reply}
 use Rattle.check_laws.specs.DropsShown.{may_be_dropped}
 use Rattle.check_fetched_laws.specs.ClearSessions.{IsLeftBy, IsWithoutHandshake, is_in_handshake}

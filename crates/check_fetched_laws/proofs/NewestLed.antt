@@ -2,8 +2,8 @@
 use Rattle.std.proofs.Common.{◌≡◌, ◌≤◌, ◌||◌, ◌==◌, ◌&&◌, ◌⊎◌, ◌∙◌, ℕ, List, [], ◌∷◌, refl, sym, ap, subst, drop, length, arith, Bool, true, false, Option, Some, None, Result, Ok, Err, is_some, is_none, cond, eq-eqb, eqb-true, ne_eqb, inl, inr, ◌≢◌}
 use Rattle.std.specs.Prelude.{MatchBool, not, slice_index}
 use Rattle.std.proofs.lemmas.Bool.{and_parts, eqb-false, false≢true, not-true}
-use Rattle.check_ends.proofs.KeysKept.{LeadsBy, dropped_ended, dropped_session, record_leads}
-use Rattle.check_ends.specs.AnswerKeys.{is_taken_in}
+use Rattle.check_responder.proofs.KeysKept.{LeadsBy, dropped_ended, dropped_session, record_leads}
+use Rattle.check_responder.specs.AnswerKeys.{is_taken_in}
 use Rattle.check_laws.specs.Order.{is_answer, is_request}
 use Rattle.check_laws.specs.Walks.{StepsBy, StepsTo, Walks}
 use Rattle.check_late_laws.proofs.Late.SeenAlike.{SeenAlike}

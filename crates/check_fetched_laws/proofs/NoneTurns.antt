@@ -15,8 +15,8 @@ use Rattle.responder_machine.specs.Setup.{RspSetup}
 use Rattle.spdm_grammar.specs.Message.{ChunkMessage}
 use Rattle.spdm_grammar.specs.declared.names.TheConstants.{MAX_MESSAGE_SIZE}
 use Rattle.spdm_machine.specs.Bodies.{clear_body}
-use Rattle.check_ends.proofs.JudgedInClear.{clear_again}
-use Rattle.check_ends.specs.ShownBy.{HasFewBlocks}
+use Rattle.check_responder.proofs.JudgedInClear.{clear_again}
+use Rattle.check_responder.specs.ShownBy.{HasFewBlocks}
 use Rattle.check_laws.proofs.LeastValues.{least_allowed}
 use Rattle.check_laws.specs.AnswersShown.{least_values}
 use Rattle.check_laws.specs.RepliesShown.{responder_for}

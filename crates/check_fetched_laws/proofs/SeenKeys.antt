@@ -3,8 +3,8 @@
 use Rattle.std.proofs.Common.{◌≡◌, ℕ, List, [], ◌∷◌, refl, sym, ap, subst, Bool, true, false, Option, Some, None, cond}
 use Rattle.std.specs.Prelude.{MatchBool}
 use Rattle.key_schedule.specs.Purpose.{Purpose}
-use Rattle.check_ends.specs.AnswerKeys.{IsEndedKey, IsKeyOfTurn, IsLastKey, StandFor, last_key}
-use Rattle.check_ends.specs.declared.answer_keys.AnswerKeys.{AnswerKeys}
+use Rattle.check_responder.specs.AnswerKeys.{IsEndedKey, IsKeyOfTurn, IsLastKey, StandFor, last_key}
+use Rattle.check_responder.specs.declared.answer_keys.AnswerKeys.{AnswerKeys}
 use Rattle.check_laws.specs.Changes.{shown, views_in}
 use Rattle.responder_machine.specs.Heard.{view_of}
 use Rattle.responder_machine.specs.History.{Entry, History}

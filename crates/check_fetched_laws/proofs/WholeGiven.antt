@@ -25,7 +25,7 @@ use Rattle.check_laws.proofs.TurnShown.{inside_allowed, outside_allowed}
 use Rattle.check_laws.specs.AnswersShown.{asks_summary, with_fields}
 use Rattle.capture_machine.proofs.TurnsAlike.{chunk_is, is_request}
 use Rattle.capture_machine.specs.CapturedAnswers.{answer_at}
-use Rattle.check_ends.specs.WholeAnswers.{clear_whole, whole_values}
+use Rattle.check_responder.specs.WholeAnswers.{clear_whole, whole_values}
 
 -- ---- One request.
 

@@ -26,7 +26,7 @@ use Rattle.check_laws.proofs.SessionShown.{record_is, updates_alike}
 use Rattle.check_laws.specs.AnswersShown.{LeadsAt, values_shown_by}
 use Rattle.check_laws.specs.LargeShown.{whole_of}
 use Rattle.check_fetched_laws.proofs.WholeGiven.{plain_gives, same_turn, turn_gives, turn_handle}
-use Rattle.check_ends.specs.WholeAnswers.{clear_whole, whole_values}
+use Rattle.check_responder.specs.WholeAnswers.{clear_whole, whole_values}
 use Rattle.check_fetched_laws.specs.WholeValues.{WholeIsShown, values_with_whole}
 use Rattle.capture_machine.proofs.RecordAdds.{record_added}
 use Rattle.capture_machine.proofs.RepliesTell.{OutcomesAlike, EntriesAlike, no_chunk}

@@ -16,7 +16,7 @@ use Rattle.secured_record.specs.Format.{plain_text}
 use Rattle.spdm_grammar.specs.Message.ResponseMessage.{ChunkResponse}
 use Rattle.spdm_grammar.specs.Responses.{canonical_response}
 use Rattle.spdm_machine.specs.Bodies.{clear_body}
-use Rattle.check_ends.specs.ShownBy.{HasFewBlocks}
+use Rattle.check_responder.specs.ShownBy.{HasFewBlocks}
 use Rattle.check_laws.specs.AnswersShown.{answered_text}
 use Rattle.check_laws.specs.Walks.{Walks}
 use Rattle.capture_machine.specs.CapturedAnswers.{AnswersLarge, AreShown, Completes, MayLeadAfter, is_plain}

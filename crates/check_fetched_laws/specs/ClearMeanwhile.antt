@@ -7,7 +7,7 @@ use Rattle.responder_machine.specs.Place.{clear_place, place_terms}
 use Rattle.responder_machine.specs.Responder.{is_repeat, kept_reply}
 use Rattle.responder_machine.specs.Setup.{RspSetup}
 use Rattle.spdm_machine.specs.Bodies.{clear_body}
-use Rattle.check_ends.specs.ShownBy.{HasFewBlocks}
+use Rattle.check_responder.specs.ShownBy.{HasFewBlocks}
 use Rattle.check_fetched_laws.specs.StandsAlike.{IsAnew, version_entry}
 use Rattle.responder_machine.specs.Answer.{version_answer}
 use Rattle.spdm_grammar.specs.Message.RequestMessage.{GetVersion}

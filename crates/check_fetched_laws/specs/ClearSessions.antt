@@ -1,7 +1,7 @@
 -- What a large answer that is fetched in the clear leaves of the sessions. This project's own.
 use Rattle.std.specs.Prelude.{◌≡◌, ◌≢◌, ◌==◌, ◌&&◌, ◌||◌, ◌⊎◌, not, is_some, ℕ, List, [], ◌∷◌, ◌++◌, slice_index, Bool, true, false, MatchBool}
-use Rattle.check_ends.specs.AnswerKeys as answer_keys
-use Rattle.check_ends.specs.declared.answer_keys.AnswerKeys.{AnswerKeys}
+use Rattle.check_responder.specs.AnswerKeys as answer_keys
+use Rattle.check_responder.specs.declared.answer_keys.AnswerKeys.{AnswerKeys}
 use Rattle.check_laws.specs.Changes.{views_in}
 use Rattle.responder_machine.specs.History.{Entry, History}
 use Rattle.responder_machine.specs.History.Entry.{Clear, Dropped}

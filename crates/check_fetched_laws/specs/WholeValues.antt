@@ -9,7 +9,7 @@ use Rattle.responder_machine.specs.Responder.{sent_by}
 use Rattle.responder_machine.specs.Responder.Outcome.{Adds}
 use Rattle.responder_machine.specs.Session.{id_in_record, session_of}
 use Rattle.responder_machine.specs.Setup.{RspSetup}
-use Rattle.check_ends.specs.WholeAnswers.{clear_whole, whole_values}
+use Rattle.check_responder.specs.WholeAnswers.{clear_whole, whole_values}
 use Rattle.check_laws.specs.AnswersShown.{LeadsAt, values_shown_by}
 use Rattle.check_laws.specs.LargeShown.{whole_of}
 use Rattle.capture_machine.specs.CapturedAnswers.{MayLeadTo}

@@ -1,12 +1,10 @@
-ghost use Rattle.check_ends.specs.ShownBy.{HasFewBlocks};
+ghost use Rattle.check_responder.specs.ShownBy.{HasFewBlocks};
 ghost use Rattle.responder_core.specs.Setup.{IsSetUp};
 ghost use Rattle.responder_machine.specs.Setup.{RspSetup};
 
 use responder_core::Setup;
 use spdm_basis::Frame;
-
-// The operation that asks for all blocks.
-const ALL_BLOCKS: u8 = 255;
+use spdm_grammar::names::ALL_BLOCKS;
 
 /// No operation asks a responder that is so set up for more than 4,054 bytes of measurements.
 pub fn blocks_are_few(setup: &Setup<'_>)

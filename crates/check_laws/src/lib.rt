@@ -6,6 +6,7 @@
 //! shows of a large request, which is sent by chunks: `IsSendingOf` in `specs/Large/Sending.antt`.
 #![tactic(auto)]
 
+mod bodies;
 mod brought;
 mod change;
 mod change_laws;
@@ -21,6 +22,7 @@ mod rows;
 mod sending_large;
 mod verdict;
 
+pub use bodies::{byte_at, bytes_from, is_clear, is_get_version, is_secured, rest_of};
 pub use brought::Brought;
 pub use change::Change;
 pub use change_laws::{

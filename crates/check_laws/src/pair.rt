@@ -12,14 +12,8 @@ use mctp_framing::{Assembler, Fed, PacketView, Route};
 use spdm_basis::{Eid, OutOfMemory};
 use spdm_grammar::Why;
 use std::alloc::Global;
-
-// How long a body may be: its type and a record of 4,160 bytes.
-const BODY_LIMIT: usize = 4161;
-
-// The types of a body: an SPDM message in the clear (DSP0275), and a secured record (DSP0276).
-const CLEAR: u8 = 5;
-
-const SECURED: u8 = 6;
+use spdm_grammar::names::MAX_BODY_SIZE;
+use spdm_grammar::names::message_type::{SECURED, SPDM};
 
 /// What is kept of a requester and the responder: the bodies that are gathered in both directions,
 /// and the round under way.
@@ -36,7 +30,7 @@ fn is_other_type(body: &[u8]) -> bool
     ensures { result ≡ is_other_type body.now }
 {
     match body.first() {
-        Some(&kind) => kind != CLEAR && kind != SECURED,
+        Some(&kind) => kind != SPDM && kind != SECURED,
         None => true,
     }
 }
@@ -86,8 +80,8 @@ impl Pair {
     {
         Ok(Pair {
             eid,
-            requests: Assembler::new(alloc, own, eid, BODY_LIMIT)?,
-            answers: Assembler::new(alloc, eid, own, BODY_LIMIT)?,
+            requests: Assembler::new(alloc, own, eid, MAX_BODY_SIZE)?,
+            answers: Assembler::new(alloc, eid, own, MAX_BODY_SIZE)?,
             round: Round::new(),
         })
     }

@@ -11,15 +11,13 @@ use spdm_basis::Buffer;
 use spdm_codec::read_request;
 use spdm_grammar::Request;
 use std::marker::Model;
-
-// The type of a body that is an SPDM message in the clear (DSP0275).
-const CLEAR: u8 = 5;
+use spdm_grammar::names::message_type::SPDM;
 
 // How many bytes the hash has that messages are read with before one is chosen.
 const LEAST_HASH: usize = 32;
 
 // GET_VERSION in the clear, as a requester sends it.
-const GET_VERSION: &[u8] = &[CLEAR, 0x10, 0x84, 0, 0];
+const GET_VERSION: &[u8] = &[SPDM, 0x10, 0x84, 0, 0];
 
 /// The round under way between the responder and a requester: the request that began it, how many
 /// of it and its copies have no answer yet, and whether one has. Contracts see it as that of the
@@ -99,7 +97,7 @@ impl Round {
             return true;
         }
         match body.split_first() {
-            Some((&kind, message)) => kind == CLEAR && is_version(message),
+            Some((&kind, message)) => kind == SPDM && is_version(message),
             None => false,
         }
     }

@@ -10,6 +10,7 @@ use spdm_grammar::ChunkView;
 use spdm_grammar::names::{MAX_MESSAGE_SIZE, MIN_DATA_TRANSFER_SIZE};
 use std::marker::Model;
 use thiserror::Error;
+use spdm_grammar::names::{CHUNK_FIELDS_LEN, LARGE_SIZE_LEN};
 
 /// Why a message is not cut into chunks, in the order of the tests.
 #[derive(Clone, Copy, Debug, PartialEq, Eq, Error)]
@@ -21,12 +22,6 @@ pub enum SplitFault {
     #[error("a message that fits into one chunk")]
     Fits,
 }
-
-// What stands before the bytes of a chunk: the header of four bytes, ChunkSeqNo, two reserved bytes and
-// ChunkSize; and in the first one LargeMessageSize.
-const HEADER_LEN: usize = 12;
-
-const LARGE_SIZE_LEN: usize = 4;
 
 /// A large message, cut into chunks for a transfer size (DSP0274, "CHUNK_SEND request message format").
 /// Contracts see it as the list of the chunks that are left.
@@ -71,7 +66,7 @@ impl Splitter {
         if transfer < MIN_DATA_TRANSFER_SIZE {
             return Err(SplitFault::TransferTooSmall);
         }
-        let unit = transfer as usize - HEADER_LEN;
+        let unit = transfer as usize - CHUNK_FIELDS_LEN;
         if message.len() + LARGE_SIZE_LEN <= unit {
             return Err(SplitFault::Fits);
         }
@@ -117,7 +112,7 @@ pub fn nth_chunk(message: &[u8], transfer: u32, handle: u8, number: u16) -> Opti
     if transfer < MIN_DATA_TRANSFER_SIZE {
         return None;
     }
-    let unit = transfer as usize - HEADER_LEN;
+    let unit = transfer as usize - CHUNK_FIELDS_LEN;
     let count = (message.len() + LARGE_SIZE_LEN).div_ceil(unit);
     let number = number as usize;
     if number >= count {
@@ -134,7 +129,7 @@ fn chunk_at(message: &[u8], transfer: u32, handle: u8, number: usize, count: usi
     requires within { number < count }
     ensures { chunk_message result ≡ cutting.nth_chunk transfer handle message.now number }
 {
-    let unit = transfer as usize - HEADER_LEN;
+    let unit = transfer as usize - CHUNK_FIELDS_LEN;
     let from = (number * unit).saturating_sub(LARGE_SIZE_LEN);
     let to = message.len().min(number * unit + unit - LARGE_SIZE_LEN);
     ChunkView {

@@ -5,12 +5,10 @@ use hmac_hkdf::DrawStream;
 use mctp_framing::Assembler;
 use spdm_grammar::{Phase, SessionList};
 use std::alloc::Global;
+use spdm_grammar::names::MAX_BODY_SIZE;
 
 /// How many packets and commands a requester takes.
 pub(crate) const WEAR_LIMIT: u64 = 1_099_511_627_776;
-
-// How long a body may be: its type and a record of 4,160 bytes.
-const BODY_LIMIT: usize = 4161;
 
 /// A requester of one responder (DSP0274, section 10): commands and packets in, packets out. All its memory is
 /// taken when it is made.
@@ -65,7 +63,7 @@ impl Requester {
         ensures fault { IfErr result (λ fault. IsCause config.now fault) }
     {
         let part = Part::new(alloc, config)?;
-        let Ok(assembler) = Assembler::new(alloc, part.eid, part.responder, BODY_LIMIT) else {
+        let Ok(assembler) = Assembler::new(alloc, part.eid, part.responder, MAX_BODY_SIZE) else {
             return Err(ReqConfigFault::OutOfMemory);
         };
         let asking = Asking::new(part.max);

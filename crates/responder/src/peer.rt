@@ -19,9 +19,7 @@ use responder_session::QueueFault;
 use spdm_basis::{Bytes, OutOfMemory, Psk};
 use spdm_grammar::{Heard, ReplyFault, RspIgnored};
 use std::alloc::Global;
-
-// How long a body may be: its type and a record of 4,160 bytes.
-const BODY_LIMIT: usize = 4161;
+use spdm_grammar::names::MAX_BODY_SIZE;
 
 // What a responder keeps of a requester: what it knows of it, the connection with it, and the body that is being
 // gathered from its packets.
@@ -55,7 +53,7 @@ impl Peer {
     {
         let known = copy_of(alloc, known)?;
         let connection = Connection::new(&part.towards(&known));
-        let assembler = Assembler::new(alloc, part.eid, known.eid, BODY_LIMIT)?;
+        let assembler = Assembler::new(alloc, part.eid, known.eid, MAX_BODY_SIZE)?;
         Ok(Peer {
             known,
             connection,

@@ -1,7 +1,5 @@
 use std::marker::Model;
-
-// As many records as a key may seal.
-const MOST_RECORDS: u32 = 65536;
+use spdm_grammar::names::MAX_RECORDS;
 
 /// The number of the next record under a key, from 0 to 65,536: a key seals no more than 65,536
 /// records (DSP0277, "Sequence number"). Contracts see it as a number.
@@ -35,7 +33,7 @@ impl NextNumber {
         ensures value { result ≡ (self.now == 65536) }
         ensures few { result ≡ false → self.now < 65536 }
     {
-        self.number == MOST_RECORDS
+        self.number == MAX_RECORDS
     }
 
     /// The number.

@@ -19,6 +19,15 @@ pub mod spdm_version {
     pub const V1_2: u8 = 0x12;
 }
 
+/// Types of messages over MCTP, the first byte of a body (DSP0239).
+pub mod message_type {
+    /// An SPDM message, in the clear or inside a record (DSP0275).
+    pub const SPDM: u8 = 5;
+
+    /// A secured message, which is a record (DSP0276).
+    pub const SECURED: u8 = 6;
+}
+
 /// Request codes (DSP0274, "SPDM request codes").
 pub mod request_code {
     pub const GET_VERSION: u8 = 0x84;
@@ -169,6 +178,45 @@ pub const MIN_DATA_TRANSFER_SIZE: u32 = 42;
 
 /// The greatest length of an SPDM message, in bytes, whatever an end announces. This project's own limit.
 pub const MAX_MESSAGE_SIZE: u32 = 4096;
+
+/// The greatest length of a body, in bytes: its type and a record of 4,160 bytes. This project's own limit.
+pub const MAX_BODY_SIZE: usize = 4161;
+
+/// The most sessions between a requester and the responder, and the greatest id that an end gives one. This project's
+/// own limit.
+pub const MAX_SESSIONS: u8 = 4;
+
+/// The most records under one key. This project's own limit: their numbers have two bytes (DSP0277).
+pub const MAX_RECORDS: u32 = 65_536;
+
+/// The most bytes of opaque data (DSP0274, "PSK_EXCHANGE request message format").
+pub const MAX_OPAQUE_LEN: usize = 1024;
+
+/// The most bytes of random padding in a record that an end of this project sends (DSP0277).
+pub const MAX_PADDING: usize = 16;
+
+/// The length of PSK_EXCHANGE without its hint, its context and its opaque data, in bytes (DSP0274, "PSK_EXCHANGE
+/// request message format").
+pub const PSK_EXCHANGE_FIELDS_LEN: usize = 12;
+
+/// The length of PSK_EXCHANGE_RSP without its summary, its context, its opaque data and its verify data, in bytes
+/// (DSP0274, "PSK_EXCHANGE_RSP response message format").
+pub const PSK_EXCHANGE_RSP_FIELDS_LEN: usize = 12;
+
+/// The length of CHUNK_SEND and CHUNK_RESPONSE in front of the chunk and, in the first one, of the size of the large
+/// message, in bytes (DSP0274, "CHUNK_SEND request message format").
+pub const CHUNK_FIELDS_LEN: usize = 12;
+
+/// The length of the size of a large message in its first chunk, in bytes (DSP0274, "CHUNK_SEND request message
+/// format").
+pub const LARGE_SIZE_LEN: usize = 4;
+
+/// The length of CHUNK_SEND_ACK in front of the response to the large request, in bytes (DSP0274, "CHUNK_SEND_ACK
+/// response message format").
+pub const CHUNK_SEND_ACK_FIELDS_LEN: usize = 6;
+
+/// The measurement operation that asks for all blocks (DSP0274, "GET_MEASUREMENTS request message format").
+pub const ALL_BLOCKS: u8 = 255;
 
 /// The length of MEASUREMENTS without its record and its opaque data, in bytes (DSP0274, "MEASUREMENTS
 /// response message format").

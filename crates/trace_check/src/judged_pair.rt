@@ -5,7 +5,8 @@ ghost use Rattle.requester_machine.specs.UnderWay.{HasSizes};
 
 use crate::Answering;
 use crate::bodies::{takes_answer, takes_request};
-use check_ends::{Asker, Party, walks_show};
+use check_ends::{Party, walks_show};
+use check_requester::Asker;
 use check_laws::{Round, SessionTable};
 use check_fetched_ends::MarkedEnds;
 use mctp_framing::{Assembler, Fed, PacketView};
@@ -13,9 +14,7 @@ use script_text::ReqPart;
 use spdm_basis::{Bytes, Eid, OutOfMemory, Psk};
 use spdm_grammar::Why;
 use std::alloc::Global;
-
-// How long a body may be: its type and a record of 4,160 bytes.
-const BODY_LIMIT: usize = 4161;
+use spdm_grammar::names::MAX_BODY_SIZE;
 
 /// A requester of a capture and the responder: the bodies that are gathered in both directions, the
 /// round under way, what the two ends hold, and what the responder knows of the requester. It judges
@@ -85,8 +84,8 @@ impl JudgedPair {
         let party = Party::new(asker, number, &answering.towards(hint.as_slice(), &psk));
         Ok(JudgedPair {
             eid: q.eid,
-            requests: Assembler::new(alloc, own, q.eid, BODY_LIMIT)?,
-            answers: Assembler::new(alloc, q.eid, own, BODY_LIMIT)?,
+            requests: Assembler::new(alloc, own, q.eid, MAX_BODY_SIZE)?,
+            answers: Assembler::new(alloc, q.eid, own, MAX_BODY_SIZE)?,
             round: Round::new(),
             ends: MarkedEnds::new(party),
             hint,

@@ -8,18 +8,14 @@ ghost use Rattle.capture_machine.specs.Difference.{is_other_type};
 use check_laws::Round;
 use mctp_framing::Route;
 use spdm_grammar::Why;
-
-// The types of a body: an SPDM message in the clear (DSP0275), and a secured record (DSP0276).
-const CLEAR: u8 = 5;
-
-const SECURED: u8 = 6;
+use spdm_grammar::names::message_type::{SECURED, SPDM};
 
 // Whether a body is neither an SPDM message in the clear nor a secured record.
 fn is_other_type(body: &[u8]) -> bool
     ensures { result ≡ is_other_type body.now }
 {
     match body.first() {
-        Some(&kind) => kind != CLEAR && kind != SECURED,
+        Some(&kind) => kind != SPDM && kind != SECURED,
         None => true,
     }
 }

@@ -16,9 +16,7 @@ use session_keys::{behind_type, byte_at};
 use spdm_basis::Frame;
 use spdm_codec::write_response;
 use spdm_grammar::{ChunkView, Response};
-
-// The type of a body that is an SPDM message in the clear (DSP0275).
-const CLEAR: u8 = 5;
+use spdm_grammar::names::message_type::SPDM;
 
 /// A large answer that is fetched in the clear: its request, with its tag, and the LargeResponse that it got; the
 /// lengths that go by chunks, and the requester's transfer size; what came of it; the newest request in the clear,
@@ -42,7 +40,7 @@ fn is_clear(body: &[u8], message: &[u8]) -> bool
     ensures { IsTrue result ↔ (clear_body message.now ≡ body.now) }
 {
     match body.split_first() {
-        Some((&kind, rest)) => kind == CLEAR && rest == message,
+        Some((&kind, rest)) => kind == SPDM && rest == message,
         None => false,
     }
 }

@@ -30,9 +30,7 @@ use session_keys::{behind_type, byte_at};
 use spdm_basis::{Frame, OutOfMemory};
 use spdm_grammar::names::request_code::PSK_EXCHANGE;
 use spdm_grammar::names::response_code::CHUNK_SEND_ACK;
-
-// The type of a body that is an SPDM message in the clear (DSP0275).
-const CLEAR: u8 = 5;
+use spdm_grammar::names::message_type::SPDM;
 
 /// What is told of an answer in the clear while nothing is fetched.
 #[derive(Drop)]
@@ -114,10 +112,10 @@ pub fn begins_held(
     let message = behind_type(body);
     let reply = behind_type(answer);
     let tag = round.tag();
-    if byte_at(body, 0) != CLEAR {
+    if byte_at(body, 0) != SPDM {
         return Ok(BegunHeld::Not);
     }
-    if byte_at(answer, 0) != CLEAR {
+    if byte_at(answer, 0) != SPDM {
         return Ok(BegunHeld::Not);
     }
     if !party.answerer.tells_large(setup, tag, message, reply) {

@@ -1,5 +1,5 @@
 ghost use Rattle.std.specs.Prelude.{◌≡◌, ◌<◌, ◌-◌, ◌^◌, ℕ, List, None, Some, true, OnErr, OnOk, length};
-ghost use Rattle.check_ends.specs.HeardKept.{asks_upon, heard_kept};
+ghost use Rattle.check_requester.specs.HeardKept.{asks_upon, heard_kept};
 ghost use Rattle.check_laws.specs.KeptChanges.{accepted_from};
 ghost use Rattle.check_laws.specs.RepliesShown.{responder_for};
 ghost use Rattle.check_laws.specs.Rows.{StandsForRows};

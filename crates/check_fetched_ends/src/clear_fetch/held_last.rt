@@ -1,5 +1,5 @@
 ghost use Rattle.std.specs.Prelude.{◌≡◌, ◌≢◌, ◌<◌, ◌-◌, ◌^◌, ℕ, List, None, Ok, Some, IfOk, length};
-ghost use Rattle.check_ends.specs.declared.answer_keys.AnswerKeys.{AnswerKeys};
+ghost use Rattle.check_responder.specs.declared.answer_keys.AnswerKeys.{AnswerKeys};
 ghost use Rattle.check_laws.specs.Order.{answered_why};
 ghost use Rattle.check_laws.specs.RepliesShown.{responder_for};
 ghost use Rattle.check_laws.specs.Rows.{StandsForRows};
@@ -32,7 +32,8 @@ use crate::clear_fetch::held::Held;
 use crate::clear_fetch::held_late::leads_there;
 use crate::clear_fetch::held_whole::rsp_id_in;
 use crate::clear_fetch::led::Led;
-use check_ends::{Answerer, Party};
+use check_ends::Party;
+use check_responder::Answerer;
 use check_laws::{Round, SessionTable, answer_accepts, last_chunk_changes};
 use responder_core::Setup;
 use check_late_laws::Marks;

@@ -1,5 +1,5 @@
 ghost use Rattle.std.specs.Prelude.{◌≡◌, ◌-◌, ◌<◌, ◌^◌, ◌∷◌};
-ghost use Rattle.check_ends.specs.declared.answer_keys.AnswerKeys.{AnswerKeys};
+ghost use Rattle.check_responder.specs.declared.answer_keys.AnswerKeys.{AnswerKeys};
 ghost use Rattle.responder_core.specs.Connected as connected;
 ghost use Rattle.responder_core.specs.LateFetch.{with_ended};
 ghost use Rattle.responder_core.specs.Setup.{IsSetUp};
@@ -19,7 +19,7 @@ ghost use Rattle.capture_machine.specs.Rounds.{no_draw};
 use crate::clear_fetch::held::Held;
 use crate::clear_fetch::held_whole::leads_to;
 use crate::clear_fetch::led::Led;
-use check_ends::Answerer;
+use check_responder::Answerer;
 use responder_core::Setup;
 
 // As `leads_to`, of a request that passed before: the last record of the session that ended is put back. It is

@@ -28,12 +28,10 @@ use responder_core::Setup;
 use check_fetched_laws::blocks_are_few;
 use spdm_basis::OutOfMemory;
 use spdm_grammar::Why;
-
-// The type of a body that is an SPDM message in the clear (DSP0275).
-const CLEAR: u8 = 5;
+use spdm_grammar::names::message_type::SPDM;
 
 // GET_VERSION in the clear: its version is 1.0, and it has no fields (DSP0274).
-const VERSION_BODY: [u8; 5] = [CLEAR, 0x10, 0x84, 0, 0];
+const VERSION_BODY: [u8; 5] = [SPDM, 0x10, 0x84, 0, 0];
 
 // Whether a body is GET_VERSION.
 fn asks_version(body: &[u8]) -> bool

@@ -35,12 +35,10 @@ use responder_core::{Connection, FreeValues, Setup};
 use session_keys::behind_type;
 use spdm_basis::{Frame, OutOfMemory};
 use spdm_grammar::Why;
-
-// The type of a body that is an SPDM message in the clear (DSP0275).
-const CLEAR: u8 = 5;
+use spdm_grammar::names::message_type::SPDM;
 
 // VERSION in the clear: its version is 1.0, and its one entry is 1.2 (DSP0274).
-const VERSION_ANSWER: [u8; 9] = [CLEAR, 0x10, 0x04, 0, 0, 0, 1, 0, 0x12];
+const VERSION_ANSWER: [u8; 9] = [SPDM, 0x10, 0x04, 0, 0, 0, 1, 0, 0x12];
 
 // Whether an answer is VERSION.
 fn gives_version(answer: &[u8]) -> bool

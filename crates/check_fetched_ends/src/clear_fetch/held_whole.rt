@@ -1,5 +1,5 @@
 ghost use Rattle.std.specs.Prelude.{◌≡◌, ◌-◌, ◌<◌, ◌^◌, ◌∷◌, Some, length, take};
-ghost use Rattle.check_ends.specs.declared.answer_keys.AnswerKeys.{AnswerKeys};
+ghost use Rattle.check_responder.specs.declared.answer_keys.AnswerKeys.{AnswerKeys};
 ghost use Rattle.check_laws.specs.DropsShown.{dropped_for};
 ghost use Rattle.responder_core.specs.Connected as connected;
 ghost use Rattle.responder_core.specs.Setup.{IsSetUp};
@@ -21,7 +21,7 @@ use crate::clear_fetch::held::Held;
 use crate::clear_fetch::held_given::give_all;
 use crate::clear_fetch::led::Led;
 use byteorder::{ByteOrder, LittleEndian};
-use check_ends::Answerer;
+use check_responder::Answerer;
 use responder_core::{Connection, Setup};
 use session_keys::{byte_at, same_bytes};
 use spdm_basis::Frame;

@@ -35,16 +35,14 @@ use spdm_basis::{Frame, OutOfMemory};
 use spdm_grammar::names::error_number::LARGE_RESPONSE;
 use spdm_grammar::names::request_code::{GET_MEASUREMENTS, PSK_EXCHANGE};
 use spdm_grammar::names::response_code::ERROR;
-
-// The type of a body that is an SPDM message in the clear (DSP0275).
-const CLEAR: u8 = 5;
+use spdm_grammar::names::message_type::SPDM;
 
 // Whether a body is GET_MEASUREMENTS or PSK_EXCHANGE in the clear.
 fn is_free_body(body: &[u8]) -> bool
     ensures { result ≡ is_free_body body.now }
 {
     let code = byte_at(behind_type(body), 1);
-    byte_at(body, 0) == CLEAR && (code == GET_MEASUREMENTS || code == PSK_EXCHANGE)
+    byte_at(body, 0) == SPDM && (code == GET_MEASUREMENTS || code == PSK_EXCHANGE)
 }
 
 // Whether an answer is LargeResponse in the clear.
@@ -52,7 +50,7 @@ fn is_large_body(answer: &[u8]) -> bool
     ensures { result ≡ is_large_body answer.now }
 {
     let reply = behind_type(answer);
-    byte_at(answer, 0) == CLEAR && byte_at(reply, 1) == ERROR && byte_at(reply, 2) == LARGE_RESPONSE
+    byte_at(answer, 0) == SPDM && byte_at(reply, 1) == ERROR && byte_at(reply, 2) == LARGE_RESPONSE
 }
 
 /// Whether an answer is LargeResponse in the clear, and its request GET_MEASUREMENTS or PSK_EXCHANGE.

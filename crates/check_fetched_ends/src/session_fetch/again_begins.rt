@@ -20,9 +20,7 @@ use responder_core::Setup;
 use check_fetched_laws::blocks_are_few;
 use session_keys::{behind_type, byte_at};
 use spdm_basis::OutOfMemory;
-
-// The type of a body that is an SPDM message in the clear (DSP0275).
-const CLEAR: u8 = 5;
+use spdm_grammar::names::message_type::SPDM;
 
 /// What is told of an answer to a record while nothing is fetched.
 #[derive(Drop)]
@@ -58,10 +56,10 @@ pub fn begins_again(
     answer_accepts();
     blocks_are_few(setup);
     let body = round.body();
-    if byte_at(body, 0) == CLEAR {
+    if byte_at(body, 0) == SPDM {
         return Ok(BegunAgain::Not);
     }
-    if byte_at(answer, 0) == CLEAR {
+    if byte_at(answer, 0) == SPDM {
         return Ok(BegunAgain::Not);
     }
     let request = behind_type(body);

@@ -15,15 +15,14 @@ ghost use Rattle.world_machine.specs.Setup.{Configuration};
 
 use crate::session_fetch::in_session::InSession;
 use crate::session_fetch::session_prepared::prepared;
-use check_ends::{Given, Onward, Party};
+use check_ends::{Onward, Party};
+use check_responder::Given;
 use check_laws::{Round, SessionTable, answer_accepts, large_answer_changes};
 use responder_core::Setup;
 use session_keys::{behind_type, byte_at};
 use spdm_basis::OutOfMemory;
 use spdm_grammar::Why;
-
-// The type of a body that is an SPDM message in the clear (DSP0275).
-const CLEAR: u8 = 5;
+use spdm_grammar::names::message_type::SPDM;
 
 /// What is told of an answer while nothing is fetched.
 #[derive(Drop)]
@@ -64,10 +63,10 @@ pub fn begins_in_session(
     answer_accepts();
     large_answer_changes();
     let body = round.body();
-    if byte_at(body, 0) == CLEAR {
+    if byte_at(body, 0) == SPDM {
         return Ok(BegunIn::Not);
     }
-    if byte_at(answer, 0) == CLEAR {
+    if byte_at(answer, 0) == SPDM {
         return Ok(BegunIn::Not);
     }
     let request = behind_type(body);

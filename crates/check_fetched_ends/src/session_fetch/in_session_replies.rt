@@ -27,9 +27,7 @@ use check_fetched_laws::put_bytes;
 use session_keys::byte_at;
 use spdm_basis::{OutOfMemory, RecordFrame};
 use spdm_grammar::Why;
-
-// The type of a body that is an SPDM message in the clear (DSP0275).
-const CLEAR: u8 = 5;
+use spdm_grammar::names::message_type::SPDM;
 
 /// An answer of at most 4,161 bytes came whole, in order behind this round, while a large answer is fetched in a
 /// session: it goes on, and the table of sessions with it; or why it is refused.
@@ -56,13 +54,13 @@ pub fn replies_in_session(
     ensures memory { OnErr result (IsSome (id_begun (response_of (drop 1 answer.now)))) }
 {
     let body = round.body();
-    if byte_at(body, 0) == CLEAR {
+    if byte_at(body, 0) == SPDM {
         return replies_version(party, fetched, table, setup, round, answer);
     }
     if !fetched.left {
         return judges_other(party, fetched, table, setup, round, answer, false);
     }
-    if byte_at(answer, 0) == CLEAR {
+    if byte_at(answer, 0) == SPDM {
         return judges_other(party, fetched, table, setup, round, answer, false);
     }
     let mut text = RecordFrame::new();

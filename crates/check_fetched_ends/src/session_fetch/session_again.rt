@@ -17,12 +17,10 @@ use spdm_codec::read_request;
 use spdm_grammar::Request;
 use spdm_grammar::names::error_number::LARGE_RESPONSE;
 use spdm_grammar::names::response_code::ERROR;
+use spdm_grammar::names::message_type::SPDM;
 
 // What stands in a chunk beside the bytes that it holds.
 const CHUNK_FIELDS: u32 = 12;
-
-// The type of an inner message that is an SPDM message.
-const SPDM: u8 = 5;
 
 // Where the handle stands in an inner message that is LargeResponse.
 const HANDLE_AT: usize = 5;

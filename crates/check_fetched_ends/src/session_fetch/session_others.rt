@@ -22,7 +22,8 @@ ghost use Rattle.world_machine.specs.Setup.{Configuration};
 use crate::Upon;
 use crate::session_fetch::in_session::InSession;
 use crate::session_fetch::session_prepared::prepared;
-use check_ends::{Given, Party};
+use check_ends::Party;
+use check_responder::Given;
 use check_laws::{
     Round, SessionTable, answer_accepts, large_answer_changes, whole_answer_changes,
 };

@@ -1,6 +1,6 @@
 ghost use Rattle.std.specs.Prelude.{◌≡◌, ◌≤◌, ◌<◌, ◌-◌, ◌^◌, ◌⊎◌, ℕ, List, MatchOption, drop, length, true, false};
-ghost use Rattle.check_ends.specs.AnswerKeys.{will_take};
-ghost use Rattle.check_ends.specs.Answerer.{IsAnswerer};
+ghost use Rattle.check_responder.specs.AnswerKeys.{will_take};
+ghost use Rattle.check_responder.specs.Answerer.{IsAnswerer};
 ghost use Rattle.check_laws.specs.AnswersShown.{answered_text};
 ghost use Rattle.check_fetched_laws.specs.AnswerTexts.{Holds};
 ghost use Rattle.responder_machine.specs.BoundLaws.{messages_of};
@@ -11,7 +11,7 @@ ghost use Rattle.capture_machine.specs.Opening.{turn_in};
 ghost use Rattle.check_fetched_ends.specs.InSession.{IsTextOf, is_chunk};
 ghost use Rattle.check_fetched_ends.specs.SessionOthers.{IsRefusing};
 
-use check_ends::Answerer;
+use check_responder::Answerer;
 use check_fetched_laws::message_in;
 use session_keys::{behind_type, byte_at};
 use spdm_basis::RecordFrame;

@@ -16,7 +16,8 @@ ghost use Rattle.world_machine.specs.Setup.{Configuration};
 
 use crate::Upon;
 use crate::session_fetch::in_session::InSession;
-use check_ends::{Given, Judged, Party};
+use check_ends::Party;
+use check_responder::{Given, Judged};
 use check_laws::{Round, SessionTable, answer_accepts, whole_answer_changes};
 use responder_core::Setup;
 use spdm_basis::OutOfMemory;

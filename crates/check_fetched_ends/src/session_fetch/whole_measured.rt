@@ -9,6 +9,7 @@ use responder_core::Setup;
 use responder_rules::write_measurements;
 use session_keys::same_bytes;
 use spdm_basis::Frame;
+use spdm_grammar::names::MAX_OPAQUE_LEN;
 
 // The bytes of MEASUREMENTS before the blocks.
 const BEFORE_BLOCKS: usize = 8;
@@ -17,9 +18,6 @@ const BEFORE_BLOCKS: usize = 8;
 const NONCE_BYTES: usize = 32;
 
 const OPAQUE_SIZE_BYTES: usize = 2;
-
-// The most bytes of opaque data, and of a message.
-const MOST_OPAQUE: usize = 1024;
 
 const MOST_BYTES: u32 = 4096;
 
@@ -40,7 +38,7 @@ pub(crate) fn is_measured(setup: &Setup<'_>, op: u8, whole: &[u8]) -> bool
     }
     let (nonce, behind) = whole.split_at(nonce_at).1.split_at(NONCE_BYTES);
     let opaque = behind.split_at(OPAQUE_SIZE_BYTES).1;
-    if opaque.len() > MOST_OPAQUE {
+    if opaque.len() > MAX_OPAQUE_LEN {
         return false;
     }
     let mut right = Frame::new();

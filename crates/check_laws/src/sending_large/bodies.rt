@@ -10,9 +10,7 @@ ghost use Rattle.check_laws.specs.Large.Pieces.{size_in};
 use spdm_basis::Frame;
 use spdm_codec::write_request;
 use spdm_grammar::{ChunkView, Request};
-
-// The type of a body: an SPDM message in the clear (DSP0275).
-const CLEAR: u8 = 5;
+use spdm_grammar::names::message_type::SPDM;
 
 // A byte of a body, and 0 behind its end.
 fn byte_at(body: &[u8], at: usize) -> u8
@@ -53,7 +51,7 @@ pub(crate) fn is_chunk(body: &[u8], chunk: ChunkView<'_>) -> bool
         return false;
     }
     match body.split_first() {
-        Some((&kind, rest)) => kind == CLEAR && rest == room.as_slice(),
+        Some((&kind, rest)) => kind == SPDM && rest == room.as_slice(),
         None => false,
     }
 }

@@ -10,11 +10,7 @@ ghost use Rattle.requester_core.specs.Waiting.{waiting_of};
 use crate::{Setup, Talk, Waiting};
 use spdm_codec::read_response;
 use spdm_grammar::{ReqIgnored, Response};
-
-// The types of bodies: an SPDM message in the clear (DSP0275), and a record (DSP0276).
-const SPDM_TYPE: u8 = 5;
-
-const RECORD_TYPE: u8 = 6;
+use spdm_grammar::names::message_type::{SECURED, SPDM};
 
 // The length of a SHA-256 hash: how an ERROR is spelled depends on no hash.
 const ANY_HASH_LEN: usize = 32;
@@ -43,14 +39,14 @@ fn type_of(body: &[u8]) -> u8
 pub fn is_clear(body: &[u8]) -> bool
     ensures { result ≡ bodies.is_clear body.now }
 {
-    type_of(body) == SPDM_TYPE
+    type_of(body) == SPDM
 }
 
 /// Whether a body is a record.
 pub fn is_record(body: &[u8]) -> bool
     ensures { result ≡ bodies.is_record body.now }
 {
-    type_of(body) == RECORD_TYPE
+    type_of(body) == SECURED
 }
 
 /// The message in a body, behind its type.

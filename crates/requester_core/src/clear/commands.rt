@@ -19,12 +19,7 @@ use crate::{Again, Asked, FreeValues, Setup, Talk, Waiting, Way};
 use negotiate::Common;
 use spdm_basis::Frame;
 use spdm_grammar::{CommandFault, Exchange, Phase, Request};
-
-// The most sessions that are live at a time.
-const MAX_SESSIONS: u8 = 4;
-
-// What stands in PSK_EXCHANGE beside its hint, context and opaque data.
-const EXCHANGE_FIELDS_LEN: usize = 12;
+use spdm_grammar::names::{MAX_SESSIONS, PSK_EXCHANGE_FIELDS_LEN};
 
 // Whether a message of this length is too long for the responder.
 pub fn is_too_long(common: &Common, len: usize) -> bool
@@ -49,7 +44,7 @@ fn exchange_len(setup: &Setup<'_>, free: &FreeValues<'_>) -> usize
         → result ≡ 12 + length setup.now.hint.now + length free.now.context.now + length
         free.now.opaque.now }
 {
-    EXCHANGE_FIELDS_LEN
+    PSK_EXCHANGE_FIELDS_LEN
         .saturating_add(setup.hint.len())
         .saturating_add(free.context.len())
         .saturating_add(free.opaque.len())

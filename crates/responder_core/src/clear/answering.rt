@@ -22,9 +22,7 @@ use crate::{FreeValues, Setup, Standing};
 use responder_rules::{LargeAnswer, Place, write_measurements};
 use spdm_basis::Frame;
 use spdm_grammar::Request;
-
-// The length of CHUNK_SEND_ACK without a response.
-const EMPTY_ACK_LEN: usize = 6;
+use spdm_grammar::names::CHUNK_SEND_ACK_FIELDS_LEN;
 
 impl Standing {
     /// Writes the whole answer to a request that is refused neither for its form nor for its contents, and
@@ -62,7 +60,7 @@ impl Standing {
             Request::PskExchange(exchange) => return exchange_rsp_len(place, exchange, free),
             Request::ChunkSend(chunk) => {
                 write_acknowledgement(chunk.handle, chunk.number, &[], out);
-                return EMPTY_ACK_LEN;
+                return CHUNK_SEND_ACK_FIELDS_LEN;
             }
             Request::ChunkGet { handle, number } => {
                 return write_asked(&self.large, *handle, *number, out);

@@ -17,6 +17,7 @@ use spdm_codec::write_response;
 use spdm_grammar::names::MAX_MESSAGE_SIZE;
 use spdm_grammar::names::spdm_version::V1_2;
 use spdm_grammar::{AlgOffer, ChunkView, Response};
+use spdm_grammar::names::{CHUNK_FIELDS_LEN, LARGE_SIZE_LEN};
 
 /// VERSION: one entry, 1.2.
 pub fn write_version(out: &mut Frame)
@@ -52,11 +53,6 @@ pub fn write_algorithms(setup: &Setup<'_>, offer: &AlgOffer<'_>, out: &mut Frame
     let _ = write_response(&Response::Algorithms(reply.message()), 0, false, out);
 }
 
-// What stands in CHUNK_RESPONSE beside the bytes of the chunk, and LargeMessageSize.
-const CHUNK_FIELDS_LEN: usize = 12;
-
-const LARGE_LEN: usize = 4;
-
 /// CHUNK_RESPONSE with a chunk of at most 4,096 bytes that has a spelling, and its length. One that passes
 /// 4,096 bytes is not whole in `out`.
 pub fn write_chunk_response(chunk: ChunkView<'_>, out: &mut Frame) -> usize
@@ -80,7 +76,7 @@ fn large_len(large: Option<u32>) -> usize
     ensures most { result ≤ 4 }
 {
     match large {
-        Some(_) => LARGE_LEN,
+        Some(_) => LARGE_SIZE_LEN,
         None => 0,
     }
 }

@@ -11,16 +11,16 @@ pub returns-then-repeats : goal.returns-then-repeats
 returns-then-repeats c = λ w q older rows d h stands walk clear sealed.
     let body : List ℕ = c.args.body.now in
     let m : List ℕ = drop 1 body in
-    let type = ap (λ (n : ℕ). n == 5) (sym c.byte_at.ensures ∙ c.if-byte_at-eq-CLEAR.true) in
+    let type = ap (λ (n : ℕ). n == 5) (sym c.byte_at.ensures ∙ c.if-byte_at-eq-SPDM.true) in
     sym
     (ap (λ (b : Bool). cond b (is_taken_by h d.responder c.args.tag m) (is_touched_by h d.responder m c.args.answer.now)) type
     ∙ ap (λ (b : Bool). not b && is_repeat (kept_of d.responder) c.args.tag m) (sym (clear type) ∙ c.if-repeats.true))
 
-pub returns-then-byte_at-eq-CLEAR : goal.returns-then-byte_at-eq-CLEAR
-returns-then-byte_at-eq-CLEAR c = λ w q older rows d h stands walk clear sealed.
+pub returns-then-byte_at-eq-SPDM : goal.returns-then-byte_at-eq-SPDM
+returns-then-byte_at-eq-SPDM c = λ w q older rows d h stands walk clear sealed.
     let body : List ℕ = c.args.body.now in
     let m : List ℕ = drop 1 body in
-    let type = ap (λ (n : ℕ). n == 5) (sym c.byte_at.ensures ∙ c.if-byte_at-eq-CLEAR.true) in
+    let type = ap (λ (n : ℕ). n == 5) (sym c.byte_at.ensures ∙ c.if-byte_at-eq-SPDM.true) in
     c.repeats_clear.ensures w q older rows d stands walk ∙ ap (λ (l : List ℕ). is_repeat (kept_of d.responder) c.args.tag l) c.behind_type-message.ensures
     ∙ sym
     (ap (λ (b : Bool). cond b (is_taken_by h d.responder c.args.tag m) (is_touched_by h d.responder m c.args.answer.now)) type
@@ -30,21 +30,21 @@ pub returns-then-not-live : goal.returns-then-not-live
 returns-then-not-live c = λ w q older rows d h stands walk clear sealed.
     let body : List ℕ = c.args.body.now in
     let m : List ℕ = drop 1 body in
-    let type = ne_eqb (slice_index body 0) 5 (λ e. c.if-byte_at-eq-CLEAR.false (c.byte_at.ensures ∙ e)) in
+    let type = ne_eqb (slice_index body 0) 5 (λ e. c.if-byte_at-eq-SPDM.false (c.byte_at.ensures ∙ e)) in
     let it = sealed type in
-    let open_answer = ap (λ (n : ℕ). n == 5) (sym c.byte_at-2.ensures ∙ c.if-byte_at-eq-CLEAR-2.true) in
+    let open_answer = ap (λ (n : ℕ). n == 5) (sym c.byte_at-2.ensures ∙ c.if-byte_at-eq-SPDM-2.true) in
     let gone : Bool = not (is_live (session_of (id_in_record m) d.responder)) in
     sym
     (ap (λ (b : Bool). cond b (is_taken_by h d.responder c.args.tag m) (is_touched_by h d.responder m c.args.answer.now)) type
     ∙ ap (λ (b : Bool). cond b (is_live (session_of (id_in_record m) h) && gone) (not (is_kept_record h m))) open_answer ∙ ap (λ (b : Bool). b && gone) (sym it.1 ∙ c.if-not-live.true))
 
-pub returns-then-byte_at-eq-CLEAR-2 : goal.returns-then-byte_at-eq-CLEAR-2
-returns-then-byte_at-eq-CLEAR-2 c = λ w q older rows d h stands walk clear sealed.
+pub returns-then-byte_at-eq-SPDM-2 : goal.returns-then-byte_at-eq-SPDM-2
+returns-then-byte_at-eq-SPDM-2 c = λ w q older rows d h stands walk clear sealed.
     let body : List ℕ = c.args.body.now in
     let m : List ℕ = drop 1 body in
-    let type = ne_eqb (slice_index body 0) 5 (λ e. c.if-byte_at-eq-CLEAR.false (c.byte_at.ensures ∙ e)) in
+    let type = ne_eqb (slice_index body 0) 5 (λ e. c.if-byte_at-eq-SPDM.false (c.byte_at.ensures ∙ e)) in
     let it = sealed type in
-    let open_answer = ap (λ (n : ℕ). n == 5) (sym c.byte_at-2.ensures ∙ c.if-byte_at-eq-CLEAR-2.true) in
+    let open_answer = ap (λ (n : ℕ). n == 5) (sym c.byte_at-2.ensures ∙ c.if-byte_at-eq-SPDM-2.true) in
     let gone : Bool = not (is_live (session_of (id_in_record m) d.responder)) in
     ap not (c.is_live_in.ensures w q older rows d stands walk it.2 ∙ ap (λ (l : List ℕ). is_live (session_of (id_in_record l) d.responder)) c.behind_type-message.ensures)
     ∙ sym
@@ -55,8 +55,8 @@ pub returns : goal.returns
 returns c = λ w q older rows d h stands walk clear sealed.
     let body : List ℕ = c.args.body.now in
     let m : List ℕ = drop 1 body in
-    let type = ne_eqb (slice_index body 0) 5 (λ e. c.if-byte_at-eq-CLEAR.false (c.byte_at.ensures ∙ e)) in
-    let closed = ne_eqb (slice_index c.args.answer.now 0) 5 (λ e. c.if-byte_at-eq-CLEAR-2.false (c.byte_at-2.ensures ∙ e)) in
+    let type = ne_eqb (slice_index body 0) 5 (λ e. c.if-byte_at-eq-SPDM.false (c.byte_at.ensures ∙ e)) in
+    let closed = ne_eqb (slice_index c.args.answer.now 0) 5 (λ e. c.if-byte_at-eq-SPDM-2.false (c.byte_at-2.ensures ∙ e)) in
     let gone : Bool = not (is_live (session_of (id_in_record m) d.responder)) in
     ap not (sealed type).0
     ∙ sym

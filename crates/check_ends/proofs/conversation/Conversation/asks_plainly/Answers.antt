@@ -1,6 +1,6 @@
 use Rattle.std.proofs.Common.{◌≡◌, ◌∙◌, Option, None, subst, sym}
 use Rattle.mctp_framing.specs.Gathering.Gathered.{Whole}
-use Rattle.check_ends.proofs.CarriedBy.{keeps_carries}
+use Rattle.check_requester.proofs.CarriedBy.{keeps_carries}
 use Rattle.check_ends.proofs.PartyAsked.{beside_of, whole_by}
 use Rattle.check_ends.proofs.PlainlyAsked.{none_begins, plainly_on}
 use Rattle.check_ends.proofs.WalkRows.{walk_round}

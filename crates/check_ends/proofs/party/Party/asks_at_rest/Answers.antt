@@ -2,7 +2,7 @@ use Rattle.std.proofs.Common.{Option, Result, subst}
 use Rattle.spdm_grammar.specs.declared.told.why.Why as declared
 use Rattle.check_ends.proofs.BeginsTold.{beginning_on, refused_on, whole_on}
 use Rattle.check_ends.proofs.PartyAsked.{beside_of, whole_by}
-use Rattle.check_ends.proofs.CarriedBy.{keeps_carries}
+use Rattle.check_requester.proofs.CarriedBy.{keeps_carries}
 use Rattle.check_ends.proofs.party.Party.asks_at_rest.Goals as goal
 use Rattle.check_ends.specs.Conversation.{IsBeginning}
 use Rattle.check_ends.specs.Party.{IsAskedWhole}

@@ -1,7 +1,7 @@
 use Rattle.std.proofs.Common.{◌∙◌, ℕ, Option, ap, sym}
 use Rattle.check_ends.proofs.InTurn.{asks_in_turn}
 use Rattle.check_ends.proofs.SendingTold.{asker_before, copied, few_earlier, refused_early}
-use Rattle.check_ends.proofs.CarriedBy.{keeps_carries}
+use Rattle.check_requester.proofs.CarriedBy.{keeps_carries}
 use Rattle.check_ends.proofs.party.Party.asks_meanwhile.Goals as goal
 use Rattle.check_ends.specs.Conversation.{meanwhile}
 use Rattle.capture_machine.specs.Capture.{may_begin}

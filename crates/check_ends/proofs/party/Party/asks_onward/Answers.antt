@@ -2,10 +2,10 @@ use Rattle.std.proofs.Common.{◌∙◌, ℕ, List, Bool, refl, subst, sym, true
 use Rattle.std.proofs.lemmas.Bool.{false≢true}
 use Rattle.check_ends.proofs.InTurn.{asks_in_turn}
 use Rattle.check_ends.proofs.SendingTold.{asker_before, completed, connected, few_earlier, refused_late, sent_on, way_with}
-use Rattle.check_ends.proofs.CarriedBy.{keeps_carries}
+use Rattle.check_requester.proofs.CarriedBy.{keeps_carries}
 use Rattle.check_ends.proofs.party.Party.asks_onward.Goals as goal
 use Rattle.check_ends.specs.Conversation.{meanwhile}
-use Rattle.check_ends.specs.LargeAsked.{IsEnded}
+use Rattle.check_requester.specs.LargeAsked.{IsEnded}
 use Rattle.check_laws.specs.Large.LargeRequests.{IsToldNext}
 use Rattle.check_laws.specs.Large.Sending.{MayStand, requester_of}
 use Rattle.check_laws.specs.Large.SendingLaws.{whole_kept}

@@ -4,7 +4,7 @@ use Rattle.std.proofs.lemmas.Bool.{false≢true}
 use Rattle.check_ends.proofs.InTurn.{asks_in_turn}
 use Rattle.check_ends.proofs.PartyAsked.{began, copied, goes_nowhere, refused_by}
 use Rattle.check_ends.proofs.party.Party.asks_whole.Goals as goal
-use Rattle.check_ends.specs.Asked.{IsJudged}
+use Rattle.check_requester.specs.Asked.{IsJudged}
 use Rattle.capture_machine.specs.Capture.{may_begin}
 use Rattle.capture_machine.specs.Difference.{is_copy}
 use Rattle.capture_machine.specs.Rounds.{Round}

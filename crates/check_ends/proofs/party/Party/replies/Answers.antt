@@ -1,10 +1,10 @@
 use Rattle.std.proofs.Common.{◌-◌, ◌^◌, ◌<◌, subst, length, arith, List, ℕ}
 use Rattle.check_laws.specs.RepliesShown.{responder_for}
-use Rattle.check_ends.proofs.CarriedBy.{keeps_carries}
+use Rattle.check_requester.proofs.CarriedBy.{keeps_carries}
 use Rattle.check_ends.proofs.PartyPrepared.{same_party}
 use Rattle.check_ends.proofs.PartyReplied.{few_messages}
 use Rattle.check_ends.proofs.party.Party.replies.Goals as goal
-use Rattle.check_ends.specs.AnswerKeys.{IsComing}
+use Rattle.check_responder.specs.AnswerKeys.{IsComing}
 
 pub returns-clause-told : goal.returns-clause-told
 returns-clause-told c = λ w q older rows k route keeps below byte now set_up none party stands.

@@ -13,15 +13,15 @@ use Rattle.spdm_basis.specs.declared.OutOfMemory.{OutOfMemory}
 use Rattle.check_ends.proofs.AnswersSent.{after as after_it, apart_by, few_behind, is_change, is_step, keys_behind, places_before, refused_by, sent_apart, sent_body, sent_messages, whole_on}
 use Rattle.check_ends.proofs.InTurn.{answers_in_turn}
 use Rattle.check_ends.proofs.SendingWalks.{form, own_setup}
-use Rattle.check_ends.proofs.SendingWhole.{never_large, never_last}
+use Rattle.check_responder.proofs.SendingWhole.{never_large, never_last}
 use Rattle.check_ends.proofs.party.Party.replies_meanwhile.Goals as goal
-use Rattle.check_ends.specs.AnswerKeys as answer_keys
-use Rattle.check_ends.specs.AnswerKeys.{IsComingKey}
-use Rattle.check_ends.specs.Answerer.{history_shown}
+use Rattle.check_responder.specs.AnswerKeys as answer_keys
+use Rattle.check_responder.specs.AnswerKeys.{IsComingKey}
+use Rattle.check_responder.specs.Answerer.{history_shown}
 use Rattle.check_ends.specs.Conversation.{meanwhile}
-use Rattle.check_ends.specs.Given.{IsGiven}
-use Rattle.check_ends.specs.declared.given.Judged.{Judged}
-use Rattle.check_ends.specs.declared.given.Judged.TheVariants as judged
+use Rattle.check_responder.specs.Given.{IsGiven}
+use Rattle.check_responder.specs.declared.given.Judged.{Judged}
+use Rattle.check_responder.specs.declared.given.Judged.TheVariants as judged
 use Rattle.check_laws.specs.Large.SendingLaws.{aside}
 use Rattle.capture_machine.specs.Capture.{IsBody}
 use Rattle.capture_machine.specs.Rounds.{no_draw}

@@ -14,19 +14,19 @@ use Rattle.responder_machine.specs.Responder.{after}
 use Rattle.responder_session.specs.declared.answer_key.AnswerKey.{AnswerKey}
 use Rattle.spdm_basis.specs.declared.OutOfMemory.{OutOfMemory}
 use Rattle.check_ends.proofs.InTurn.{answers_in_turn}
-use Rattle.check_ends.proofs.CarriedBy.{keeps_carries}
+use Rattle.check_requester.proofs.CarriedBy.{keeps_carries}
 use Rattle.check_ends.proofs.KnownFetches.{kept_asks_none}
 use Rattle.check_ends.proofs.KeptTyped.{kept_apart, kept_body}
 use Rattle.check_ends.proofs.PartyReplied.{answers_round, apart_for, asked_upon, behind_whole, body_is, few_messages, goes_whole, is_part, kept_limits, refused_for, whole_kept}
 use Rattle.check_ends.proofs.PartyTold.{few_behind, is_change, is_step}
 use Rattle.check_ends.proofs.party.Party.replies_prepared.Goals as goal
-use Rattle.check_ends.specs.AnswerKeys.{IsComing, IsComingKey, StandFor}
-use Rattle.check_ends.specs.Answerer.{IsAnswerer, history_shown}
-use Rattle.check_ends.specs.Asker.{IsAsker}
-use Rattle.check_ends.specs.HeardKept.{asks_upon, heard_kept}
-use Rattle.check_ends.specs.Given.{IsGiven}
-use Rattle.check_ends.specs.declared.given.Judged.{Judged}
-use Rattle.check_ends.specs.declared.given.Judged.TheVariants as judged
+use Rattle.check_responder.specs.AnswerKeys.{IsComing, IsComingKey, StandFor}
+use Rattle.check_responder.specs.Answerer.{IsAnswerer, history_shown}
+use Rattle.check_requester.specs.Asker.{IsAsker}
+use Rattle.check_requester.specs.HeardKept.{asks_upon, heard_kept}
+use Rattle.check_responder.specs.Given.{IsGiven}
+use Rattle.check_responder.specs.declared.given.Judged.{Judged}
+use Rattle.check_responder.specs.declared.given.Judged.TheVariants as judged
 use Rattle.check_ends.specs.declared.party.Party.{Party}
 use Rattle.capture_machine.specs.Capture.{IsBody}
 use Rattle.capture_machine.specs.Rounds.{no_draw}

@@ -1,12 +1,12 @@
 use Rattle.std.proofs.Common.{◌≡◌, ◌≤◌, ◌==◌, ◌-◌, ◌^◌, ◌<◌, ◌+◌, ◌∙◌, refl, sym, ap, subst, length, arith, drop, List, ◌∷◌, ℕ, Bool, true, false, Some, None, Result, cond}
 use Rattle.std.specs.Prelude.{OnOk, not, slice_index}
 use Rattle.spdm_basis.specs.declared.OutOfMemory.{OutOfMemory}
-use Rattle.check_ends.proofs.CarriedBy.{keeps_carries}
+use Rattle.check_requester.proofs.CarriedBy.{keeps_carries}
 use Rattle.check_ends.proofs.InTurn.{answers_in_turn}
 use Rattle.check_ends.proofs.KnownFetches.{kept_asks_none}
 use Rattle.check_ends.proofs.PartyReplied.{few_messages, kept_limits}
-use Rattle.check_ends.specs.Asker.{IsAsker}
-use Rattle.check_ends.specs.HeardKept.{asks_upon, heard_kept}
+use Rattle.check_requester.specs.Asker.{IsAsker}
+use Rattle.check_requester.specs.HeardKept.{asks_upon, heard_kept}
 use Rattle.check_ends.specs.declared.party.Party.{Party}
 use Rattle.check_laws.proofs.KeptAnswers.{kept_is_restored}
 use Rattle.check_laws.specs.Keeping.{Keeps, Kept, restored}
@@ -55,25 +55,25 @@ is_true : (b : Bool) → not b ≡ false → b ≡ true
 is_true true is = refl
 is_true false is = sym is
 
-pub returns-then-byte_at-ne-CLEAR-clause-told : goal.returns-then-byte_at-ne-CLEAR-clause-told
-returns-then-byte_at-ne-CLEAR-clause-told c = λ w q older rows k route keeps below byte now set_up none party stands.
+pub returns-then-byte_at-ne-SPDM-clause-told : goal.returns-then-byte_at-ne-SPDM-clause-told
+returns-then-byte_at-ne-SPDM-clause-told c = λ w q older rows k route keeps below byte now set_up none party stands.
     let answer : List ℕ = c.args.answer.now in
     let turn = answers_in_turn k route answer none in
     let body = c.body-body.ensures ∙ ap body_in (now ∙ turn.answers.0) in
     let given = c.args.party.now in
     let table = c.args.table.now in
     not_large w q older rows k route answer turn given table table
-    (sealed_request w q older rows k route answer turn given table table (λ is. c.if-byte_at-ne-CLEAR.true (c.byte_at.ensures ∙ ap (λ (l : List ℕ). slice_index l 0) body ∙ is))) party refl
+    (sealed_request w q older rows k route answer turn given table table (λ is. c.if-byte_at-ne-SPDM.true (c.byte_at.ensures ∙ ap (λ (l : List ℕ). slice_index l 0) body ∙ is))) party refl
 
-pub returns-then-byte_at-ne-CLEAR-2-clause-told : goal.returns-then-byte_at-ne-CLEAR-2-clause-told
-returns-then-byte_at-ne-CLEAR-2-clause-told c = λ w q older rows k route keeps below byte now set_up none party stands.
+pub returns-then-byte_at-ne-SPDM-2-clause-told : goal.returns-then-byte_at-ne-SPDM-2-clause-told
+returns-then-byte_at-ne-SPDM-2-clause-told c = λ w q older rows k route keeps below byte now set_up none party stands.
     let answer : List ℕ = c.args.answer.now in
     let turn = answers_in_turn k route answer none in
     let given = c.args.party.now in
     let table = c.args.table.now in
     let limits = kept_limits q k given.asker party.asker in
     not_large w q older rows k route answer turn given table table
-    (sealed_answer w q older rows k route answer turn given table table byte limits (keeps_carries w q older k keeps) (λ is. c.if-byte_at-ne-CLEAR-2.true (c.byte_at-2.ensures ∙ is))) party refl
+    (sealed_answer w q older rows k route answer turn given table table byte limits (keeps_carries w q older k keeps) (λ is. c.if-byte_at-ne-SPDM-2.true (c.byte_at-2.ensures ∙ is))) party refl
 
 pub returns-then-not-tells_large-clause-told : goal.returns-then-not-tells_large-clause-told
 returns-then-not-tells_large-clause-told c = λ w q older rows k route keeps below byte now set_up none party stands.
@@ -89,7 +89,7 @@ returns-then-not-tells_large-clause-told c = λ w q older rows k route keeps bel
     let told = c.tells_large.ensures.told r k.responder set_up party.answerer (idle w q older k keeps) small in
     let new : Party = record c.args.party.now { answerer = c.tells_large.new.self } in
     not_large w q older rows k route answer turn new table table
-    (told_none w q older rows k route answer turn new table table (sym (ap (λ (l : List ℕ). slice_index l 0) body) ∙ sym c.byte_at.ensures ∙ c.if-byte_at-ne-CLEAR.false) (sym c.byte_at-2.ensures ∙ c.if-byte_at-ne-CLEAR-2.false) c.tag-tag.result c.behind_type-message.result.now c.behind_type-reply.result.now
+    (told_none w q older rows k route answer turn new table table (sym (ap (λ (l : List ℕ). slice_index l 0) body) ∙ sym c.byte_at.ensures ∙ c.if-byte_at-ne-SPDM.false) (sym c.byte_at-2.ensures ∙ c.if-byte_at-ne-SPDM-2.false) c.tag-tag.result c.behind_type-message.result.now c.behind_type-reply.result.now
     (c.tag-tag.ensures ∙ ap tag_in at) (c.behind_type-message.ensures ∙ ap (drop 1) body) c.behind_type-reply.ensures c.tells_large.result told c.if-not-tells_large.true)
     (record { asker = party.asker; answerer = c.tells_large.ensures.stands r k.responder party.answerer; keys = party.keys; number = party.number; places = party.places }) refl
 
@@ -107,7 +107,7 @@ returns-then-not-heard-clause-told c = λ w q older rows k route keeps below byt
     let told = c.tells_large.ensures.told r k.responder set_up party.answerer (idle w q older k keeps) small in
     let new : Party = record c.args.party.now { asker = c.hears-heard.new.self; answerer = c.tells_large.new.self } in
     let here =
-    told_large w q older rows k route answer turn new table table (sym (ap (λ (l : List ℕ). slice_index l 0) body) ∙ sym c.byte_at.ensures ∙ c.if-byte_at-ne-CLEAR.false) (sym c.byte_at-2.ensures ∙ c.if-byte_at-ne-CLEAR-2.false) c.tag-tag.result c.behind_type-message.result.now c.behind_type-reply.result.now
+    told_large w q older rows k route answer turn new table table (sym (ap (λ (l : List ℕ). slice_index l 0) body) ∙ sym c.byte_at.ensures ∙ c.if-byte_at-ne-SPDM.false) (sym c.byte_at-2.ensures ∙ c.if-byte_at-ne-SPDM-2.false) c.tag-tag.result c.behind_type-message.result.now c.behind_type-reply.result.now
     (c.tag-tag.ensures ∙ ap tag_in at) (c.behind_type-message.ensures ∙ ap (drop 1) body) c.behind_type-reply.ensures c.tells_large.result told c.if-not-tells_large.false in
     let tag : turn.round.tag ≡ c.tag-tag.result = sym (c.tag-tag.ensures ∙ ap tag_in at) in
     let fetches = c.hears-heard.ensures.fetches w q older k turn.round carries below turn.answers.0 tag party.asker (sym (kept_asks_none w q older k keeps)) in
@@ -166,7 +166,7 @@ returns-clause-told c = λ w q older rows k route keeps below byte now set_up no
     let message = c.behind_type-message.ensures ∙ ap (drop 1) body in
     let reply = c.behind_type-reply.ensures in
     let here =
-    told_large w q older rows k route answer turn c.args.party.now c.args.table.now c.args.table.now (sym (ap (λ (l : List ℕ). slice_index l 0) body) ∙ sym c.byte_at.ensures ∙ c.if-byte_at-ne-CLEAR.false) (sym c.byte_at-2.ensures ∙ c.if-byte_at-ne-CLEAR-2.false) c.tag-tag.result c.behind_type-message.result.now c.behind_type-reply.result.now
+    told_large w q older rows k route answer turn c.args.party.now c.args.table.now c.args.table.now (sym (ap (λ (l : List ℕ). slice_index l 0) body) ∙ sym c.byte_at.ensures ∙ c.if-byte_at-ne-SPDM.false) (sym c.byte_at-2.ensures ∙ c.if-byte_at-ne-SPDM-2.false) c.tag-tag.result c.behind_type-message.result.now c.behind_type-reply.result.now
     (c.tag-tag.ensures ∙ ap tag_in at) message reply c.tells_large.result told c.if-not-tells_large.false in
     let type = here.type in
     let large = here.large in

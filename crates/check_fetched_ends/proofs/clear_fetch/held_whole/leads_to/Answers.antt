@@ -1,6 +1,6 @@
 use Rattle.std.proofs.Common.{◌≡◌, ◌<◌, ◌-◌, ◌^◌, ◌↔◌, ◌∙◌, ℕ, List, [], ◌∷◌, sym, ap, subst, arith, Bool, true, false}
 use Rattle.std.proofs.lemmas.Bool.{false≢true}
-use Rattle.check_ends.specs.WholeAnswers.{IsLargeAt, clear_shown}
+use Rattle.check_responder.specs.WholeAnswers.{IsLargeAt, clear_shown}
 use Rattle.responder_core.specs.Connected.{StandsFor}
 use Rattle.check_fetched_ends.proofs.LastLeads.{anew, begun, bytes, dropped, few, more_other, never, short, stands_all, told}
 use Rattle.check_fetched_ends.specs.LastHeld.{AreAsked, led_by, left_by}

@@ -1,15 +1,15 @@
 use Rattle.std.proofs.Common.{◌≡◌, ◌+◌, ◌-◌, ◌^◌, ◌<◌, ◌==◌, ◌∙◌, refl, sym, ap, subst, length, drop, arith, ne_eqb, List, [], ℕ, true, false, Some, None, Option, Result}
 use Rattle.std.specs.Prelude.{OnOk, slice_index}
 use Rattle.std.proofs.lemmas.Bool.{not-false, not-true}
-use Rattle.check_ends.proofs.CarriedBy.{keeps_carries}
+use Rattle.check_requester.proofs.CarriedBy.{keeps_carries}
 use Rattle.check_ends.proofs.InTurn.{answers_in_turn}
 use Rattle.check_ends.proofs.KnownFetches.{kept_asks_none}
 use Rattle.check_ends.proofs.PartyReplied.{few_messages, kept_limits}
-use Rattle.check_ends.specs.AnswerKeys.{StandFor, will_take}
-use Rattle.check_ends.specs.Answerer.{IsAnswerer}
-use Rattle.check_ends.specs.Asker.{IsAsker}
-use Rattle.check_ends.specs.HeardKept.{asks_upon, heard_kept}
-use Rattle.check_ends.specs.declared.answerer.Answerer.{Answerer}
+use Rattle.check_responder.specs.AnswerKeys.{StandFor, will_take}
+use Rattle.check_responder.specs.Answerer.{IsAnswerer}
+use Rattle.check_requester.specs.Asker.{IsAsker}
+use Rattle.check_requester.specs.HeardKept.{asks_upon, heard_kept}
+use Rattle.check_responder.specs.declared.answerer.Answerer.{Answerer}
 use Rattle.check_laws.specs.AnswersShown.{least_values}
 use Rattle.check_laws.specs.Keeping.{restored}
 use Rattle.check_laws.specs.Order.{body_in, tag_in}
@@ -32,14 +32,14 @@ use Rattle.check_fetched_ends.proofs.AgainBegun.{again_change, again_stands, aga
 use Rattle.check_fetched_ends.proofs.session_fetch.again_begins.begins_again.Goals as goal
 use Rattle.check_fetched_ends.specs.AgainRead.{IsPreparedAgain}
 
-pub returns-then-byte_at-eq-CLEAR-2-clause-told : goal.returns-then-byte_at-eq-CLEAR-2-clause-told
-returns-then-byte_at-eq-CLEAR-2-clause-told c = λ w q older rows k route keeps below byte now set_up none party stands.
+pub returns-then-byte_at-eq-SPDM-2-clause-told : goal.returns-then-byte_at-eq-SPDM-2-clause-told
+returns-then-byte_at-eq-SPDM-2-clause-told c = λ w q older rows k route keeps below byte now set_up none party stands.
     let answer : List ℕ = c.args.answer.now in
     let turn = answers_in_turn k route answer none in
     let limits = kept_limits q k c.args.party.now.asker party.asker in
     let body = c.body-body.ensures ∙ ap body_in (now ∙ turn.answers.0) in
-    let type = ne_eqb (slice_index turn.round.body 0) 5 (λ e. c.if-byte_at-eq-CLEAR.false (c.byte_at.ensures ∙ ap (λ (l : List ℕ). slice_index l 0) body ∙ e)) in
-    let clear = ap (λ (n : ℕ). n == 5) (sym c.byte_at-2.ensures ∙ c.if-byte_at-eq-CLEAR-2.true) in
+    let type = ne_eqb (slice_index turn.round.body 0) 5 (λ e. c.if-byte_at-eq-SPDM.false (c.byte_at.ensures ∙ ap (λ (l : List ℕ). slice_index l 0) body ∙ e)) in
+    let clear = ap (λ (n : ℕ). n == 5) (sym c.byte_at-2.ensures ∙ c.if-byte_at-eq-SPDM-2.true) in
     (never_clear w q older k route answer byte limits keeps turn type clear, party, refl)
 
 pub returns-in_default-clause-told : goal.returns-in_default-clause-told
@@ -50,7 +50,7 @@ returns-in_default-clause-told c = λ w q older rows k route keeps below byte no
     let r = responder_for w k in
     let h = k.responder in
     let body = c.body-body.ensures ∙ ap body_in (now ∙ turn.answers.0) in
-    let type = ne_eqb (slice_index turn.round.body 0) 5 (λ e. c.if-byte_at-eq-CLEAR.false (c.byte_at.ensures ∙ ap (λ (l : List ℕ). slice_index l 0) body ∙ e)) in
+    let type = ne_eqb (slice_index turn.round.body 0) 5 (λ e. c.if-byte_at-eq-SPDM.false (c.byte_at.ensures ∙ ap (λ (l : List ℕ). slice_index l 0) body ∙ e)) in
     let request = c.behind_type-request.ensures ∙ ap (λ (l : List ℕ). drop 1 l) body in
     let never = subst (λ (l : List ℕ). IsPreparedAgain r h (drop 1 turn.round.body) l None) c.behind_type-sealed.ensures
     (subst (λ (l : List ℕ). IsPreparedAgain r h l c.behind_type-sealed.result.now None) request (c.in_default.ensures.kept r h set_up party.answerer)) in
@@ -68,8 +68,8 @@ returns-then-not-heard-clause-told c = λ w q older rows k route keeps below byt
     let at = now ∙ turn.answers.0 in
     let body = c.body-body.ensures ∙ ap body_in at in
     let small = few_messages w q older k carries few in
-    let type = ne_eqb (slice_index turn.round.body 0) 5 (λ e. c.if-byte_at-eq-CLEAR.false (c.byte_at.ensures ∙ ap (λ (l : List ℕ). slice_index l 0) body ∙ e)) in
-    let sealed = ne_eqb (slice_index answer 0) 5 (λ e. c.if-byte_at-eq-CLEAR-2.false (c.byte_at-2.ensures ∙ e)) in
+    let type = ne_eqb (slice_index turn.round.body 0) 5 (λ e. c.if-byte_at-eq-SPDM.false (c.byte_at.ensures ∙ ap (λ (l : List ℕ). slice_index l 0) body ∙ e)) in
+    let sealed = ne_eqb (slice_index answer 0) 5 (λ e. c.if-byte_at-eq-SPDM-2.false (c.byte_at-2.ensures ∙ e)) in
     let request = c.behind_type-request.ensures ∙ ap (λ (l : List ℕ). drop 1 l) body in
     let prepared = subst (λ (l : List ℕ). IsPreparedAgain r h (drop 1 turn.round.body) l (Some c.in-Some.again)) c.behind_type-sealed.ensures
     (subst (λ (l : List ℕ). IsPreparedAgain r h l c.behind_type-sealed.result.now (Some c.in-Some.again)) request (c.in-Some.ensures.kept r h set_up party.answerer)) in
@@ -125,8 +125,8 @@ returns-clause-told c = λ w q older rows k route keeps below byte now set_up no
     let at = now ∙ turn.answers.0 in
     let body = c.body-body.ensures ∙ ap body_in at in
     let small = few_messages w q older k carries few in
-    let type = ne_eqb (slice_index turn.round.body 0) 5 (λ e. c.if-byte_at-eq-CLEAR.false (c.byte_at.ensures ∙ ap (λ (l : List ℕ). slice_index l 0) body ∙ e)) in
-    let sealed = ne_eqb (slice_index answer 0) 5 (λ e. c.if-byte_at-eq-CLEAR-2.false (c.byte_at-2.ensures ∙ e)) in
+    let type = ne_eqb (slice_index turn.round.body 0) 5 (λ e. c.if-byte_at-eq-SPDM.false (c.byte_at.ensures ∙ ap (λ (l : List ℕ). slice_index l 0) body ∙ e)) in
+    let sealed = ne_eqb (slice_index answer 0) 5 (λ e. c.if-byte_at-eq-SPDM-2.false (c.byte_at-2.ensures ∙ e)) in
     let request = c.behind_type-request.ensures ∙ ap (λ (l : List ℕ). drop 1 l) body in
     let prepared = subst (λ (l : List ℕ). IsPreparedAgain r h (drop 1 turn.round.body) l (Some c.in-Some.again)) c.behind_type-sealed.ensures
     (subst (λ (l : List ℕ). IsPreparedAgain r h l c.behind_type-sealed.result.now (Some c.in-Some.again)) request (c.in-Some.ensures.kept r h set_up party.answerer)) in

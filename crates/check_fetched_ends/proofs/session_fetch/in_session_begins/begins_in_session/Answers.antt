@@ -3,20 +3,20 @@ use Rattle.std.specs.Prelude.{OnOk, slice_index}
 use Rattle.std.specs.Option.{IfSome}
 use Rattle.std.proofs.lemmas.Bool.{false≢true, not-false, not-true}
 use Rattle.std.proofs.lemmas.Option.{same_Some}
-use Rattle.check_ends.proofs.CarriedBy.{keeps_carries}
+use Rattle.check_requester.proofs.CarriedBy.{keeps_carries}
 use Rattle.check_ends.proofs.InTurn.{answers_in_turn}
 use Rattle.check_ends.proofs.KnownFetches.{kept_asks_none}
 use Rattle.check_ends.proofs.PartyReplied.{asked_upon, behind_whole, few_messages, goes_whole, is_part, kept_limits, refused_for, whole_kept}
 use Rattle.check_ends.proofs.PartyTold.{few_behind, is_change, is_step}
-use Rattle.check_ends.specs.AnswerKeys.{IsComingKey, StandFor}
-use Rattle.check_ends.specs.Answerer.{IsAnswerer, history_shown}
-use Rattle.check_ends.specs.Asker.{IsAsker}
-use Rattle.check_ends.specs.ClearAnswers.{is_large_given}
-use Rattle.check_ends.specs.HeardKept.{asks_upon, heard_kept}
-use Rattle.check_ends.specs.RecordAnswers.{IsGivenTo, history_behind}
-use Rattle.check_ends.specs.declared.answerer.Answerer.{Answerer}
-use Rattle.check_ends.specs.declared.given.Given.{Given}
-use Rattle.check_ends.specs.declared.given.Given.TheVariants as given
+use Rattle.check_responder.specs.AnswerKeys.{IsComingKey, StandFor}
+use Rattle.check_responder.specs.Answerer.{IsAnswerer, history_shown}
+use Rattle.check_requester.specs.Asker.{IsAsker}
+use Rattle.check_responder.specs.ClearAnswers.{is_large_given}
+use Rattle.check_requester.specs.HeardKept.{asks_upon, heard_kept}
+use Rattle.check_responder.specs.RecordAnswers.{IsGivenTo, history_behind}
+use Rattle.check_responder.specs.declared.answerer.Answerer.{Answerer}
+use Rattle.check_responder.specs.declared.given.Given.{Given}
+use Rattle.check_responder.specs.declared.given.Given.TheVariants as given
 use Rattle.check_laws.specs.KeptChanges.{taken_shown}
 use Rattle.check_laws.specs.Keeping.{Kept, restored}
 use Rattle.check_laws.specs.Order.{body_in, tag_in}
@@ -49,18 +49,18 @@ use Rattle.check_fetched_ends.specs.Prepared.{IsPrepared, NeverLarge}
 sealed_round : (k : Kept) (round : Round) → k.round ≡ Some round → (slice_index round.body 0 == 5) ≡ false → (other : Round) → k.round ≡ Some other → (slice_index other.body 0 == 5) ≡ false
 sealed_round k round at type other is = subst (λ (x : Round). (slice_index x.body 0 == 5) ≡ false) (same_Some round other (sym at ∙ is)) type
 
-pub returns-then-byte_at-eq-CLEAR-clause-told : goal.returns-then-byte_at-eq-CLEAR-clause-told
-returns-then-byte_at-eq-CLEAR-clause-told c = λ w q older rows k route keeps below byte now set_up none party stands.
+pub returns-then-byte_at-eq-SPDM-clause-told : goal.returns-then-byte_at-eq-SPDM-clause-told
+returns-then-byte_at-eq-SPDM-clause-told c = λ w q older rows k route keeps below byte now set_up none party stands.
     let turn = answers_in_turn k route c.args.answer.now none in
     let body = c.body-body.ensures ∙ ap body_in (now ∙ turn.answers.0) in
-    let clear = ap (λ (l : List ℕ). slice_index l 0 == 5) (sym body) ∙ ap (λ (n : ℕ). n == 5) (sym c.byte_at.ensures ∙ c.if-byte_at-eq-CLEAR.true) in
+    let clear = ap (λ (l : List ℕ). slice_index l 0 == 5) (sym body) ∙ ap (λ (n : ℕ). n == 5) (sym c.byte_at.ensures ∙ c.if-byte_at-eq-SPDM.true) in
     ((λ is. false≢true (sym (record_here w k route c.args.answer.now turn is).type ∙ clear)), party, refl)
 
-pub returns-then-byte_at-eq-CLEAR-2-clause-told : goal.returns-then-byte_at-eq-CLEAR-2-clause-told
-returns-then-byte_at-eq-CLEAR-2-clause-told c = λ w q older rows k route keeps below byte now set_up none party stands.
+pub returns-then-byte_at-eq-SPDM-2-clause-told : goal.returns-then-byte_at-eq-SPDM-2-clause-told
+returns-then-byte_at-eq-SPDM-2-clause-told c = λ w q older rows k route keeps below byte now set_up none party stands.
     let answer : List ℕ = c.args.answer.now in
     let turn = answers_in_turn k route answer none in
-    let clear = ap (λ (n : ℕ). n == 5) (sym c.byte_at-2.ensures ∙ c.if-byte_at-eq-CLEAR-2.true) in (
+    let clear = ap (λ (n : ℕ). n == 5) (sym c.byte_at-2.ensures ∙ c.if-byte_at-eq-SPDM-2.true) in (
       (λ is.
           let here = record_here w k route answer turn is in
           false≢true (sym (large_sealed (responder_for w k) k.responder turn.round.tag turn.round.body answer here.type here.large) ∙ clear)),
@@ -116,8 +116,8 @@ returns-then-heard-clause-told c = λ w q older rows k route keeps below byte no
     let at = now ∙ turn.answers.0 in
     let body = c.body-body.ensures ∙ ap body_in at in
     let small = few_messages w q older k carries few in
-    let type = ne_eqb (slice_index turn.round.body 0) 5 (λ e. c.if-byte_at-eq-CLEAR.false (c.byte_at.ensures ∙ ap (λ (l : List ℕ). slice_index l 0) body ∙ e)) in
-    let sealed = ne_eqb (slice_index answer 0) 5 (λ e. c.if-byte_at-eq-CLEAR-2.false (c.byte_at-2.ensures ∙ e)) in
+    let type = ne_eqb (slice_index turn.round.body 0) 5 (λ e. c.if-byte_at-eq-SPDM.false (c.byte_at.ensures ∙ ap (λ (l : List ℕ). slice_index l 0) body ∙ e)) in
+    let sealed = ne_eqb (slice_index answer 0) 5 (λ e. c.if-byte_at-eq-SPDM-2.false (c.byte_at-2.ensures ∙ e)) in
     let request = c.behind_type-request.ensures ∙ ap (λ (l : List ℕ). drop 1 l) body in
     let first = subst (λ (x : Connection). connected.StandsFor x r h) (sym c.reply_why-why.ensures.same) party.answerer in
     let second = subst (λ (x : Connection). connected.StandsFor x r h) (sym c.coming_key.ensures.same) first in
@@ -144,8 +144,8 @@ returns-in_ok-take-in-Some-Whole-clause-told c = λ w q older rows k route keeps
     let at = now ∙ turn.answers.0 in
     let body = c.body-body.ensures ∙ ap body_in at in
     let small = few_messages w q older k carries few in
-    let type = ne_eqb (slice_index turn.round.body 0) 5 (λ e. c.if-byte_at-eq-CLEAR.false (c.byte_at.ensures ∙ ap (λ (l : List ℕ). slice_index l 0) body ∙ e)) in
-    let sealed = ne_eqb (slice_index answer 0) 5 (λ e. c.if-byte_at-eq-CLEAR-2.false (c.byte_at-2.ensures ∙ e)) in
+    let type = ne_eqb (slice_index turn.round.body 0) 5 (λ e. c.if-byte_at-eq-SPDM.false (c.byte_at.ensures ∙ ap (λ (l : List ℕ). slice_index l 0) body ∙ e)) in
+    let sealed = ne_eqb (slice_index answer 0) 5 (λ e. c.if-byte_at-eq-SPDM-2.false (c.byte_at-2.ensures ∙ e)) in
     let request = c.behind_type-request.ensures ∙ ap (λ (l : List ℕ). drop 1 l) body in
     let first = subst (λ (x : Connection). connected.StandsFor x r h) (sym c.reply_why-why.ensures.same) party.answerer in
     let second = subst (λ (x : Connection). connected.StandsFor x r h) (sym c.coming_key.ensures.same) first in
@@ -197,8 +197,8 @@ returns-then-not-heard-clause-told c = λ w q older rows k route keeps below byt
     let at = now ∙ turn.answers.0 in
     let body = c.body-body.ensures ∙ ap body_in at in
     let small = few_messages w q older k carries few in
-    let type = ne_eqb (slice_index turn.round.body 0) 5 (λ e. c.if-byte_at-eq-CLEAR.false (c.byte_at.ensures ∙ ap (λ (l : List ℕ). slice_index l 0) body ∙ e)) in
-    let sealed = ne_eqb (slice_index answer 0) 5 (λ e. c.if-byte_at-eq-CLEAR-2.false (c.byte_at-2.ensures ∙ e)) in
+    let type = ne_eqb (slice_index turn.round.body 0) 5 (λ e. c.if-byte_at-eq-SPDM.false (c.byte_at.ensures ∙ ap (λ (l : List ℕ). slice_index l 0) body ∙ e)) in
+    let sealed = ne_eqb (slice_index answer 0) 5 (λ e. c.if-byte_at-eq-SPDM-2.false (c.byte_at-2.ensures ∙ e)) in
     let request = c.behind_type-request.ensures ∙ ap (λ (l : List ℕ). drop 1 l) body in
     let first = subst (λ (x : Connection). connected.StandsFor x r h) (sym c.reply_why-why.ensures.same) party.answerer in
     let second = subst (λ (x : Connection). connected.StandsFor x r h) (sym c.coming_key.ensures.same) first in
@@ -258,8 +258,8 @@ returns-else-not-heard-clause-told c = λ w q older rows k route keeps below byt
     let at = now ∙ turn.answers.0 in
     let body = c.body-body.ensures ∙ ap body_in at in
     let small = few_messages w q older k carries few in
-    let type = ne_eqb (slice_index turn.round.body 0) 5 (λ e. c.if-byte_at-eq-CLEAR.false (c.byte_at.ensures ∙ ap (λ (l : List ℕ). slice_index l 0) body ∙ e)) in
-    let sealed = ne_eqb (slice_index answer 0) 5 (λ e. c.if-byte_at-eq-CLEAR-2.false (c.byte_at-2.ensures ∙ e)) in
+    let type = ne_eqb (slice_index turn.round.body 0) 5 (λ e. c.if-byte_at-eq-SPDM.false (c.byte_at.ensures ∙ ap (λ (l : List ℕ). slice_index l 0) body ∙ e)) in
+    let sealed = ne_eqb (slice_index answer 0) 5 (λ e. c.if-byte_at-eq-SPDM-2.false (c.byte_at-2.ensures ∙ e)) in
     let request = c.behind_type-request.ensures ∙ ap (λ (l : List ℕ). drop 1 l) body in
     let first = subst (λ (x : Connection). connected.StandsFor x r h) (sym c.reply_why-why.ensures.same) party.answerer in
     let second = subst (λ (x : Connection). connected.StandsFor x r h) (sym c.coming_key.ensures.same) first in
@@ -320,8 +320,8 @@ returns-in-Some-Last-clause-told c = λ w q older rows k route keeps below byte 
     let at = now ∙ turn.answers.0 in
     let body = c.body-body.ensures ∙ ap body_in at in
     let small = few_messages w q older k carries few in
-    let type = ne_eqb (slice_index turn.round.body 0) 5 (λ e. c.if-byte_at-eq-CLEAR.false (c.byte_at.ensures ∙ ap (λ (l : List ℕ). slice_index l 0) body ∙ e)) in
-    let sealed = ne_eqb (slice_index answer 0) 5 (λ e. c.if-byte_at-eq-CLEAR-2.false (c.byte_at-2.ensures ∙ e)) in
+    let type = ne_eqb (slice_index turn.round.body 0) 5 (λ e. c.if-byte_at-eq-SPDM.false (c.byte_at.ensures ∙ ap (λ (l : List ℕ). slice_index l 0) body ∙ e)) in
+    let sealed = ne_eqb (slice_index answer 0) 5 (λ e. c.if-byte_at-eq-SPDM-2.false (c.byte_at-2.ensures ∙ e)) in
     let request = c.behind_type-request.ensures ∙ ap (λ (l : List ℕ). drop 1 l) body in
     let first = subst (λ (x : Connection). connected.StandsFor x r h) (sym c.reply_why-why.ensures.same) party.answerer in
     let second = subst (λ (x : Connection). connected.StandsFor x r h) (sym c.coming_key.ensures.same) first in
@@ -344,8 +344,8 @@ returns-in-None-clause-told c = λ w q older rows k route keeps below byte now s
     let at = now ∙ turn.answers.0 in
     let body = c.body-body.ensures ∙ ap body_in at in
     let small = few_messages w q older k carries few in
-    let type = ne_eqb (slice_index turn.round.body 0) 5 (λ e. c.if-byte_at-eq-CLEAR.false (c.byte_at.ensures ∙ ap (λ (l : List ℕ). slice_index l 0) body ∙ e)) in
-    let sealed = ne_eqb (slice_index answer 0) 5 (λ e. c.if-byte_at-eq-CLEAR-2.false (c.byte_at-2.ensures ∙ e)) in
+    let type = ne_eqb (slice_index turn.round.body 0) 5 (λ e. c.if-byte_at-eq-SPDM.false (c.byte_at.ensures ∙ ap (λ (l : List ℕ). slice_index l 0) body ∙ e)) in
+    let sealed = ne_eqb (slice_index answer 0) 5 (λ e. c.if-byte_at-eq-SPDM-2.false (c.byte_at-2.ensures ∙ e)) in
     let request = c.behind_type-request.ensures ∙ ap (λ (l : List ℕ). drop 1 l) body in
     let first = subst (λ (x : Connection). connected.StandsFor x r h) (sym c.reply_why-why.ensures.same) party.answerer in
     let second = subst (λ (x : Connection). connected.StandsFor x r h) (sym c.coming_key.ensures.same) first in

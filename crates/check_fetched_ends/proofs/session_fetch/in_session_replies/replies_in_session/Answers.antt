@@ -3,7 +3,7 @@ use Rattle.std.specs.Prelude.{slice_index}
 use Rattle.std.proofs.lemmas.Option.{same_Some}
 use Rattle.check_ends.proofs.InTurn.{answers_in_turn}
 use Rattle.check_ends.proofs.PartyReplied.{kept_limits}
-use Rattle.check_ends.specs.AnswerKeys.{will_take}
+use Rattle.check_responder.specs.AnswerKeys.{will_take}
 use Rattle.check_laws.specs.Keeping.{restored}
 use Rattle.check_laws.specs.Order.{body_in}
 use Rattle.check_laws.specs.RepliesShown.{responder_for}
@@ -24,9 +24,9 @@ use Rattle.check_fetched_ends.specs.InSession.{IsFetchedIn, IsReadIn, IsTextOf}
 use Rattle.check_fetched_ends.specs.SessionOthers.{IsOtherAnswer, IsRefusing}
 use Rattle.check_fetched_ends.specs.declared.upon.Upon.{Upon}
 
-pub returns-then-byte_at-eq-CLEAR-clause-told : goal.returns-then-byte_at-eq-CLEAR-clause-told
-returns-then-byte_at-eq-CLEAR-clause-told c = λ w q older rows f route own below byte now set_up none is stands.
-    let clear = ap (λ (n : ℕ). n == 5) (sym c.byte_at.ensures ∙ c.if-byte_at-eq-CLEAR.true) in
+pub returns-then-byte_at-eq-SPDM-clause-told : goal.returns-then-byte_at-eq-SPDM-clause-told
+returns-then-byte_at-eq-SPDM-clause-told c = λ w q older rows f route own below byte now set_up none is stands.
+    let clear = ap (λ (n : ℕ). n == 5) (sym c.byte_at.ensures ∙ c.if-byte_at-eq-SPDM.true) in
     c.replies_version.ensures.told w q older rows f route own below byte now set_up none (ap (λ (l : List ℕ). slice_index l 0 == 5) (sym c.body-body.ensures) ∙ clear) is stands
 
 pub returns-then-not-fetched-clause-told : goal.returns-then-not-fetched-clause-told
@@ -37,22 +37,22 @@ returns-then-not-fetched-clause-told c = λ w q older rows f route own below byt
     let limits = kept_limits q f.kept c.args.party.now.asker is.beside.asker in
     let at = now ∙ turn.answers.0 in
     let body = c.body-body.ensures ∙ ap body_in at in
-    let type = ne_eqb (slice_index turn.round.body 0) 5 (λ e. c.if-byte_at-eq-CLEAR.false (c.byte_at.ensures ∙ ap (λ (l : List ℕ). slice_index l 0) body ∙ e)) in
+    let type = ne_eqb (slice_index turn.round.body 0) 5 (λ e. c.if-byte_at-eq-SPDM.false (c.byte_at.ensures ∙ ap (λ (l : List ℕ). slice_index l 0) body ∙ e)) in
     let other = other_gone w q older f route answer byte limits own turn fetched is.at is.whole is.stands false type is.pending c.if-not-fetched.true in
     c.judges_other.ensures.told w q older rows f route own below byte now set_up none (turn.round, turn.answers.0, other) is stands
 
-pub returns-then-byte_at-eq-CLEAR-2-clause-told : goal.returns-then-byte_at-eq-CLEAR-2-clause-told
-returns-then-byte_at-eq-CLEAR-2-clause-told c = λ w q older rows f route own below byte now set_up none is stands.
+pub returns-then-byte_at-eq-SPDM-2-clause-told : goal.returns-then-byte_at-eq-SPDM-2-clause-told
+returns-then-byte_at-eq-SPDM-2-clause-told c = λ w q older rows f route own below byte now set_up none is stands.
     let answer : List ℕ = c.args.answer.now in
     let fetched = c.args.fetched.now in
     let turn = answers_in_turn f.kept route answer none in
     let limits = kept_limits q f.kept c.args.party.now.asker is.beside.asker in
     let at = now ∙ turn.answers.0 in
     let body = c.body-body.ensures ∙ ap body_in at in
-    let type = ne_eqb (slice_index turn.round.body 0) 5 (λ e. c.if-byte_at-eq-CLEAR.false (c.byte_at.ensures ∙ ap (λ (l : List ℕ). slice_index l 0) body ∙ e)) in
-    let clear = ap (λ (n : ℕ). n == 5) (sym c.byte_at-2.ensures ∙ c.if-byte_at-eq-CLEAR-2.true) in
+    let type = ne_eqb (slice_index turn.round.body 0) 5 (λ e. c.if-byte_at-eq-SPDM.false (c.byte_at.ensures ∙ ap (λ (l : List ℕ). slice_index l 0) body ∙ e)) in
+    let clear = ap (λ (n : ℕ). n == 5) (sym c.byte_at-2.ensures ∙ c.if-byte_at-eq-SPDM-2.true) in
     let other = other_clear w q older f route answer byte limits own turn fetched is.at is.whole is.stands false type clear in
-    c.judges_other-then-byte_at-eq-CLEAR-2.ensures.told w q older rows f route own below byte now set_up none (turn.round, turn.answers.0, other) is stands
+    c.judges_other-then-byte_at-eq-SPDM-2.ensures.told w q older rows f route own below byte now set_up none (turn.round, turn.answers.0, other) is stands
 
 pub returns-then-not-reads_text-clause-told : goal.returns-then-not-reads_text-clause-told
 returns-then-not-reads_text-clause-told c = λ w q older rows f route own below byte now set_up none is stands.
@@ -63,7 +63,7 @@ returns-then-not-reads_text-clause-told c = λ w q older rows f route own below 
     let limits = kept_limits q f.kept c.args.party.now.asker is.beside.asker in
     let at = now ∙ turn.answers.0 in
     let body = c.body-body.ensures ∙ ap body_in at in
-    let type = ne_eqb (slice_index turn.round.body 0) 5 (λ e. c.if-byte_at-eq-CLEAR.false (c.byte_at.ensures ∙ ap (λ (l : List ℕ). slice_index l 0) body ∙ e)) in
+    let type = ne_eqb (slice_index turn.round.body 0) 5 (λ e. c.if-byte_at-eq-SPDM.false (c.byte_at.ensures ∙ ap (λ (l : List ℕ). slice_index l 0) body ∙ e)) in
     let r = responder_for w f.kept in
     let g = with_large (Some fetched.id) is.whole f.kept.responder in
     let small = few_kept w q older rows f route answer byte limits own turn c.args.party.now fetched is [] fewer in
@@ -83,7 +83,7 @@ returns-in_default-clause-told c = λ w q older rows f route own below byte now 
     let limits = kept_limits q f.kept c.args.party.now.asker is.beside.asker in
     let at = now ∙ turn.answers.0 in
     let body = c.body-body.ensures ∙ ap body_in at in
-    let type = ne_eqb (slice_index turn.round.body 0) 5 (λ e. c.if-byte_at-eq-CLEAR.false (c.byte_at.ensures ∙ ap (λ (l : List ℕ). slice_index l 0) body ∙ e)) in
+    let type = ne_eqb (slice_index turn.round.body 0) 5 (λ e. c.if-byte_at-eq-SPDM.false (c.byte_at.ensures ∙ ap (λ (l : List ℕ). slice_index l 0) body ∙ e)) in
     let r = responder_for w f.kept in
     let g = with_large (Some fetched.id) is.whole f.kept.responder in
     let small = few_kept w q older rows f route answer byte limits own turn c.args.party.now fetched is [] fewer in
@@ -110,8 +110,8 @@ returns-in_default-filled-clause-told c = λ w q older rows f route own below by
     let small = few_kept w q older rows f route answer byte limits own turn c.args.party.now c.args.fetched.now is [] fewer in
     let text = c.reads_text.new.text in
     let read = subst (λ (b : List ℕ). IsTextOf r g b answer text) body (c.reads_text.ensures.told r g is.judges small c.if-not-reads_text.false) in
-    let type = ne_eqb (slice_index turn.round.body 0) 5 (λ e. c.if-byte_at-eq-CLEAR.false (c.byte_at.ensures ∙ ap (λ (l : List ℕ). slice_index l 0) body ∙ e)) in
-    let sealed = ne_eqb (slice_index answer 0) 5 (λ e. c.if-byte_at-eq-CLEAR-2.false (c.byte_at-2.ensures ∙ e)) in
+    let type = ne_eqb (slice_index turn.round.body 0) 5 (λ e. c.if-byte_at-eq-SPDM.false (c.byte_at.ensures ∙ ap (λ (l : List ℕ). slice_index l 0) body ∙ e)) in
+    let sealed = ne_eqb (slice_index answer 0) 5 (λ e. c.if-byte_at-eq-SPDM-2.false (c.byte_at-2.ensures ∙ e)) in
     let message = c.in-Some.message.now in
     let holds = subst (λ (l : List ℕ). Holds l message) c.as_slice.ensures.value c.in-Some.ensures.0 in
     let chunk = c.in-Some.ensures.1 in
@@ -137,8 +137,8 @@ returns-in-Some-2-clause-told c = λ w q older rows f route own below byte now s
     let small = few_kept w q older rows f route answer byte limits own turn c.args.party.now c.args.fetched.now is [] fewer in
     let text = c.reads_text.new.text in
     let read = subst (λ (b : List ℕ). IsTextOf r g b answer text) body (c.reads_text.ensures.told r g is.judges small c.if-not-reads_text.false) in
-    let type = ne_eqb (slice_index turn.round.body 0) 5 (λ e. c.if-byte_at-eq-CLEAR.false (c.byte_at.ensures ∙ ap (λ (l : List ℕ). slice_index l 0) body ∙ e)) in
-    let sealed = ne_eqb (slice_index answer 0) 5 (λ e. c.if-byte_at-eq-CLEAR-2.false (c.byte_at-2.ensures ∙ e)) in
+    let type = ne_eqb (slice_index turn.round.body 0) 5 (λ e. c.if-byte_at-eq-SPDM.false (c.byte_at.ensures ∙ ap (λ (l : List ℕ). slice_index l 0) body ∙ e)) in
+    let sealed = ne_eqb (slice_index answer 0) 5 (λ e. c.if-byte_at-eq-SPDM-2.false (c.byte_at-2.ensures ∙ e)) in
     let left = c.if-not-fetched.false in
     let message = c.in-Some.message.now in
     let holds = subst (λ (l : List ℕ). Holds l message) c.as_slice.ensures.value c.in-Some.ensures.0 in
@@ -171,8 +171,8 @@ returns-in-None-clause-told c = λ w q older rows f route own below byte now set
     let small = few_kept w q older rows f route answer byte limits own turn c.args.party.now c.args.fetched.now is [] fewer in
     let text = c.reads_text.new.text in
     let read = subst (λ (b : List ℕ). IsTextOf r g b answer text) body (c.reads_text.ensures.told r g is.judges small c.if-not-reads_text.false) in
-    let type = ne_eqb (slice_index turn.round.body 0) 5 (λ e. c.if-byte_at-eq-CLEAR.false (c.byte_at.ensures ∙ ap (λ (l : List ℕ). slice_index l 0) body ∙ e)) in
-    let sealed = ne_eqb (slice_index answer 0) 5 (λ e. c.if-byte_at-eq-CLEAR-2.false (c.byte_at-2.ensures ∙ e)) in
+    let type = ne_eqb (slice_index turn.round.body 0) 5 (λ e. c.if-byte_at-eq-SPDM.false (c.byte_at.ensures ∙ ap (λ (l : List ℕ). slice_index l 0) body ∙ e)) in
+    let sealed = ne_eqb (slice_index answer 0) 5 (λ e. c.if-byte_at-eq-SPDM-2.false (c.byte_at-2.ensures ∙ e)) in
     let left = c.if-not-fetched.false in
     let message = c.in-Some.message.now in
     let holds = subst (λ (l : List ℕ). Holds l message) c.as_slice.ensures.value c.in-Some.ensures.0 in

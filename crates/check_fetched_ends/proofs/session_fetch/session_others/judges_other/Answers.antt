@@ -5,14 +5,14 @@ use Rattle.std.proofs.lemmas.Bool.{not-false, not-true}
 use Rattle.std.proofs.lemmas.Option.{none-some, same_Some}
 use Rattle.check_ends.proofs.InTurn.{answers_in_turn}
 use Rattle.check_ends.proofs.PartyReplied.{kept_limits}
-use Rattle.check_ends.specs.AnswerKeys.{IsComingKey, StandFor}
-use Rattle.check_ends.specs.Answerer.{IsAnswerer, history_shown}
-use Rattle.check_ends.specs.Asker.{IsAsker}
-use Rattle.check_ends.specs.HeardKept.{asks_upon, heard_kept}
-use Rattle.check_ends.specs.RecordAnswers.{history_behind}
-use Rattle.check_ends.specs.declared.answerer.Answerer.{Answerer}
-use Rattle.check_ends.specs.declared.given.Given.{Given}
-use Rattle.check_ends.specs.declared.given.Given.TheVariants as given
+use Rattle.check_responder.specs.AnswerKeys.{IsComingKey, StandFor}
+use Rattle.check_responder.specs.Answerer.{IsAnswerer, history_shown}
+use Rattle.check_requester.specs.Asker.{IsAsker}
+use Rattle.check_requester.specs.HeardKept.{asks_upon, heard_kept}
+use Rattle.check_responder.specs.RecordAnswers.{history_behind}
+use Rattle.check_responder.specs.declared.answerer.Answerer.{Answerer}
+use Rattle.check_responder.specs.declared.given.Given.{Given}
+use Rattle.check_responder.specs.declared.given.Given.TheVariants as given
 use Rattle.check_laws.specs.KeptChanges.{taken_shown}
 use Rattle.check_laws.specs.Keeping.{restored}
 use Rattle.check_laws.specs.Order.{body_in, tag_in}

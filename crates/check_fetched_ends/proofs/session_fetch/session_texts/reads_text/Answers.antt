@@ -1,7 +1,7 @@
 use Rattle.std.proofs.Common.{◌≤◌, ◌∙◌, ap, sym, subst, drop, length, ℕ, List, arith}
 use Rattle.std.proofs.lemmas.Bool.{leb-true}
-use Rattle.check_ends.proofs.FinishApart.{drop_short}
-use Rattle.check_ends.specs.AnswerKeys.{IsComingKey}
+use Rattle.check_requester.proofs.FinishApart.{drop_short}
+use Rattle.check_responder.specs.AnswerKeys.{IsComingKey}
 use Rattle.check_laws.specs.AnswersShown.{answered_text}
 use Rattle.responder_machine.specs.Records.{reply_number, reply_purpose}
 use Rattle.responder_machine.specs.Session.{Events, id_bytes, id_in_record, session_of, session_terms}

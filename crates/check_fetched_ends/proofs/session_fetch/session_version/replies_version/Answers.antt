@@ -3,14 +3,14 @@ use Rattle.std.specs.Prelude.{OnOk, slice_index}
 use Rattle.check_ends.proofs.InTurn.{answers_in_turn}
 use Rattle.check_ends.proofs.KeptTyped.{kept_body}
 use Rattle.check_ends.proofs.PartyReplied.{kept_limits}
-use Rattle.check_ends.specs.AnswerKeys.{IsComingKey, StandFor}
-use Rattle.check_ends.specs.Answerer.{IsAnswerer}
-use Rattle.check_ends.specs.Asker.{Carries, IsAsker}
-use Rattle.check_ends.specs.HeardKept.{heard_kept}
-use Rattle.check_ends.specs.Given.{IsApartInClear, IsGiven}
-use Rattle.check_ends.specs.declared.answerer.Answerer.{Answerer}
-use Rattle.check_ends.specs.declared.given.Judged.{Judged}
-use Rattle.check_ends.specs.declared.given.Judged.TheVariants as judged
+use Rattle.check_responder.specs.AnswerKeys.{IsComingKey, StandFor}
+use Rattle.check_responder.specs.Answerer.{IsAnswerer}
+use Rattle.check_requester.specs.Asker.{Carries, IsAsker}
+use Rattle.check_requester.specs.HeardKept.{heard_kept}
+use Rattle.check_responder.specs.Given.{IsApartInClear, IsGiven}
+use Rattle.check_responder.specs.declared.answerer.Answerer.{Answerer}
+use Rattle.check_responder.specs.declared.given.Judged.{Judged}
+use Rattle.check_responder.specs.declared.given.Judged.TheVariants as judged
 use Rattle.check_laws.specs.Keeping.{restored}
 use Rattle.check_laws.specs.Order.{body_in, tag_in}
 use Rattle.check_laws.specs.RepliesShown.{responder_for}

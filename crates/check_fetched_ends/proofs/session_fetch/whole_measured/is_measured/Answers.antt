@@ -13,7 +13,7 @@ pub returns-then-size-le-MOST_BYTES-clause-yes : goal.returns-then-size-le-MOST_
 returns-then-size-le-MOST_BYTES-clause-yes c = λ r set same.
     let f : Free = record any_free { nonce = c.split_at-2.result.0.now; measured_opaque = c.split_at-3.result.1.now } in
     let right = c.write_measurements-size.ensures.value r f set.inventory refl refl c.if-size-le-MOST_BYTES.true in
-    let few = c.if-opaque-gt-MOST_OPAQUE.false in
+    let few = c.if-opaque-gt-MAX_OPAQUE_LEN.false in
     (f, c.split_at-2.ensures.front_len, omega (arith, few), sym ((bytes_eq-Decides _ _).0 (sym c.same_bytes.ensures ∙ same)) ∙ c.as_slice-then-size-le-MOST_BYTES.ensures.value ∙ right)
 
 pub returns-then-size-le-MOST_BYTES-clause-none : goal.returns-then-size-le-MOST_BYTES-clause-none

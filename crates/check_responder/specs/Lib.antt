@@ -1,0 +1,8 @@
+pub mod AnswerKeys
+pub mod Answerer
+pub mod ClearAnswers
+pub mod Given
+pub mod Opening
+pub mod RecordAnswers
+pub mod ShownBy
+pub mod WholeAnswers

@@ -1,0 +1,42 @@
+ghost use Rattle.std.specs.Prelude.{◌≡◌, Bool};
+ghost use Rattle.check_responder.specs.Opening.{IsByKey, IsOpening};
+
+use crate::answer_keys::opens_by;
+use crate::coming::Coming;
+use spdm_basis::RecordFrame;
+
+/// Whether an answer opens, as far as it is told before that is judged.
+#[derive(Clone, Copy, Debug, PartialEq, Eq)]
+pub enum Opening {
+    /// This is told of it.
+    Told(bool),
+    /// It opens exactly where it does under the key that is had of its request.
+    ByKey,
+}
+
+// Whether a record opens under the key that is had of a request. What `room` holds before and after does not
+// matter.
+fn opens_coming(coming: &Coming, sealed: &[u8], room: &mut RecordFrame) -> bool
+    ensures { (is : Bool) → IsByKey coming.now.key sealed.now is → result ≡ is }
+{
+    match &coming.key {
+        Some(key) => opens_by(key, sealed, room),
+        None => false,
+    }
+}
+
+/// Whether a record opens, of which this is told, with what is had of its request. What `room` holds before and
+/// after does not matter.
+pub(crate) fn opens_so(
+    told: Opening,
+    coming: &Coming,
+    sealed: &[u8],
+    room: &mut RecordFrame,
+) -> bool
+    ensures { (is : Bool) → IsOpening coming.now sealed.now told is → result ≡ is }
+{
+    match told {
+        Opening::Told(opens) => opens,
+        Opening::ByKey => opens_coming(coming, sealed, room),
+    }
+}

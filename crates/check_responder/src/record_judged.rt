@@ -1,0 +1,75 @@
+use crate::answer_keys::prepare_record;
+use crate::coming::Coming;
+use crate::sealed_answers::whole_if;
+use crate::{Answerer, Given};
+use responder_core::Setup;
+use session_keys::{behind_type, byte_at};
+use spdm_basis::RecordFrame;
+use spdm_grammar::names::message_type::{SECURED, SPDM};
+
+impl Answerer {
+    ghost use Rattle.std.specs.Prelude.{◌≡◌, ◌≤◌, ◌<◌, ◌-◌, ◌^◌, IfSome, ℕ, length};
+    ghost use Rattle.responder_core.specs.Setup.{IsSetUp};
+    ghost use Rattle.responder_machine.specs.BoundLaws.{messages_of};
+    ghost use Rattle.responder_machine.specs.History.{History};
+    ghost use Rattle.responder_machine.specs.Setup.{RspSetup};
+    ghost use Rattle.spdm_machine.specs.Bodies.{record_body};
+    ghost use Rattle.check_responder.specs.AnswerKeys.{IsComing};
+    ghost use Rattle.check_responder.specs.Answerer.{IsAnswerer};
+    ghost use Rattle.check_responder.specs.RecordAnswers.{IsGivenTo, history_behind};
+
+    /// What this body brings as the answer to a record of which this is had, by what it shows; None where it is
+    /// not right. What `text` holds before and after does not matter. Fewer than 2^64 - 1 messages came. Behind
+    /// an answer that is not right nothing is kept.
+    pub(crate) fn answers_record_with(
+        &mut self,
+        setup: &Setup<'_>,
+        request: &[u8],
+        coming: &Coming,
+        answer: &[u8],
+        text: &mut RecordFrame,
+    ) -> Option<Given>
+        requires { length answer.now ≤ 4161 }
+        ensures told { (r : RspSetup) (h : History) (tag : ℕ) → IsSetUp setup.now r
+            → IsAnswerer self.old r h → messages_of h < 2 ^ 64 - 1
+            → IsComing coming.now r h (record_body request.now)
+            → IsGivenTo r h tag (record_body request.now) answer.now result }
+        ensures stands { (r : RspSetup) (h : History) (tag : ℕ) → IsSetUp setup.now r
+            → IsAnswerer self.old r h → messages_of h < 2 ^ 64 - 1
+            → IsComing coming.now r h (record_body request.now)
+            → IfSome result (λ given. IsAnswerer self.new r (history_behind r h tag
+            (record_body request.now) answer.now given)) }
+    {
+        let kind = byte_at(answer, 0);
+        if kind == SPDM {
+            let closed = self.answers_closed(setup, request, behind_type(answer));
+            return whole_if(closed);
+        }
+        if kind == SECURED {
+            return self.answers_sealed(setup, request, coming, behind_type(answer), text);
+        }
+        None
+    }
+
+    /// The same, where nothing is had of the record yet.
+    pub fn answers_record(
+        &mut self,
+        setup: &Setup<'_>,
+        request: &[u8],
+        answer: &[u8],
+    ) -> Option<Given>
+        requires { length answer.now ≤ 4161 }
+        ensures told { (r : RspSetup) (h : History) (tag : ℕ) → IsSetUp setup.now r
+            → IsAnswerer self.old r h → messages_of h < 2 ^ 64 - 1
+            → IsGivenTo r h tag (record_body request.now) answer.now result }
+        ensures stands { (r : RspSetup) (h : History) (tag : ℕ) → IsSetUp setup.now r
+            → IsAnswerer self.old r h → messages_of h < 2 ^ 64 - 1
+            → IfSome result (λ given. IsAnswerer self.new r (history_behind r h tag
+            (record_body request.now) answer.now given)) }
+    {
+        let mut coming = Coming::new();
+        let mut text = RecordFrame::new();
+        prepare_record(&self.connection, request, &mut coming);
+        self.answers_record_with(setup, request, &coming, answer, &mut text)
+    }
+}
