@@ -4,14 +4,10 @@ ghost use Rattle.responder_core.specs.Sessions.{body_by};
 use spdm_basis::Buffer;
 use spdm_grammar::Heard;
 
+use spdm_grammar::names::message_type::{SECURED, SPDM};
+
 /// The body of an MCTP message: its type, and an SPDM message or a record.
 pub(crate) type Body = Buffer<4161>;
-
-/// The type of an SPDM message in the clear (DSP0275).
-pub(crate) const SPDM: u8 = 5;
-
-/// The type of a secured message (DSP0276).
-pub(crate) const SECURED: u8 = 6;
 
 /// Writes a type and a message of at most 4,160 bytes in place of what a body holds.
 pub(crate) fn write_body(kind: u8, message: &[u8], body: &mut Body)

@@ -14,7 +14,6 @@ ghost use Rattle.responder_machine.specs.Setup.{Known, RspPart, RspSetup, toward
 ghost use Rattle.spdm_machine.specs.Keys.{draw_of};
 ghost use Rattle.spdm_machine.specs.Packets.{body_type};
 
-use crate::body::{SECURED, SPDM};
 use crate::hearing::{hear_clear, hear_record};
 use crate::part::Part;
 use crate::room::Room;
@@ -23,6 +22,7 @@ use responder_core::{Connection, Setup};
 use hmac_hkdf::Drawn;
 use mctp_framing::{PacketList, Route};
 use spdm_grammar::{Heard, RspIgnored};
+use spdm_grammar::names::message_type::{SECURED, SPDM};
 
 /// The route of an answer.
 fn reversed(route: Route) -> Route
