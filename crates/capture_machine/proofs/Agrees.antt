@@ -186,7 +186,7 @@ agree_with (TookRecord tag of sealed inner led d) h g small a = record {
   ids = ids_with (TookRecord tag of sealed inner led d) h small a.ids;
 }
 
--- Connect begins anew, whatever was before.
+-- Connect starts over, whatever was before.
 pub agree_anew : (sent : Sent) (d : Draw) (h g : History) → Counted h g → Agree (Told Connect sent d ∷ h) (Told Connect sent d ∷ g)
 unfolding session_of
 agree_anew sent d h g c = record {

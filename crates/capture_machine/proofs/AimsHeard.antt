@@ -1,4 +1,4 @@
--- An answer leaves what the outstanding message asks for as the capture shows it, and no chunk is asked for behind
+-- An answer leaves what the outstanding message asks for as the capture shows it, and no chunk is asked for after
 -- GET_VERSION.
 use Rattle.std.proofs.Common.{◌≡◌, ◌+◌, ◌==◌, ℕ, List, [], ◌∷◌, refl, sym, ap, ◌∙◌, subst, drop, Bool, true, false, Option, Some, None, cond, inl, inr}
 use Rattle.std.specs.Prelude.{slice_index}
@@ -45,7 +45,7 @@ clear_type h body (ByChunks asked handle number) a asks at = at
 clear_type h body (ForChunk asked handle number before) a asks at = at
 clear_type h body (InSession id ask) a asks at = absurd (none-some a asks)
 
--- What follows a message: it is asked for, and a chunk is not asked for behind GET_VERSION.
+-- What follows a message: it is asked for, and a chunk is not asked for after GET_VERSION.
 pub record IsLedTo (h : History) (body : List ℕ) (aim : Aim) (s : Sent) : Type 0 where
   pub asked : IsAsked h body s
   pub fetches : is_for_chunk s.aim ≡ true → aim ≡ Plain GetVersion → ⊥

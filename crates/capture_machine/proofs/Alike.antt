@@ -24,7 +24,7 @@ use Rattle.capture_machine.proofs.AskersBegin.{dial}
 use Rattle.capture_machine.proofs.AskersHear.{same_round, asks_step}
 use Rattle.capture_machine.proofs.ShownAlike.{size_alike, accepts_alike, of_alike, steps_alike, opens_alike}
 
--- Both fetch a large answer, or neither does.
+-- Both fetch a large response, or neither does.
 pub data FetchesAlike : Option (List ℕ) → Option (List ℕ) → Type 0 where
   NoneFetched : FetchesAlike None None
   BothFetched : (w v : List ℕ) → FetchesAlike (Some w) (Some v)

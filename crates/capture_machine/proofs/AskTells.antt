@@ -97,7 +97,7 @@ exchange_read q h f summary allowed sound =
 code_told : (a b : RequestMessage) → canonical_request a ≡ canonical_request b → slice_index (canonical_request a) 1 ≡ slice_index (canonical_request b) 1
 code_told a b e = ap (λ (l : List ℕ). slice_index l 1) e
 
--- Two exchanges of one spelling, and so their commands.
+-- Two exchanges of one encoding, and so their commands.
 pub exchange_tells : (q : ReqSetup) (h g : History) (f k : Free) (summary kind : ℕ) → IsAllowed q h f → IsAllowed q g k → is_summary summary ≡ true → is_summary kind ≡ true
     → canonical_request (exchange_for q f summary) ≡ canonical_request (exchange_for q k kind) → exchange_for q f summary ≡ exchange_for q k kind
 exchange_tells q h g f k summary kind fits suits sound fine same =

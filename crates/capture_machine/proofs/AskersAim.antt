@@ -1,5 +1,5 @@
 -- What the outstanding message of a requester asks for stands in the capture: it is of the type of the last round's
--- request, and where it asks for a large answer of a session, a record of that session.
+-- request, and where it asks for a large response of a session, a record of that session.
 use Rattle.std.proofs.Common.{◌≡◌, ◌==◌, ℕ, List, [], ◌∷◌, refl, sym, ap, ◌∙◌, subst, drop, Bool, true, false, Option, Some, None, cond, inl, inr, eq-eqb}
 use Rattle.std.specs.Prelude.{slice_index}
 use Rattle.std.proofs.lemmas.Bool.{false≢true}
@@ -55,7 +55,7 @@ IsAt h body (ByChunks asked handle number) = (slice_index body 0 == 5) ≡ true
 IsAt h body (ForChunk asked handle number before) = (slice_index body 0 == 5) ≡ true
 IsAt h body (InSession id ask) = IsWhere h body id ask
 
--- GET_VERSION and CHUNK_GET in the clear are spelled.
+-- GET_VERSION and CHUNK_GET in the clear are encoded.
 abbrev pub IsSpelled : Aim → List ℕ → Type 0
 IsSpelled (Plain GetVersion) body = body ≡ clear_body (canonical_request GetVersion)
 IsSpelled (ForChunk asked handle number before) body = body ≡ clear_body (canonical_request (ChunkGet handle number))

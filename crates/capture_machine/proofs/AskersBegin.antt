@@ -126,7 +126,7 @@ both_stay x y s t same (inr one) (inr two) = inr (one.0, two.0)
 told_terms : (c : Command) (p : Sent) (h : History) → is_connect c ≡ false → connection_terms (Told c p no_draw ∷ h) ≡ connection_terms h
 told_terms c p h not = ap (λ (b : Bool). terms_of (cond b no_negotiation (negotiation_of h))) not
 
--- Both begin a large request by chunks of one first body.
+-- Both begin a large request in chunks of one first body.
 pub large_begins : (q : ReqSetup) (h g : History) (r x : responder_history.History) (round : Option Round) (sd se fd fe : Option (List ℕ)) (body : List ℕ) (next other : History) (w v : List ℕ) (tag : ℕ)
     → Agree h g → next_tag h ≡ tag → BeginsLarge (dial q h r round sd fd) body next w → BeginsLarge (dial q g x round se fe) body other v
     → AskersAlike (Some (new_round tag body)) next other (Some w) (Some v)

@@ -342,8 +342,8 @@ after_12 = (
 chunks_conform : Conforms small (reverse packets_12)
 chunks_conform = after_12
 
--- A copy of GET_VERSION gets the same again. GET_VERSION in place of GET_CAPABILITIES, which is owed, has the tag
--- that this would have had.
+-- A copy of GET_VERSION gets the same again. GET_VERSION in place of GET_CAPABILITIES, which is owed, has the tag that
+-- this would have had.
 abbrev packets_copied : List (List ℕ)
 packets_copied =
     (0x01 ∷ 0x09 ∷ 0x08 ∷ 0xc1 ∷ 0x05 ∷ 0x10 ∷ 0x04 ∷ 0x00 ∷ 0x00 ∷ 0x00 ∷ 0x01 ∷ 0x00 ∷ 0x12 ∷ [])
@@ -412,7 +412,7 @@ after_copied = (
 copies_conform : Conforms setup (reverse packets_copied)
 copies_conform = after_copied
 
--- GET_VERSION cuts off the offer behind its first chunk, and a new negotiation begins.
+-- GET_VERSION cuts off the offer after its first chunk, and a new negotiation begins.
 abbrev packets_anew : List (List ℕ)
 packets_anew =
     (0x01 ∷ 0x09 ∷ 0x08 ∷ 0xc4 ∷ 0x05 ∷ 0x12 ∷ 0x61 ∷ 0x00 ∷ 0x00 ∷ 0x00 ∷ 0x00 ∷ 0x00 ∷ 0x00 ∷ 0xc8 ∷ 0x68 ∷ 0x02 ∷ 0x00 ∷ 0x2a ∷ 0x00 ∷ 0x00 ∷ 0x00 ∷ 0x00 ∷ 0x10 ∷ 0x00 ∷ 0x00 ∷ [])

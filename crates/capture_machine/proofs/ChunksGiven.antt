@@ -1,4 +1,4 @@
--- The chunks that were given of the large answer under way, as they stand in a history: what is pending at its place
+-- The chunks that were given of the large response under way, as they stand in a history: what is pending at its place
 -- goes by them.
 use Rattle.std.proofs.Common.{◌≡◌, ◌+◌, ◌==◌, ◌&&◌, ◌||◌, ℕ, suc, List, [], ◌∷◌, ◌++◌, refl, sym, ap, ◌∙◌, drop, Bool, true, false, Option, Some, None, is_some, cond, length, arith, eqb-true}
 use Rattle.std.specs.Prelude.{not, slice_index}
@@ -47,7 +47,7 @@ parts_of place [] = []
 parts_of place (e ∷ h) =
     cond (is_unseen_in place e) [] (cond (gets_in place e) (parts_of place h ++ bytes_in (gets_of place h) (answer_by e)) (parts_of place h))
 
--- At a place no large answer is pending any more; or these bytes are, and the chunks that were given are theirs.
+-- At a place no large response is pending any more; or these bytes are, and the chunks that were given are theirs.
 pub data Chunked (p : Place) (place : Option ℕ) (w : List ℕ) (h : History) : Type 0 where
   Gone : large_of p.turns ≡ None → Chunked p place w h
   Given : large_of p.turns ≡ Some w → given_of p.turns ≡ gets_of place h → parts_of place h ≡ joined (chunks_before (transfer_of p) 0 w (gets_of place h)) → Chunked p place w h
@@ -79,7 +79,7 @@ not_large (Took a m answer None) small = refl
 not_large (Took a m answer (Some handle)) small = absurd (false≢true (sym small))
 not_large (TookData bytes answer) small = refl
 
--- What is pending behind a turn that was not taken, and behind one that was and is not CHUNK_GET.
+-- What is pending after a turn that was not taken, and after one that was and is not CHUNK_GET.
 pub large_idle : (t : Turn) (ts : List Turn) → is_taken t ≡ false → large_of (t ∷ ts) ≡ large_of ts
 large_idle t ts not_taken = ap (λ (b : Bool). cond (not b || takes CHUNK_GET t) (large_of ts) (large_in t.effect)) not_taken
 

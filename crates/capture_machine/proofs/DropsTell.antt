@@ -61,7 +61,7 @@ pub held_before : (h : History) (id : ℕ) → MayDrop h (id ∷ []) → is_held
 held_before h id may =
     ap (λ (b : Bool). b && is_past_handshake (stage_of (session_of id h))) may.0 ∙ and_first _ _ may.1
 
--- PSK_EXCHANGE is answered with an id that no session past its handshake has.
+-- PSK_EXCHANGE is answered with an id that no established session has.
 pub fresh_id : (r : RspSetup) (h : History) (m : List ℕ) (f : Free) (p : Place) → IsAllowed h p f → takes PSK_EXCHANGE (turn_of r (clear_place h) m f) ≡ true
     → is_held h (id_in_exchange (answer_in (turn_of r (clear_place h) m f).effect)) ≡ false
 fresh_id r h m f p fits takes_it =

@@ -1,4 +1,4 @@
--- A session in which a large answer is fetched, whatever bytes stand for it: all that a record goes by is the same.
+-- A session in which a large response is fetched, whatever bytes stand for it: all that a record goes by is the same.
 use Rattle.std.proofs.Common.{◌≡◌, ◌+◌, ◌==◌, ◌||◌, ℕ, List, [], ◌∷◌, refl, sym, ap, ◌∙◌, Bool, false, Option, cond}
 use Rattle.spdm_grammar.specs.Message.{RequestMessage, ChunkMessage}
 use Rattle.spdm_grammar.specs.Codes.{code_for}

@@ -1,4 +1,4 @@
--- How a large answer comes to be fetched: by LargeResponse, and by a repeat of one that was not fetched.
+-- How a large response comes to be fetched: by LargeResponse, and by a repeat of one that was not fetched.
 use Rattle.std.proofs.Common.{◌≡◌, ◌==◌, ◌&&◌, ◌⊎◌, ◌+◌, ◌*◌, ℕ, List, [], ◌∷◌, ◌++◌, refl, sym, ap, ◌∙◌, subst, drop, Bool, true, false, Option, Some, None, is_some, cond, inl, inr, eq-eqb}
 use Rattle.std.specs.Prelude.{not, nat_le, slice_index, bytes_eq}
 use Rattle.std.proofs.lemmas.Bool.{false≢true}
@@ -185,7 +185,7 @@ session_from : (s : Events) (place : Option ℕ) (w : List ℕ) (h : History) �
 session_from s place w h stand is (inl none) = Gone none
 session_from s place w h stand is (inr fresh) = chunked_from (session_place s) place w h stand is fresh
 
--- Where the large answer to the request with which a repeat is compared was not seen.
+-- Where the large response to the request with which a repeat is compared was not seen.
 pub fetch_from : (h : History) (w : List ℕ) (tag : ℕ) (body : List ℕ) → UnseenStand h → repeats_large (place_named body) h ≡ true
     → ((slice_index body 0 == 5) ≡ true → is_repeat (kept_of h) tag (drop 1 body) ≡ true) → Fetch h w tag body
 fetch_from h w tag body stand is again = by_type (slice_index body 0 == 5) refl

@@ -1,4 +1,4 @@
--- A large answer under way at the responder: how it begins, and what each answer leaves of it.
+-- A large response under way at the responder: how it begins, and what each answer leaves of it.
 use Rattle.std.proofs.Common.{◌≡◌, ◌==◌, ℕ, List, [], ◌∷◌, refl, sym, ap, ◌∙◌, subst, drop, Bool, true, false, Option, Some, None, cond, inl, inr, arith}
 use Rattle.std.specs.Prelude.{not, slice_index}
 use Rattle.std.proofs.lemmas.Bool.{false_from_ne_true, false≢true, not-true}
@@ -40,7 +40,7 @@ pub data Getting (h : History) (tag : ℕ) (body : List ℕ) : Type 0 where
   Repeats : (slice_index body 0 == 5) ≡ true → is_repeat (kept_of h) tag (drop 1 body) ≡ true → IsClearSince h → Getting h tag body
   Seals : (slice_index body 0 == 5) ≡ false → UnseenStand h → Getting h tag body
 
--- These bytes stand for the large answer that is fetched.
+-- These bytes stand for the large response that is fetched.
 pub record Fetch (h : History) (w : List ℕ) (tag : ℕ) (body : List ℕ) : Type 0 where
   pub how : Getting h tag body
   pub chunked : Chunked (place_for (with_large (place_named body) w h) body) (place_named body) w h

@@ -1,4 +1,4 @@
--- While a large answer is fetched, an answer tells what it led to and which session was dropped before it, whatever
+-- While a large response is fetched, an answer tells what it led to and which session was dropped before it, whatever
 -- bytes stand for the large one.
 use Rattle.std.proofs.Common.{◌≡◌, ◌≢◌, ◌==◌, ◌&&◌, ◌||◌, ℕ, List, [], ◌∷◌, refl, sym, ap, ◌∙◌, subst, drop, Bool, true, false, Option, Some, None, is_none, inl, inr, eqb-true}
 use Rattle.std.specs.Prelude.{slice_index}
@@ -36,8 +36,8 @@ use Rattle.capture_machine.proofs.PlainTells.{ClearLed, RecordLed, led_clear, le
 use Rattle.capture_machine.proofs.RepliesTell.{EntriesAlike, OutcomesAlike}
 use Rattle.capture_machine.proofs.TurnsAlike.{chunk_is}
 
--- What a body is while a large answer is fetched: GET_VERSION or CHUNK_GET in the clear; a repeat of a clear request; or
--- a record, and the large answer is one of a session.
+-- What a body is while a large response is fetched: GET_VERSION or CHUNK_GET in the clear; a repeat of a clear request;
+-- or a record, and the large response is one of a session.
 pub data Asking (h : History) (place : Option ℕ) (tag : ℕ) (body : List ℕ) : Type 0 where
   Always : (slice_index body 0 == 5) ≡ true → ReadsAlways (drop 1 body) → Asking h place tag body
   Again : (slice_index body 0 == 5) ≡ true → is_repeat (kept_of h) tag (drop 1 body) ≡ true → Asking h place tag body

@@ -1,5 +1,5 @@
--- While a large answer is fetched in a session, the answer to a record tells the outcome, whatever bytes stand for the
--- large one.
+-- While a large response is fetched in a session, the answer to a record tells the outcome, whatever bytes stand for
+-- the large one.
 use Rattle.spdm_machine.specs.Bodies.{record_body}
 use Rattle.std.proofs.Common.{◌≡◌, ◌≤◌, ℕ, List, ◌∷◌, refl, sym, ap, subst, length, drop, Bool, true, false, Option, Some, None, cond}
 use Rattle.std.proofs.lemmas.Bool.{false≢true}

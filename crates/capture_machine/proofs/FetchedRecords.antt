@@ -1,4 +1,4 @@
--- While a large answer is fetched in a session, the answer to a record tells what it led to, whatever bytes stand for
+-- While a large response is fetched in a session, the answer to a record tells what it led to, whatever bytes stand for
 -- the large one.
 use Rattle.spdm_grammar.specs.Message.ResponseMessage.{KeyUpdateAck}
 use Rattle.spdm_grammar.specs.Responses.{canonical_response}

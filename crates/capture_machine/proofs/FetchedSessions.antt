@@ -1,4 +1,4 @@
--- While a large answer is fetched in a session, the sessions are alike, and the answer to a record tells the outcome,
+-- While a large response is fetched in a session, the sessions are alike, and the answer to a record tells the outcome,
 -- whatever bytes stand for the large one.
 use Rattle.capture_machine.proofs.FetchedOutcomes.{AreShort, to_told}
 use Rattle.capture_machine.proofs.RepliesTell.{OutcomesAlike}
@@ -29,7 +29,7 @@ use Rattle.capture_machine.proofs.UnseenStands.{StandsUnseen, UnseenStand}
 use Rattle.capture_machine.proofs.EventsAlike.{EventsAlike, answered, stage_alike, answer_alike}
 use Rattle.capture_machine.proofs.EventsAlike.EventsAlike.{NoEvent, Behind, Here}
 
--- The large answer is one of a session.
+-- The large response is one of a session.
 pub record InSession (place : Option ℕ) (h : History) : Type 0 where
   pub id : ℕ
   pub at : place ≡ Some id
@@ -103,7 +103,7 @@ live_events e _ _ NoEvent = NoEvent
 live_events e _ _ (Behind x s u a) = Behind e (x ∷ s) (x ∷ u) (Behind x s u a)
 live_events e _ _ (Here m t x n large w v reply s u not a) = Behind e _ _ (Here m t x n large w v reply s u not a)
 
--- The large answer itself.
+-- The large response itself.
 live_here : (m : List ℕ) (t : Turn) (a : RequestMessage) (n : List ℕ) (large : Option ℕ) (w v reply : List ℕ) (s : Events) → (code_for a == PSK_FINISH) ≡ false
     → EventsAlike (when_live s (Heard m (answered t a n large w) reply)) (when_live s (Heard m (answered t a n large v) reply))
 live_here m t a n large w v reply [] not = NoEvent
@@ -202,7 +202,7 @@ record_by r tag sealed f k few less true false kept other phase s u one two a sh
 record_by r tag sealed f k few less false true kept other phase s u one two a short same = absurd (false≢true one)
 
 -- Where nothing was dropped before it, the answer to a record tells the outcome, whatever bytes stand for the large
--- answer.
+-- response.
 pub record_fetched : (r : RspSetup) (h : History) (place : Option ℕ) (w v : List ℕ) (tag : ℕ) (sealed : List ℕ) (f k : Free) (few : length f.reply ≤ 1024) (less : length k.reply ≤ 1024) → InSession place h
     → AreShort r tag sealed f k no_draw few less (session_of (id_in_record sealed) (with_large place w h)) (session_of (id_in_record sealed) (with_large place v h))
     → body_of (on_record r (with_large place w h) tag sealed f no_draw) ≡ body_of (on_record r (with_large place v h) tag sealed k no_draw)

@@ -1,4 +1,4 @@
--- While a large answer is fetched, the answer to a clear request tells what it led to, whatever bytes stand for the
+-- While a large response is fetched, the answer to a clear request tells what it led to, whatever bytes stand for the
 -- large one: to a repeat, to GET_VERSION and to CHUNK_GET.
 use Rattle.std.proofs.Common.{◌≡◌, ◌≢◌, ℕ, List, [], ◌∷◌, refl, sym, ap, ◌∙◌, Bool, true, false, Option, Some, cond, arith}
 use Rattle.spdm_grammar.specs.Message.RequestMessage.{GetVersion, ChunkSend, ChunkGet}

@@ -1,4 +1,4 @@
--- An answer while a large answer is fetched leads to one history at the responder, whatever bytes stand for the large
+-- An answer while a large response is fetched leads to one history at the responder, whatever bytes stand for the large
 -- one; its last chunk tells them.
 use Rattle.std.proofs.Common.{◌≡◌, ◌==◌, ◌⊎◌, ℕ, List, [], ◌∷◌, refl, sym, ap, ◌∙◌, subst, drop, Bool, true, Option, Some, None, inl, inr, arith}
 use Rattle.std.specs.Prelude.{not, slice_index}
@@ -37,7 +37,7 @@ use Rattle.capture_machine.proofs.RepliesAlike.{Told, into_fetched}
 use Rattle.capture_machine.proofs.RepliesTell.{OutcomesAlike}
 use Rattle.capture_machine.proofs.SmallGets.{gets_are_small}
 
--- The last request is GET_VERSION, in place of all that was asked; or the large answer is fetched.
+-- The last request is GET_VERSION, in place of all that was asked; or the large response is fetched.
 abbrev pub Stands : History → List ℕ → ℕ → List ℕ → Type 0
 Stands h w tag body = (body ≡ clear_body (canonical_request GetVersion)) ⊎ Fetch h w tag body
 

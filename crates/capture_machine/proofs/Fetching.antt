@@ -1,4 +1,4 @@
--- What holds of a dialogue while a large answer is fetched: its requester awaits a chunk or GET_VERSION, and the
+-- What holds of a dialogue while a large response is fetched: its requester awaits a chunk or GET_VERSION, and the
 -- responder's history stands so. Each step keeps it.
 use Rattle.std.proofs.Common.{◌≡◌, ◌+◌, ◌-◌, ◌==◌, ◌⊎◌, ℕ, List, [], ◌∷◌, refl, sym, ap, ◌∙◌, subst, drop, Bool, true, false, Option, Some, None, cond, inl, inr}
 use Rattle.std.specs.Prelude.{slice_index}
@@ -194,7 +194,7 @@ asks_sound d (Dropped cause) next sound asks = absurd asks
 
 -- ---- An answer.
 
--- The requests behind it whose large answer was not seen.
+-- The requests after it whose large response was not seen.
 after_stands : (r : RspSetup) (k h : History) (tag : ℕ) (body : List ℕ) (o : Outcome) → MayLeadTo r k tag body o → UnseenStand h → UnseenStand (after h o)
 after_stands r k h tag body (Same b) may stand = stand
 after_stands r k h tag body (Unopened b) may stand = stand
@@ -213,7 +213,7 @@ answers_unseen r d round answer next fetching (inr (inr (inr a))) stand =
     let k : History = judging d.fetching round.body d.responder in
     subst UnseenStand (sym a.0.8) (led_stands r k round.tag round.body a.0.2 a.0.4, given_stand place a.0.0 (dropped_before_large place a.0.1 d.responder) (before_stand place a.0.1 d.responder stand))
 
--- What is fetched behind it.
+-- What is fetched after it.
 answers_fetch : (r : RspSetup) (d : Dialogue) (round : Round) (answer : List ℕ) (next : History) (fetching : Option (List ℕ)) (x : List ℕ) → Answers r d round answer next fetching → fetching ≡ Some x → UnseenStand d.responder
     → ((w : List ℕ) → d.fetching ≡ Some w → Fetch d.responder w round.tag round.body) → Fetch next x round.tag round.body
 unfolding Answers

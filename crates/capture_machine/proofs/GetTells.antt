@@ -1,4 +1,4 @@
--- A turn of CHUNK_GET: which chunk it gives of the large answer that is pending, and whether more are left.
+-- A turn of CHUNK_GET: which chunk it gives of the large response that is pending, and whether more are left.
 use Rattle.std.proofs.Common.{◌≡◌, ◌<◌, ◌+◌, ◌==◌, ◌||◌, ℕ, List, [], ◌∷◌, refl, sym, ap, ◌∙◌, drop, Bool, true, false, Option, Some, None, is_some, is_none, cond, arith, eqb-true}
 use Rattle.std.specs.Prelude.{not, nat_lt, slice_index, unwrap_or}
 use Rattle.std.proofs.lemmas.Bool.{false≢true, not-false}
@@ -36,7 +36,7 @@ use Rattle.capture_machine.proofs.SmallGets.{get_chunks, not_carried, chunk_size
 abbrev pub transfer_of : Place → ℕ
 transfer_of p = (place_terms p).common.to_requester.transfer
 
--- It was taken, and answered by the chunk of the next number of the large answer that is pending.
+-- It was taken, and answered by the chunk of the next number of the large response that is pending.
 pub record IsGet (p : Place) (m : List ℕ) (t : Turn) : Type 0 where
   pub handle : ℕ
   pub whole : List ℕ

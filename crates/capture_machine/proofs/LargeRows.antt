@@ -1,4 +1,4 @@
--- Rows of the definitions of large answers in captures, each computed.
+-- Rows of the definitions of large responses in captures, each computed.
 use Rattle.std.proofs.Common.{◌≡◌, ℕ, List, [], ◌∷◌, refl, true, false, Option, Some, None}
 use Rattle.spdm_grammar.specs.Message.{ChunkMessage}
 use Rattle.spdm_grammar.specs.Message.RequestMessage.{GetMeasurements, PskExchange, Heartbeat}
@@ -86,7 +86,7 @@ refused_record_is_last = refl
 other_record_is_not : repeats_large (Some 1) (sealed 2 answered ∷ clear answered ∷ sealed 1 pending ∷ []) ≡ true
 other_record_is_not = refl
 
--- Of a session that an answer in the clear begins nothing stands behind its request.
+-- Of a session that an answer in the clear begins nothing follows its request.
 untouched : is_untouched None (Some 2) (sealed 1 answered ∷ clear refused ∷ clear pending ∷ sealed 2 answered ∷ []) ≡ true
 untouched = refl
 

@@ -1,4 +1,4 @@
--- A LargeResponse, and the last chunk of a large answer, tell what they lead to at the responder, where no answer is
+-- A LargeResponse, and the last chunk of a large response, tell what they lead to at the responder, where no answer is
 -- being fetched.
 use Rattle.std.proofs.Common.{◌≡◌, ◌≤◌, ◌==◌, ◌⊎◌, ℕ, List, [], ◌∷◌, refl, sym, ap, ◌∙◌, subst, length, drop, Bool, true, false, Option, cond, inl, inr, arith, eqb-true}
 use Rattle.std.specs.Prelude.{slice_index, MatchBool}
@@ -120,7 +120,7 @@ large_apart r h ids others tag body o f one two shown plain large same = by_type
 
 -- ---- The last chunk.
 
--- The sessions that one large answer shows as dropped are told by it.
+-- The sessions that one large response shows as dropped are determined by it.
 no_shown : (r : RspSetup) (h : History) (tag : ℕ) (body : List ℕ) (id : ℕ) (e : Entry) → MayDrop h (id ∷ []) → MayLeadTo r h tag body (Adds e) → MayLeadTo r (Dropped id ∷ h) tag body (Adds e) → shows r h body id (Adds e) ≡ true → ⊥
 no_shown r h tag body id e may one two shown = by_type (slice_index body 0 == 5) refl
   where

@@ -1,4 +1,4 @@
--- An answer of one body leads from dialogues that are alike to dialogues that are alike, while no large answer is
+-- An answer of one body leads from dialogues that are alike to dialogues that are alike, while no large response is
 -- fetched.
 use Rattle.std.proofs.Common.{◌≡◌, ◌-◌, ◌==◌, ◌||◌, ℕ, List, [], ◌∷◌, refl, sym, ap, ◌∙◌, subst, drop, Bool, true, false, Option, Some, None, is_some, cond, inl, inr}
 use Rattle.std.specs.Prelude.{not, slice_index}
@@ -75,7 +75,7 @@ while_alike true x y alike = alike
 while_alike false x y alike = NoneFetched
 
 -- What an answer leads to is told: the history, and, where the requester asks for a chunk upon it, whether a large
--- answer is fetched from then on.
+-- response is fetched from then on.
 pub record Told (b : Bool) (next other : History) (fetching fetches : Option (List ℕ)) : Type 0 where
   pub history : next ≡ other
   pub fetched : FetchesAlike (cond b fetching None) (cond b fetches None)

@@ -60,7 +60,7 @@ of_alike id round _ _ _ _ (Due tag m h g w v a b handle number u later at) = ref
 fetching_aim : (s t : Sent) → s.aim ≡ t.aim → is_fetching (Some s) ≡ is_fetching (Some t)
 fetching_aim s t same = ap is_for_chunk same
 
--- Both fetch a large answer, or neither does.
+-- Both fetch a large response, or neither does.
 pub fetching_alike : (round : Option Round) (h g : History) (sd se : Option (List ℕ)) → AskersAlike round h g sd se → is_fetching (outstanding h) ≡ is_fetching (outstanding g)
 fetching_alike round _ _ _ _ (Settled h g agree not at) = ap is_fetching agree.waiting
 fetching_alike round _ _ _ _ (Owing e f h g s t agree alike out sent like tagged else later at) = ap is_fetching out ∙ fetching_aim s t (alike_aim s t like) ∙ ap is_fetching (sym sent)
@@ -73,7 +73,7 @@ fetching_alike round _ _ _ _ (Due tag m h g w v a b handle number u later at) = 
 abbrev bare : Bool → History → History
 bare b h = cond b (with_next None h) h
 
--- The sessions behind one acknowledgement are those before it.
+-- The sessions after one acknowledgement are those before it.
 acked_steps : (id tag : ℕ) (m : List ℕ) (a : RequestMessage) (w : List ℕ) (handle number : ℕ) (h : History) (b : Bool) → session_of id (bare b (acked tag m a w handle number h)) ≡ session_of id h
 unfolding session_of
 acked_steps id tag m a w handle number h true = refl

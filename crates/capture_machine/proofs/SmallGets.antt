@@ -107,7 +107,7 @@ get_small r p m f handle number none is round =
     let large : goes_large p answer ≡ false = ap (λ (b : Bool). sizes_are_known p.phase && b) small ∙ and-false (sizes_are_known p.phase) in
     ap (λ (o : Option RequestMessage). is_some (handle_for p f (answer_to r p m f o))) is ∙ ap (λ (b : Bool). is_some (cond b (Some f.handle) None)) large
 
--- CHUNK_GET does not come by chunks.
+-- CHUNK_GET does not arrive in chunks.
 pub not_carried : (r : RspSetup) (p : Place) (text : List ℕ) (f : Free) (q : RequestMessage) → refusal r (inside p) text f ≡ None → request_at (inside p) text ≡ Some q → (code_for q == CHUNK_GET) ≡ true → ⊥
 not_carried r p text f q none is code =
     let at : CHUNK_GET ≡ code_of text = sym (eqb-true (code_for q) CHUNK_GET code) ∙ asked-code (inside p) text q is in

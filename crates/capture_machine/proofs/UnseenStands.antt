@@ -1,5 +1,5 @@
--- What holds of each entry of a walk: a clear message that was not taken had no effect, and a request whose large answer
--- was not seen was taken, and is neither CHUNK_GET nor PSK_FINISH.
+-- What holds of each entry of a walk: a clear message that was not taken had no effect, and a request whose large
+-- response was not seen was taken, and is neither CHUNK_GET nor PSK_FINISH.
 use Rattle.std.proofs.Common.{◌≡◌, ◌==◌, ◌&&◌, ℕ, List, [], ◌∷◌, refl, sym, ap, ◌∙◌, subst, Bool, true, false, Option, Some, None, cond}
 use Rattle.std.specs.Prelude.{MatchBool}
 use Rattle.std.proofs.Math.Bool.{and-false}
@@ -13,7 +13,7 @@ use Rattle.responder_machine.specs.Turn.Effect.{NoEffect, Took, TookData}
 use Rattle.capture_machine.specs.LargeAnswers.{is_unseen, is_unseen_effect, is_in, is_unseen_in, seen, with_large, dropped_before_large, repeats_large, handle_shown, turn_with, effect_with}
 use Rattle.capture_machine.proofs.GetTells.{IsIdle}
 
--- A turn with a large answer.
+-- A turn with a large response.
 pub record GoesLarge (t : Turn) : Type 0 where
   pub taken : is_taken t ≡ true
   pub other : takes CHUNK_GET t ≡ false
@@ -100,7 +100,7 @@ quiet_since e h old quiet since = subst (λ (b : Bool). MatchBool b (Unit {0}) (
 idle_quiet : (t : Turn) → t.effect ≡ NoEffect → (takes GET_VERSION t ≡ false) × (takes PSK_EXCHANGE t ≡ false)
 idle_quiet t none = (ap (λ (x : Effect). code_in x == GET_VERSION) none, ap (λ (x : Effect). code_in x == PSK_EXCHANGE) none)
 
--- A clear message that is no repeat, and behind which a repeat gets LargeResponse, was not taken.
+-- A clear message that is no repeat, and after which a repeat gets LargeResponse, was not taken.
 clear_since : (t : Turn) (h : History) (b c : Bool) → is_unseen_effect t.effect ≡ b → is_taken t ≡ c → IsIdle t → cond c b (repeats_large None h) ≡ true → (repeats_large None h ≡ true → IsClearSince h)
     → MatchBool b (Unit {0}) (((takes GET_VERSION t ≡ false) × (takes PSK_EXCHANGE t ≡ false)) × IsClearSince h)
 clear_since t h true c un taken idle is rest = tt

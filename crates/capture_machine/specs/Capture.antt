@@ -1,5 +1,5 @@
--- When a capture conforms: its packets are what a responder and its requesters, as they are set up, may have sent
--- to one another. This project's own.
+-- When a capture conforms: its packets are what a responder and its requesters, as they are set up, may have sent to
+-- one another. This project's own.
 use Rattle.std.specs.Prelude.{◌≡◌, ◌<◌, ◌+◌, ◌-◌, ◌==◌, ◌||◌, ◌⊎◌, ℕ, List, [], ◌∷◌, ◌++◌, map, reverse, take, length, Bool, true, false, Option, Some, None, Result, Ok, Err, MatchBool, bytes_eq}
 use Rattle.mctp_framing.specs.Gathering.{Gathered}
 use Rattle.mctp_framing.specs.Gathering.Gathered.{Whole, More, Dropped}
@@ -27,8 +27,8 @@ Copies d tag body next =
     × (next ≡ record d { round = Some (record round { waiting = round.waiting + 1 }) })
 
 -- A new round begins after an answer, or at any place by GET_VERSION. Of the last round's requests some may have no
--- answer. Where one has, they are copies of it, and were answered with the same again; where none has, any answer
--- may have been given, and GET_VERSION follows. No later answer can tell, so they add nothing to the histories.
+-- answer. Where one has, they are copies of it, and were answered with the same again; where none has, any answer may
+-- have been given, and GET_VERSION follows. No later answer can tell, so they add nothing to the histories.
 abbrev pub may_begin : Option Round → List ℕ → Bool
 may_begin None body = true
 may_begin (Some round) body = round.answered || bytes_eq body (clear_body (canonical_request GetVersion))
@@ -42,9 +42,9 @@ Begins d tag body next =
 
 -- ---- An answer.
 
--- An answer has the tag of the last round, in which a request has none yet. The responder takes the oldest such
--- request and may answer it so, and the requester hears the answer. Where it asks for a chunk upon it, a large answer
--- is under way.
+-- An answer has the tag of the last round, in which a request has none yet. The responder takes the oldest such request
+-- and may answer it so, and the requester hears the answer. Where it asks for a chunk upon it, a large response is
+-- under way.
 abbrev pub Replies : Configuration → Dialogue → ℕ → List ℕ → Dialogue → Type 0
 Replies w d tag answer next =
     (round : Round) × (d.round ≡ Some round) × (round.tag ≡ tag) × (0 < round.waiting)
@@ -111,8 +111,8 @@ Leads w (packet ∷ older) ds = (before : List Dialogue) × Leads w older before
 abbrev pub Conforms : Configuration → List (List ℕ) → Type 0
 Conforms w packets = (ds : List Dialogue) × Leads w (reverse packets) ds
 
--- The packet of this number, counted from 1, is the first that does not conform: the packets before it do, and
--- those up to it do not.
+-- The packet of this number, counted from 1, is the first that does not conform: the packets before it do, and those up
+-- to it do not.
 pub record IsFirstDifference (w : Configuration) (packets : List (List ℕ)) (number : ℕ) : Type 0 where
   pub least : 0 < number
   pub most : number < length packets + 1

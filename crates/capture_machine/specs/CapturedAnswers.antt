@@ -1,5 +1,5 @@
--- Which bodies answer a request in a capture: what any responder of this profile may answer, and what that leads
--- to at both ends. This project's own.
+-- Which bodies answer a request in a capture: what any responder of this profile may answer, and what that leads to at
+-- both ends. This project's own.
 use Rattle.std.specs.Prelude.{⊤, ◌≡◌, ◌≤◌, ◌==◌, ◌&&◌, ◌||◌, ◌⊎◌, not, ℕ, List, [], ◌∷◌, length, slice_index, drop, if◌then◌else◌, Bool, true, false, Option, Some, None, is_none, MatchBool}
 use Rattle.chunking.specs.Collecting.{under_way, joined_with}
 use Rattle.requester_machine.specs.Asking as asking
@@ -70,9 +70,9 @@ MayLeadAfter r h dropped tag body outcome = MayDrop h dropped × MayLeadTo r (wi
 abbrev pub belongs_to : RspSetup → Events → List ℕ → Bool
 belongs_to r s sealed = repeats (last_of s) sealed || is_none (opening_fault r.psk s sealed)
 
--- An answer shows that a session was dropped before its request in two cases. It is DecryptError in the clear to
--- a record that belongs to the session; or it is PSK_EXCHANGE_RSP, no repeat, and has the session's id. The
--- history is that before the drop.
+-- An answer shows that a session was dropped before its request in two cases. It is DecryptError in the clear to a
+-- record that belongs to the session; or it is PSK_EXCHANGE_RSP, no repeat, and has the session's id. The history is
+-- that before the drop.
 abbrev pub shows : RspSetup → History → List ℕ → (id : ℕ) → Outcome → Bool
 shows r h body id (Same reply) = false
 shows r h body id (Unopened reply) = id_in_record (drop 1 body) == id && belongs_to r (session_of id h) (drop 1 body)
@@ -87,13 +87,13 @@ AreShown r h body outcome (id ∷ other ∷ others) = ⊥
 
 -- ---- The responder's side of an answer.
 
--- The outcome brings no new LargeResponse and no last chunk of a large answer.
+-- The outcome brings no new LargeResponse and no last chunk of a large response.
 abbrev pub is_plain : History → Outcome → Bool
 is_plain h (Same reply) = true
 is_plain h (Unopened reply) = true
 is_plain h (Adds entry) = not (is_large entry) && not (gives_last h entry)
 
--- An answer that goes whole; a repeat; a chunk of a large answer, but for the last one.
+-- An answer that goes whole; a repeat; a chunk of a large response, but for the last one.
 abbrev pub AnswersPlainly : RspSetup → Dialogue → Round → List ℕ → History → Type 0
 AnswersPlainly r d round answer next =
     (dropped : List ℕ) × (outcome : Outcome)
@@ -103,8 +103,8 @@ AnswersPlainly r d round answer next =
     × (body_of outcome ≡ answer)
     × (next ≡ after (with_dropped d.responder dropped) outcome)
 
--- LargeResponse, plain or in an acknowledgement: some allowed answer is long enough for it. A PSK_EXCHANGE beside
--- four sessions shows by it that one was dropped, but not which, so none counts as dropped.
+-- LargeResponse, plain or in an acknowledgement: some allowed answer is long enough for it. A PSK_EXCHANGE beside four
+-- sessions shows by it that one was dropped, but not which, so none counts as dropped.
 abbrev pub AnswersLarge : RspSetup → Dialogue → Round → List ℕ → History → List ℕ → Type 0
 AnswersLarge r d round answer next whole =
     (dropped : List ℕ) × (entry : Entry)
@@ -114,8 +114,8 @@ AnswersLarge r d round answer next whole =
     × (sent_by entry ≡ answer)
     × (next ≡ unseen entry ∷ d.responder)
 
--- LargeResponse again, to a repeat of a request whose large answer was not seen, while none is fetched. It is the same
--- answer as then, so any bytes of a length that goes by chunks may stand for it.
+-- LargeResponse again, to a repeat of a request whose large response was not seen, while none is fetched. It is the
+-- same answer as then, so any bytes of a length that is sent in chunks may stand for it.
 abbrev pub AnswersAgain : RspSetup → Dialogue → Round → List ℕ → History → List ℕ → Type 0
 AnswersAgain r d round answer next whole =
     (d.fetching ≡ None)
@@ -130,7 +130,7 @@ tag_in (Clear tag t d) = tag
 tag_in (Sealed tag sealed t reply d) = tag
 tag_in _ = 0
 
--- The body of the request of an entry; no bytes where it is no message.
+-- The body of the request of an entry; empty where it is no message.
 abbrev pub request_in : Entry → List ℕ
 request_in (Clear tag t d) = clear_body t.message
 request_in (Sealed tag sealed t reply d) = record_body sealed
@@ -141,13 +141,13 @@ abbrev pub MayLeadToEntry : RspSetup → (dropped : List ℕ) → History → En
 MayLeadToEntry r dropped older entry =
     MayLeadAfter r older dropped (tag_in entry) (request_in entry) (Adds entry) × AreShown r older (request_in entry) (Adds entry) dropped
 
--- The request of the newest large answer of a place that was not seen may lead to these bytes as that answer.
+-- The request of the newest large response of a place that was not seen may lead to these bytes as that answer.
 abbrev pub MayHaveLed : RspSetup → Option ℕ → List ℕ → (dropped : List ℕ) → History → Type 0
 MayHaveLed r place whole dropped [] = ⊥
 MayHaveLed r place whole dropped (entry ∷ older) =
     MatchBool (is_unseen_in place entry) (MayLeadToEntry r dropped older (seen whole entry)) (MayHaveLed r place whole dropped older)
 
--- The last chunk of the large answer that is fetched, which is judged with it.
+-- The last chunk of the large response that is fetched, which is judged with it.
 abbrev pub Completes : RspSetup → Dialogue → Round → List ℕ → History → Type 0
 Completes r d round answer next =
     (whole : List ℕ) × (dropped : List ℕ) × (entry : Entry)
@@ -159,7 +159,7 @@ Completes r d round answer next =
     × (next ≡ entry ∷ with_large (place_named round.body) whole (dropped_before_large (place_named round.body) dropped d.responder))
     × (is_untouched (place_named round.body) (begun_with (place_named round.body) whole d.responder) d.responder ≡ true)
 
--- What an answer may lead to: the responder's history after it, and the bytes that stand for the large answer under
+-- What an answer may lead to: the responder's history after it, and the bytes that stand for the large response under
 -- way. Of LargeResponse again it is the requester that tells whether it begins a fetch.
 unfoldable pub Answers : RspSetup → Dialogue → Round → List ℕ → History → Option (List ℕ) → Type 0
 Answers r d round answer next fetching =
@@ -170,8 +170,8 @@ Answers r d round answer next fetching =
 
 -- ---- The requester's side of an answer.
 
--- It takes an answer while its request is outstanding, under some allowed values; else nothing changes for it. A
--- chunk of a large request, but for the last one, was acknowledged.
+-- It takes an answer while its request is outstanding, under some allowed values; else nothing changes for it. A chunk
+-- of a large request, but for the last one, was acknowledged.
 abbrev pub HearsWhile : Option (List ℕ) → Dialogue → ℕ → List ℕ → requester_history.History → Type 0
 HearsWhile None d tag answer next =
     (outcome : asking.Outcome) × MayHear d.setup d.requester false tag answer no_draw outcome × (next ≡ shown.after d.requester outcome)

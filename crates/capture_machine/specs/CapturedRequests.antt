@@ -1,5 +1,5 @@
--- Which bodies begin a round of a capture: what any requester of this profile may send next, and what that leads
--- to. This project's own.
+-- Which bodies begin a round of a capture: what any requester of this profile may send next, and what that leads to.
+-- This project's own.
 use Rattle.std.specs.Prelude.{◌≡◌, ◌==◌, ◌⊎◌, not, ℕ, List, [], ◌∷◌, if◌then◌else◌, Bool, true, false, Option, Some, None}
 use Rattle.requester_machine.specs.Asking.Outcome.{Adds}
 use Rattle.requester_machine.specs.History.{History, outstanding, begins_large}
@@ -15,8 +15,8 @@ use Rattle.capture_machine.specs.Rounds.{Dialogue, Round, no_draw}
 
 -- ---- The message that is owed.
 
--- The requester's messages stand in the capture, all but the last one at most: one that it sends by itself upon
--- an answer, and that did not come yet. It has another tag than the last round.
+-- The requester's messages stand in the capture, all but the last one at most: one that it sends by itself upon an
+-- answer, and that did not come yet. It has another tag than the last round.
 abbrev pub is_later : Option Round → Option Sent → Bool
 is_later (Some round) (Some sent) = not (sent.tag == round.tag)
 is_later _ _ = false
@@ -61,8 +61,8 @@ GoesOn d body after sending =
     × (after ≡ d.requester)
     × (sending ≡ still_sending d.requester d.sending sent.aim)
 
--- The first chunk of a large request, where some allowed values make the command send one. The bytes that stand for
--- it are not judged yet.
+-- The first chunk of a large request, where some allowed values make the command send one. The bytes that stand for it
+-- are not judged yet.
 abbrev pub BeginsLarge : Dialogue → List ℕ → History → List ℕ → Type 0
 BeginsLarge d body after whole =
     (command : Command) × (some : Sent) × (asked : RequestMessage)
@@ -83,8 +83,7 @@ BeginsOwed d body after whole =
     × (body_of (first_piece (without_owed d) asked whole).content ≡ body)
     × (after ≡ with_next (Some (first_piece (without_owed d) asked whole)) d.requester)
 
--- The first chunk of a large request, by a command or owed; the bytes that stand for it are under way from
--- then on.
+-- The first chunk of a large request, by a command or owed; the bytes that stand for it are under way from then on.
 abbrev pub BeginsByChunks : Dialogue → List ℕ → History → Option (List ℕ) → Type 0
 BeginsByChunks d body after sending =
     (whole : List ℕ) × (BeginsLarge d body after whole ⊎ BeginsOwed d body after whole) × (sending ≡ Some whole)

@@ -30,10 +30,9 @@ use Rattle.world_machine.specs.Setup.{Configuration, known_of}
 use Rattle.spdm_grammar.specs.declared.names.response_code.TheConstants.{PSK_EXCHANGE_RSP, CHUNK_SEND_ACK}
 
 -- The reasons, of which the first that holds is the one. It is no packet, is dropped by its receiver, or completes a
--- body of another type than 5 and 6; it does not go between the responder and a requester that is set up; it comes
--- out of turn; it is a request that the requester may not send, or an answer that the responder may not give, in
--- the clear or in a record that opens; its verify data alone are not the right ones; it is a record that does not
--- open.
+-- body of another type than 5 and 6; it does not go between the responder and a requester that is set up; it comes out
+-- of turn; it is a request that the requester may not send, or an answer that the responder may not give, in the clear
+-- or in a record that opens; its verify data alone are not the right ones; it is a record that does not open.
 pub data Why : Type 0 where
   BadPacket : Why
   UnknownEnd : Why
@@ -55,7 +54,7 @@ abbrev pub is_get_version : Option RequestMessage → Bool
 is_get_version (Some GetVersion) = true
 is_get_version _ = false
 
--- A body that spells GET_VERSION comes at any place, also in a spelling that no requester sends.
+-- A body that encodes GET_VERSION comes at any place, also in an encoding that no requester sends.
 abbrev pub may_come : Option Round → List ℕ → Bool
 may_come None body = true
 may_come (Some round) body = round.answered || (body_type body == 5 && is_get_version (request_value (drop 1 body)))
@@ -71,8 +70,8 @@ abbrev pub is_waiting : Option Round → ℕ → Bool
 is_waiting None tag = false
 is_waiting (Some round) tag = round.tag == tag && nat_lt 0 round.waiting
 
--- An answer is out of turn with the tag owner bit, with another tag than the last round's, and where no
--- request of it waits.
+-- An answer is out of turn with the tag owner bit, with another tag than the last round's, and where no request of it
+-- waits.
 abbrev pub replies_out_of_turn : Dialogue → Bool → ℕ → Bool
 replies_out_of_turn d owner tag = owner || not (is_waiting d.round tag)
 
@@ -96,8 +95,8 @@ finish_in (Some sent) = finish_by sent.aim sent.content
 abbrev pub is_padded : List ℕ → List ℕ → Bool
 is_padded sealed inner = nat_le (length sealed) (26 + length inner + 16)
 
--- A record names a session and opens there, its padding is no longer than it may be, and its inner message is
--- apart from the PSK_FINISH that is owed.
+-- A record names a session and opens there, its padding is no longer than it may be, and its inner message is apart
+-- from the PSK_FINISH that is owed.
 abbrev pub is_finish_apart : Dialogue → (sealed : List ℕ) → Option (ℕ × List ℕ) → Bool
 is_finish_apart d sealed None = false
 is_finish_apart d sealed (Some finish) =
@@ -125,8 +124,8 @@ RepliesApart r d round answer =
     × (carries_exchange other ≡ true)
     × (is_apart (verify_size d) other answer ≡ true)
 
--- By chunks, of which this is the last: all of them have the right form, and carry bytes from which an answer is
--- apart that may be given.
+-- By chunks, of which this is the last: all of them have the right form, and carry bytes from which an answer is apart
+-- that may be given.
 abbrev pub CompletesApart : RspSetup → Dialogue → Round → List ℕ → Type 0
 CompletesApart r d round answer =
     (whole : List ℕ) × (other : List ℕ) × (dropped : List ℕ) × (entry : Entry)
@@ -178,8 +177,8 @@ IsVerifyApart w older packet = (ds : List Dialogue) × Leads w older ds × IsApa
 
 -- ---- The other reasons.
 
--- A request that is in turn: a clear one is known to be none that the requester may send, and so is a record that
--- opens in the session that it names.
+-- A request that is in turn: a clear one is known to be none that the requester may send, and so is a record that opens
+-- in the session that it names.
 abbrev pub request_why : Dialogue → List ℕ → Why
 request_why d body =
     if body_type body == 5 || opens_asking d.setup (session_named (without_owed d) (drop 1 body)) (drop 1 body) then BadRequest
@@ -239,7 +238,7 @@ IsOtherwiseWrong w older packet why =
 
 -- ---- All together.
 
--- Why a packet does not conform behind those before it, the newest first.
+-- Why a packet does not conform after those before it, the newest first.
 abbrev pub IsReason : Configuration → List (List ℕ) → List ℕ → Why → Type 0
 IsReason w older packet BadVerify = IsVerifyApart w older packet
 IsReason w older packet why = IsOtherwiseWrong w older packet why
@@ -251,8 +250,8 @@ pub record IsDifference (w : Configuration) (packets : List (List ℕ)) (number 
 
 -- ---- Laws.
 
--- A first difference has a reason: not each of them is refuted. Nothing here decides whether some body that might
--- stand there instead differs in its verify data alone, so which reason it is may stay open.
+-- A first difference has a reason: not each of them is refuted. Nothing here decides whether some body that might stand
+-- there instead differs in its verify data alone, so which reason it is may stay open.
 abbrev pub FirstHasReason : Type 0
 FirstHasReason = (w : Configuration) (packets : List (List ℕ)) (number : ℕ)
     → IsFirstDifference w packets number → ((why : Why) → IsDifference w packets number why → ⊥) → ⊥

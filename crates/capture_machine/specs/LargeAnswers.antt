@@ -1,7 +1,7 @@
--- A large answer in a capture, before all of it was seen. The request that it answers stands in the responder's
--- history with no bytes as its answer until then, so nothing that hangs on the answer counts, and nothing of it is
--- pending. It is judged whole at its last chunk. While it is fetched any bytes stand for it whose length is one that
--- goes by chunks, and each chunk has to be the one that they are cut into. This project's own.
+-- A large response in a capture, before all of it was seen. The request that it answers stands in the responder's
+-- history with no bytes as its answer until then, so nothing that depends on the answer counts, and nothing of it is
+-- pending. It is judged whole at its last chunk. While it is fetched any bytes stand for it whose length is one that is
+-- sent in chunks, and each chunk has to be the one that they are cut into. This project's own.
 use Rattle.std.specs.Prelude.{◌≡◌, ◌≤◌, ◌==◌, ◌&&◌, ◌||◌, not, ℕ, List, [], ◌∷◌, length, slice_index, drop, if◌then◌else◌, Bool, true, false, Option, Some, None, is_some}
 use Rattle.requester_machine.specs.History as requester_history
 use Rattle.requester_machine.specs.Message.{Ask, Aim, Sent}
@@ -38,7 +38,8 @@ effect_with answer large (TookData bytes old) = TookData bytes old
 abbrev pub turn_with : List ℕ → Option ℕ → Turn → Turn
 turn_with answer large t = record t { effect = effect_with answer large t.effect }
 
--- An entry, with its large answer not seen: it has no bytes as its answer, and no handle, so nothing of it is pending.
+-- An entry, with its large response not seen: it has no bytes as its answer, and no handle, so nothing of it is
+-- pending.
 abbrev pub unseen : Entry → Entry
 unseen (Clear tag t d) = Clear tag (turn_with [] None t) d
 unseen (Sealed tag sealed t reply d) = Sealed tag sealed (turn_with [] None t) reply d
@@ -49,22 +50,22 @@ abbrev pub is_unseen_effect : Effect → Bool
 is_unseen_effect (Took asked request [] None) = true
 is_unseen_effect _ = false
 
--- The large answer of the entry was not seen.
+-- The large response of the entry was not seen.
 abbrev pub is_unseen : Entry → Bool
 is_unseen (Clear tag t d) = is_unseen_effect t.effect
 is_unseen (Sealed tag sealed t reply d) = is_unseen_effect t.effect
 is_unseen _ = false
 
--- The handle that a turn's reply shows, if it is LargeResponse: its last byte, plain or behind the six bytes that an
+-- The handle that a turn's reply shows, if it is LargeResponse: its last byte, plain or after the six bytes that an
 -- acknowledgement has before it.
 abbrev pub handle_shown : Turn → ℕ
 handle_shown t = slice_index t.reply (if is_some t.chunk then 10 else 4)
 
--- A turn with these bytes as its large answer, under the handle that its reply shows.
+-- A turn with these bytes as its large response, under the handle that its reply shows.
 abbrev pub seen_turn : List ℕ → Turn → Turn
 seen_turn answer t = turn_with answer (Some (handle_shown t)) t
 
--- An entry with these bytes as its large answer; one that is no message stays as it is.
+-- An entry with these bytes as its large response; one that is no message stays as it is.
 abbrev pub seen : List ℕ → Entry → Entry
 seen answer (Clear tag t d) = Clear tag (seen_turn answer t) d
 seen answer (Sealed tag sealed t reply d) = Sealed tag sealed (seen_turn answer t) reply d
@@ -82,11 +83,11 @@ is_in None (Clear tag t d) = true
 is_in (Some id) (Sealed tag sealed t reply d) = id_in_record sealed == id
 is_in _ _ = false
 
--- It came to this place, and its large answer was not seen.
+-- It came to this place, and its large response was not seen.
 abbrev pub is_unseen_in : Option ℕ → Entry → Bool
 is_unseen_in place entry = is_in place entry && is_unseen entry
 
--- The history with these bytes as the newest large answer of the place that was not seen.
+-- The history with these bytes as the newest large response of the place that was not seen.
 abbrev pub with_large : Option ℕ → List ℕ → History → History
 with_large place answer [] = []
 with_large place answer (entry ∷ older) = if is_unseen_in place entry then seen answer entry ∷ older else entry ∷ with_large place answer older
@@ -102,7 +103,7 @@ abbrev pub id_begun : Entry → Option ℕ
 id_begun (Clear tag t d) = if takes PSK_EXCHANGE t then Some (id_in_exchange (answer_in t.effect)) else None
 id_begun _ = None
 
--- That of the session which these bytes begin as the newest large answer of the place that was not seen.
+-- That of the session which these bytes begin as the newest large response of the place that was not seen.
 abbrev pub begun_with : Option ℕ → List ℕ → History → Option ℕ
 begun_with place answer [] = None
 begun_with place answer (entry ∷ older) = if is_unseen_in place entry then id_begun (seen answer entry) else begun_with place answer older
@@ -113,7 +114,7 @@ touches (Some id) (Sealed tag sealed t reply d) = id_in_record sealed == id
 touches (Some id) (Dropped which) = which == id
 touches _ _ = false
 
--- No entry behind the request of that answer is. Where it begins a session, another one that had its id is gone since
+-- No entry after the request of that answer is. Where it begins a session, another one that had its id is gone since
 -- then, and took no record; nothing was shown of it either.
 abbrev pub is_untouched : Option ℕ → Option ℕ → History → Bool
 is_untouched place id [] = true
@@ -125,7 +126,8 @@ is_kept_in None (Clear tag t d) = is_taken t
 is_kept_in (Some id) (Sealed tag sealed t reply d) = id_in_record sealed == id
 is_kept_in _ _ = false
 
--- The large answer to the request with which a repeat is compared was not seen: so a repeat gets the same LargeResponse.
+-- The large response to the request with which a repeat is compared was not seen: so a repeat gets the same
+-- LargeResponse.
 abbrev pub repeats_large : Option ℕ → History → Bool
 repeats_large place [] = false
 repeats_large place (entry ∷ older) = if is_kept_in place entry then is_unseen entry else repeats_large place older
@@ -143,14 +145,14 @@ abbrev pub place_again : Option ℕ → (all : History) → History → Place
 place_again place all [] = clear_place all
 place_again place all (entry ∷ older) = if is_kept_in place entry then place_of all entry else place_again place all older
 
--- A length that goes by chunks: with what stands round the answer over the requester's transfer size, and at most
+-- A length that is sent in chunks: with what stands round the answer over the requester's transfer size, and at most
 -- its max size and 4,096.
 abbrev pub IsLargeAnswer : Place → List ℕ → Type 0
 IsLargeAnswer p whole = (goes_large p whole ≡ true) × (is_answer_too_long p whole ≡ false) × (length whole ≤ MAX_MESSAGE_SIZE)
 
 -- ---- While it is fetched.
 
--- A chunk of a large answer is asked of a session.
+-- A chunk of a large response is asked of a session.
 abbrev pub asks_chunk : Ask → Bool
 asks_chunk (AskChunk op handle number before) = true
 asks_chunk _ = false
@@ -175,8 +177,8 @@ while_fetched h whole = if is_fetching (requester_history.outstanding h) then wh
 abbrev pub asks_known : requester_history.History → Option (List ℕ) → Bool
 asks_known h whole = not (is_fetching (requester_history.outstanding h)) || is_some whole
 
--- The history by which a request is answered, of which this is the body: with the bytes that stand for the answer
--- being fetched. It is one of the place to which the request goes.
+-- The history by which a request is answered, of which this is the body: with the bytes that stand for the answer being
+-- fetched. It is one of the place to which the request goes.
 abbrev pub judging : Option (List ℕ) → List ℕ → History → History
 judging None body h = h
 judging (Some whole) body h = with_large (place_named body) whole h

@@ -1,6 +1,6 @@
--- A large request in a capture, before all of it was seen. It is judged whole at its last chunk. Until then any
--- bytes may stand for it whose length is one that goes by chunks, and each chunk has to be the one that they are
--- cut into. This project's own.
+-- A large request in a capture, before all of it was seen. It is judged whole at its last chunk. Until then any bytes
+-- may stand for it whose length is one that is sent in chunks, and each chunk has to be the one that they are cut into.
+-- This project's own.
 use Rattle.std.specs.Prelude.{⊤, ◌≡◌, ◌≤◌, ◌+◌, ◌==◌, nat_lt, ℕ, List, [], ◌∷◌, length, if◌then◌else◌, Bool, true, false, Option, Some, None, MatchBool}
 use Rattle.std.specs.Bool.{OnTrue}
 use Rattle.chunking.specs.Cutting.{nth_chunk, chunk_count}
@@ -26,7 +26,7 @@ use Rattle.spdm_grammar.specs.declared.names.TheConstants.{MAX_MESSAGE_SIZE}
 abbrev pub common_of : History → Common
 common_of h = (connection_terms h).common
 
--- A length that goes by chunks: over the responder's transfer size, and at most its max size and 4,096.
+-- A length that is sent in chunks: over the responder's transfer size, and at most its max size and 4,096.
 abbrev pub IsLargeRequest : Common → List ℕ → Type 0
 IsLargeRequest common whole =
     (nat_lt common.to_responder.transfer (length whole) ≡ true) × (is_too_long common whole ≡ false) × (length whole ≤ MAX_MESSAGE_SIZE)
@@ -42,8 +42,7 @@ first_piece h asked whole = piece_with h asked whole (next_handle h) 0
 
 -- ---- The chunks between.
 
--- A chunk that is not the last has an acknowledgement as its answer, and nothing else. It calls for the next
--- chunk.
+-- A chunk that is not the last has an acknowledgement as its answer, and nothing else. It calls for the next chunk.
 abbrev pub with_next_piece : List ℕ → ℕ → List ℕ → History → Aim → History
 with_next_piece whole tag m h (ByChunks asked handle number) =
     TookClear tag m (goes_on Nothing (piece_with h asked whole handle (number + 1))) no_draw ∷ h
@@ -70,8 +69,8 @@ abbrev pub AreAsked : List ℕ → Aim → Type 0
 AreAsked whole (ByChunks asked handle number) = whole ≡ canonical_request asked
 AreAsked whole _ = ⊥
 
--- The command that began the large request may send it, under some allowed values. One that was sent by itself
--- was begun by no command.
+-- The command that began the large request may send it, under some allowed values. One that was sent by itself was
+-- begun by no command.
 abbrev pub MayHaveBegun : ReqSetup → History → Type 0
 MayHaveBegun q [] = ⊥
 MayHaveBegun q (Told command sent d ∷ older) =

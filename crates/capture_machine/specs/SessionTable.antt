@@ -20,11 +20,11 @@ use Rattle.capture_machine.specs.Rounds.{Dialogue, Round, new_dialogue}
 use Rattle.world_machine.specs.Setup.{Configuration}
 use Rattle.spdm_grammar.specs.declared.names.request_code.TheConstants.{PSK_EXCHANGE}
 
--- A session that a PSK_EXCHANGE_RSP began: the end point of its requester; its own history at the responder, as it
--- last was, and whether it is live there; its ReqSessionID, where the requester took that answer, and until a later
--- session has the id; how many records of it began rounds, and how many answered records that were taken. Each of these
--- was sealed under another key or number than all before it; a copy begins no round, and a record that comes again is
--- not taken.
+-- A session that a PSK_EXCHANGE_RSP began: the endpoint of its requester; its own history at the responder, as it last
+-- was, and whether it is live there; its ReqSessionID, where the requester took that answer, and until a later session
+-- has the id; how many records of it began rounds, and how many answered records that were taken. Each of these was
+-- sealed under another key or number than all before it; a copy begins no round, and a record that comes again is not
+-- taken.
 pub record Row : Type 0 where
   pub eid : ℕ
   pub events : Events
@@ -85,7 +85,7 @@ accepted_in _ = None
 abbrev pub accepted_between : Dialogue → Dialogue → Option ℕ
 accepted_between before after = if nat_lt (length before.requester) (length after.requester) then accepted_in after.requester else None
 
--- The message is a record of the session of this ReqSessionID.
+-- The message is a record of the session with this ReqSessionID.
 abbrev pub is_of : ℕ → Option Sent → Bool
 is_of id (Some sent) = is_aimed id sent.aim
   where
@@ -99,8 +99,8 @@ abbrev pub is_new : Option Round → Round → Bool
 is_new None round = true
 is_new (Some before) round = not (before.tag == round.tag)
 
--- The body of the request by which a round began between two moments, where it is a record of the session of
--- this ReqSessionID.
+-- The body of the request by which a round began between two moments, where it is a record of the session with this
+-- ReqSessionID.
 abbrev pub request_by : Dialogue → Dialogue → ℕ → Option Round → Option (List ℕ)
 request_by before after id None = None
 request_by before after id (Some round) =
@@ -135,8 +135,8 @@ with_responder before after row =
     if row.live then record (with_events before after row) { answered = with_one (reply_between before after (responder_id row)) row.answered }
     else row
 
--- At the requester: a row loses its ReqSessionID to a session accepted later under it, and gets the record of
--- its own that began a round.
+-- At the requester: a row loses its ReqSessionID to a session accepted later under it, and gets the record of its own
+-- that began a round.
 abbrev pub with_requester : Dialogue → Dialogue → Row → Row
 with_requester before after row =
     record row {
@@ -149,7 +149,7 @@ abbrev pub row_after : Dialogue → Dialogue → Row → Row
 row_after before after row =
     if row.eid == after.setup.eid then with_requester before after (with_responder before after row) else row
 
--- A new row, behind all others: the newest stands first.
+-- A new row, after all others: the newest stands first.
 abbrev pub new_row : Dialogue → Dialogue → Row
 new_row before after = record {
   eid = after.setup.eid;
@@ -182,9 +182,9 @@ LeadsShowing w (packet ∷ older) ds rows =
     × Follows w older before packet ds
     × (rows ≡ rows_after before ds earlier)
 
--- An entry of the table: the number of the requester, counted from 1; the session's id; its stage, or none where it
--- is live no longer; the hash of its transcript; how many different records of it stand in requests, and how many
--- in answers.
+-- An entry of the table: the number of the requester, counted from 1; the session's id; its stage, or none where it is
+-- live no longer; the hash of its transcript; how many different records of it stand in requests, and how many in
+-- answers.
 pub record Seen : Type 0 where
   pub requester : ℕ
   pub id : SessionId
@@ -193,7 +193,7 @@ pub record Seen : Type 0 where
   pub sent : ℕ
   pub answered : ℕ
 
--- The number of the requester with an end point, where the first of these has number n; 0 where none has it.
+-- The number of the requester with an endpoint, where the first of these has number n; 0 where none has it.
 abbrev pub number_from : ℕ → ℕ → List ReqSetup → ℕ
 number_from n eid [] = 0
 number_from n eid (q ∷ others) = if q.eid == eid then n else number_from (n + 1) eid others

@@ -24,9 +24,8 @@ pub fn one_is_first()
     ensures { OneIsFirst }
 {}
 
-/// The first packet that does not conform has one of the seven reasons: they are not all refuted. Which
-/// of them it is need not be decided, since whether verify data alone are wrong is told by what might
-/// stand there instead.
+/// The first packet that does not conform has one of the seven reasons: they are not all refuted. Which of them it is
+/// need not be decided, since whether verify data alone are wrong is determined by what might stand there instead.
 pub fn first_has_reason()
     ensures { FirstHasReason }
 {}
