@@ -1,4 +1,4 @@
--- What is told of an answer where no large request is under way, in words of walks.
+-- What is reported of an answer where no large request is under way, in words of walks.
 use Rattle.std.proofs.Common.{◌≡◌, ℕ, List, ◌∷◌, refl, sym, subst, Some, None, Ok, Err, Result}
 use Rattle.mctp_framing.specs.Cutting.{RouteFields}
 use Rattle.mctp_framing.specs.Gathering.{Gathered}
@@ -35,7 +35,7 @@ module _ (w : Configuration) (q : ReqSetup) (older : List (List ℕ)) (rows : Li
   walk_before : Walks w q older (restored k)
   walk_before = (kept_is_restored w q older k keeps).0
 
-  -- What it makes of what is kept, is kept behind it.
+  -- What it makes of what is kept, is kept after it.
   kept_behind : (next : Kept) → RepliesKept w k (Whole route answer) next → Keeps w q (packet ∷ older) next
   kept_behind next replies = kept_replies w q older packet at.fields k next at.parses at.other at.goes keeps (subst (λ (g : Gathered). RepliesKept w k g next) (sym at.whole) replies)
 

@@ -1,4 +1,4 @@
--- What is told of an answer while a large request is sent, in words of walks.
+-- What is reported of an answer while a large request is sent, in words of walks.
 use Rattle.std.proofs.Common.{◌≡◌, ◌∙◌, ◌≤◌, ◌<◌, ◌+◌, ◌-◌, ◌^◌, ◌==◌, ◌||◌, ℕ, List, [], ◌∷◌, refl, sym, ap, subst, drop, length, Bool, true, false, cond, Option, Some, None, Err, Result, inl, inr, arith}
 use Rattle.std.proofs.lemmas.Option.{none-some, same_Some}
 use Rattle.mctp_framing.specs.Cutting.{RouteFields}
@@ -256,7 +256,7 @@ module _ (w : Configuration) (q : ReqSetup) (older : List (List ℕ)) (rows : Li
         let ids : List ℕ = drops_shown_by r s.responder s.round.tag s.round.body answer in
         follow ids (values_shown_by r (with_dropped s.responder ids) s.round.tag s.round.body answer) answerer
 
-    -- What is kept behind it.
+    -- What is kept after it.
     pub whole_on : (old new : Party) (large behind_large : LargeRequest) (table : List Seen) → IsUnderWay old large w q older rows s → new.asker ≡ old.asker → new.number ≡ old.number → IsAnswerer new.answerer r h → answer_keys.StandFor new.keys r h
         → StandFor new.places after (rows_between before after rows) → large_requests.StandsFor behind_large next → StandsForRows table w (length older + 1) (rows_between before after rows)
         → StandsBehind new (Some behind_large) table w q older rows packet

@@ -1,4 +1,4 @@
--- What is told of a request by what is kept, while no large one is under way, in words of walks.
+-- What is reported of a request by what is kept, while no large one is under way, in words of walks.
 use Rattle.std.proofs.Common.{◌≡◌, ℕ, List, ◌∷◌, refl, sym, subst, Option, Some, None}
 use Rattle.mctp_framing.specs.Cutting.{RouteFields}
 use Rattle.mctp_framing.specs.Gathering.{Gathered}
@@ -25,7 +25,7 @@ module _ (w : Configuration) (q : ReqSetup) (older : List (List ℕ)) (packet : 
   pub walk_before : Walks w q older (restored k)
   walk_before = (kept_is_restored w q older k keeps).0
 
-  -- What it makes of what is kept, is kept behind it.
+  -- What it makes of what is kept, is kept after it.
   pub kept_behind : (next : Kept) → AsksKept k (Whole route body) next → Keeps w q (packet ∷ older) next
   kept_behind next asks = kept_asks w q older packet at.fields k next at.parses at.comes keeps (subst (λ (g : Gathered). AsksKept k g next) (sym at.whole) asks)
 

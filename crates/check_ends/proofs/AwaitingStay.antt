@@ -1,4 +1,4 @@
--- A packet behind which more of a body is awaited leaves what is kept.
+-- A packet after which more of a body is awaited leaves what is kept.
 use Rattle.std.proofs.Common.{◌≡◌, ◌<◌, ◌+◌, ◌⊎◌, ℕ, List, ◌∷◌, refl, sym, subst, length, true, false, Option, Some, None, Ok, inl, inr, arith}
 use Rattle.mctp_framing.specs.Gathering.{Gathered}
 use Rattle.mctp_framing.specs.Gathering.Gathered.{More}

@@ -1,5 +1,5 @@
--- Behind packets the request of the last round has type 5 or 6, and an answer whose verify data are alone wrong is in the
--- clear.
+-- After packets the request of the last round has type 5 or 6, and an answer whose verify data are alone wrong is in
+-- the clear.
 use Rattle.std.proofs.Common.{◌≡◌, ◌∙◌, ◌≤◌, ◌==◌, ◌⊎◌, ℕ, List, [], ◌∷◌, sym, subst, Bool, true, false, Option, Some, None, Ok, Err, Result, inl, inr, arith, eqb-true}
 use Rattle.std.specs.Prelude.{MatchBool}
 use Rattle.mctp_framing.specs.Gathering.{Gathered}

@@ -1,4 +1,4 @@
--- What is kept of a requester and the responder behind a request, or why it is refused.
+-- What is kept of a requester and the responder after a request, or why it is refused.
 use Rattle.std.proofs.Common.{◌≡◌, ◌+◌, ◌==◌, ◌&&◌, ◌∙◌, ℕ, List, refl, sym, ap, subst, Bool, true, false, Option, Some, None, cond, length, inl, inr, Result, Ok, Err, arith, eqb-true}
 use Rattle.std.proofs.lemmas.Bool.{false≢true}
 use Rattle.std.proofs.lemmas.Bool.Decides.{nat_tests}
@@ -67,7 +67,7 @@ module _ (w : Configuration) (q : ReqSetup) (older : List (List ℕ)) (rows : Li
     pub stands : (before after : Dialogue) → IsRequestStep sent before after → StandFor places before rows → StandsForRows table w (length older + 1) (rows_between before after rows)
     pub stay : (before after : Dialogue) → IsRequestStep sent before after → StandFor places before rows → StandFor places after (rows_between before after rows)
 
-  -- What stands behind it.
+  -- What follows it.
   behind : (old new : Party) (table : List Seen) (sent : Option ℕ) (after : History) (owed : Option Sent) (round : Option Round) → let next = record k { requester = after; owed = owed; round = round } in
       IsBeside old w q k rows → new.keys ≡ old.keys → new.number ≡ old.number → new.places ≡ old.places
       → IsAsker new.asker q next → IsRequestStep sent (restored k) (restored next) → IsTold sent old.places table → StandBeside new table w q older rows k next
@@ -123,7 +123,7 @@ module _ (w : Configuration) (q : ReqSetup) (older : List (List ℕ)) (rows : Li
   refused_for BadReply is = (λ apart. false≢true (sym is.0 ∙ apart.1), reason_is ∙ ap Some is.1)
   refused_for BadRecord is = (λ apart. false≢true (sym is.0 ∙ apart.1), reason_is ∙ ap Some is.1)
 
-  -- What is told of it.
+  -- What is reported of it.
   pub refused_by : (new : Party) (table : List Seen) (why : declared.Why) → ((next : Kept) → AsksKept k (Whole route body) next → ⊥) → IsRefusedFor (restored k) body (why_of why) → IsAskedBeside w q older rows k route body (Err why) new table
   refused_by new table why nowhere reason = (nowhere, refused_for (why_of why) reason)
 

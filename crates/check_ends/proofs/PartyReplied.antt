@@ -1,4 +1,4 @@
--- What is kept of a requester and the responder behind an answer, or why it is refused.
+-- What is kept of a requester and the responder after an answer, or why it is refused.
 use Rattle.std.proofs.Common.{◌≡◌, ◌+◌, ◌==◌, ◌||◌, ◌&&◌, ◌-◌, ◌^◌, ◌<◌, ◌⊎◌, ◌∙◌, ℕ, List, [], refl, sym, ap, subst, Bool, true, false, Option, Some, cond, drop, length, arith, inl, inr, Ok, Err}
 use Rattle.std.proofs.lemmas.Bool.{false≢true}
 use Rattle.std.proofs.lemmas.Option.{none-some, same_Some}
@@ -72,13 +72,13 @@ module _ (w : Configuration) (q : ReqSetup) (older : List (List ℕ)) (k : Kept)
   abbrev round : Round
   round = turn.round
 
-  -- What is kept of both ends behind it, and of the keys.
+  -- What is kept of both ends after it, and of the keys.
   pub record AreBehind (new : Party) (behind : History) : Type 0 where
     pub asker : IsAsker new.asker q (heard_kept k behind route.tag round answer)
     pub answerer : IsAnswerer new.answerer r behind
     pub keys : StandFor new.keys r behind
 
-  -- What is kept behind it, where it goes whole.
+  -- What is kept after it, where it goes whole.
   abbrev pub whole_kept : Kept
   whole_kept = heard_kept k (history_shown r h round.tag round.body answer) route.tag round answer
 
@@ -106,7 +106,7 @@ module _ (w : Configuration) (q : ReqSetup) (older : List (List ℕ)) (k : Kept)
     },
   )
 
-  -- A part of a large answer.
+  -- A part of a large response.
   pub is_part : (new : Party) (table : List Seen) → IsShownLarge r h round.tag round.body answer ⊎ EndsLarge r h round.tag round.body answer
       → IsReplied w q older rows k route answer (Ok onward.Large) new table
   is_part new table part = (round, turn.answers, part)
@@ -202,7 +202,7 @@ module _ (w : Configuration) (q : ReqSetup) (older : List (List ℕ)) (k : Kept)
     pub answers_round : (tag : ℕ) → tag ≡ tag_in seen → AnswersRound k tag round
     answers_round tag is = (turn.answers.0, sym (is ∙ tag_is), turn.answers.2)
 
-    -- What is kept behind an answer that goes whole.
+    -- What is kept after an answer that goes whole.
     pub behind_whole : (new : Party) → IsAnswerer new.answerer r (history_shown r h round.tag round.body answer) → ((behind : History) → IsAsker new.asker q (heard_kept k behind round.tag round answer))
         → ((ids : List ℕ) (f : Free) → IsAnswerer new.answerer r (after (with_dropped h ids) (on_body r (with_dropped h ids) (tag_in seen) (body_in seen) f no_draw))
         → StandFor new.keys r (after (with_dropped h ids) (on_body r (with_dropped h ids) (tag_in seen) (body_in seen) f no_draw)))

@@ -1,4 +1,4 @@
--- What is kept behind a request while a large one is sent.
+-- What is kept after a request while a large one is sent.
 use Rattle.std.proofs.Common.{◌≡◌, ◌∙◌, ◌+◌, ◌<◌, ◌-◌, ◌^◌, ℕ, List, ◌∷◌, refl, sym, ap, subst, length, take, true, false, Option, Some, None, Err, inl, inr, arith}
 use Rattle.std.proofs.lemmas.Bool.{false≢true}
 use Rattle.std.proofs.lemmas.Option.{same_Some}

@@ -1,4 +1,4 @@
--- What is told of a request and of an answer while a large request is sent, in words of walks.
+-- What is reported of a request and of an answer while a large request is sent, in words of walks.
 use Rattle.std.proofs.Common.{◌≡◌, ◌∙◌, ◌==◌, ◌||◌, ℕ, List, ◌∷◌, sym, ap, subst, drop, Bool, true, false, cond, Some, inl, inr}
 use Rattle.mctp_framing.specs.Cutting.{RouteFields}
 use Rattle.mctp_framing.specs.Gathering.{Gathered}
@@ -41,7 +41,7 @@ module _ (w : Configuration) (q : ReqSetup) (older : List (List ℕ)) (s : Sendi
   own_setup = walks_setup w q older form walk_form
 
   module _ (packet : List ℕ) (route : RouteFields) (body : List ℕ) (at : IsRequest w q older packet route body) where
-    -- What it makes of what is kept, is kept behind it.
+    -- What it makes of what is kept, is kept after it.
     pub sent_behind : (next : Sending) → AsksSending s (Whole route body) next → IsSendingOf w q (packet ∷ older) next
     sent_behind next asks = sending_asks w q older packet at.fields s next at.parses at.comes own (subst (λ (g : Gathered). AsksSending s g next) (sym at.whole) asks)
 

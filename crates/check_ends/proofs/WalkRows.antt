@@ -104,7 +104,7 @@ same_all : (d e : Dialogue) (rows : List Row) → ((row : Row) → IsOfDialogue 
 same_all d e [] each own all = tt
 same_all d e (row ∷ rows) each own all = (λ is. each row (all.0 (is ∙ sym own)), same_all d e rows each own all.1)
 
--- The places of a requester hang on the responder's history alone.
+-- The places of a requester depend on the responder's history alone.
 pub places_for : (places : Places) (d e : Dialogue) (rows : List Row) → d.setup ≡ e.setup → d.responder ≡ e.responder → StandFor places d rows → StandFor places e rows
 places_for places d e rows setup responder are =
     let own : d.setup.eid ≡ e.setup.eid = ap (λ (s : ReqSetup). s.eid) setup in record {

@@ -1,5 +1,5 @@
--- What is kept of a requester and the responder at any place but while a large answer is fetched, and what is told of a
--- request and of an answer there, in words of packets and of walks over them. This project's own.
+-- What is kept of a requester and the responder at any place but while a large response is fetched, and what is
+-- reported of a request and of an answer there, in words of packets and of walks over them. This project's own.
 use Rattle.std.specs.Prelude.{◌≡◌, ◌≢◌, ◌<◌, ◌+◌, ◌⊎◌, ℕ, List, ◌∷◌, length, false, true, Option, Some, None, Result, Ok, Err}
 use Rattle.mctp_framing.specs.Cutting.{RouteFields}
 use Rattle.mctp_framing.specs.Gathering.{Gathered}
@@ -37,7 +37,7 @@ use Rattle.world_machine.specs.Setup.{Configuration}
 abbrev pub meanwhile : Sending → Kept
 meanwhile s = record s.before { responder = s.responder; round = Some s.round }
 
--- A large request is under way behind the packets, and this is kept of it, and of the two ends. What was kept before its
+-- A large request is under way after the packets, and this is kept of it, and of the two ends. What was kept before its
 -- first chunk was so of fewer packets.
 pub record IsUnderWay (seen : Party) (large : LargeRequest) (w : Configuration) (q : ReqSetup) (older : List (List ℕ)) (rows : List Row) (s : Sending) : Type 0 where
   pub sending : IsSendingOf w q older s
@@ -47,7 +47,7 @@ pub record IsUnderWay (seen : Party) (large : LargeRequest) (w : Configuration) 
   pub before : Keeps w q earlier s.before
   pub fewer : length earlier < length older
 
--- It is kept of the packets, among the rows that they show: no large request is under way behind them, or this one is.
+-- It is kept of the packets, among the rows that they show: no large request is under way after them, or this one is.
 abbrev pub StandsAs : Party → Option LargeRequest → Configuration → ReqSetup → (older : List (List ℕ)) → List Row → Type 0
 StandsAs party None w q older rows = (k : Kept) × Keeps w q older k × IsParty party w q k rows
 StandsAs party (Some large) w q older rows = (s : Sending) × IsUnderWay party large w q older rows s
@@ -82,7 +82,7 @@ OtherConversationsStay = (seen : Conversation) (w : Configuration) (q : ReqSetup
     → is_request w.responder.eid q.eid p ≡ false → is_answer w.responder.eid q.eid p ≡ false
     → StandsFor seen w q older rows → StandsFor seen w q (packet ∷ older) (rows_between before after rows)
 
--- A packet of this requester, or for it, behind which more of a body is awaited, leaves it, and the rows too. The
+-- A packet of this requester, or for it, after which more of a body is awaited, leaves it, and the rows too. The
 -- heartbeat period is a byte.
 abbrev pub AwaitingConversationsStay : Type 0
 AwaitingConversationsStay = (seen : Conversation) (w : Configuration) (q : ReqSetup) (older : List (List ℕ)) (packet : List ℕ) (p : PacketFields) (rows : List Row)

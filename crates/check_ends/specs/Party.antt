@@ -34,15 +34,15 @@ pub record IsParty (seen : Party) (w : Configuration) (q : ReqSetup) (k : Kept) 
   pub number : seen.number ≡ number_from 1 q.eid w.requesters
   pub places : StandFor seen.places (restored k) rows
 
--- The same but for the responder's connection: while a large answer is fetched that is kept otherwise.
+-- The same but for the responder's connection: while a large response is fetched that is kept otherwise.
 pub record IsBeside (seen : Party) (w : Configuration) (q : ReqSetup) (k : Kept) (rows : List Row) : Type 0 where
   pub asker : IsAsker seen.asker q k
   pub keys : answer_keys.StandFor seen.keys (responder_for w k) k.responder
   pub number : seen.number ≡ number_from 1 q.eid w.requesters
   pub places : StandFor seen.places (restored k) rows
 
--- Behind a packet that makes this of what was kept: the rows are those that it makes, and the table stands for them after
--- one packet more.
+-- After a packet that makes this of what was kept: the rows are those that it makes, and the table stands for them
+-- after one packet more.
 pub record StandBehind (new : Party) (table : List Seen) (w : Configuration) (q : ReqSetup) (older : List (List ℕ)) (rows : List Row) (k next : Kept) : Type 0 where
   pub party : IsParty new w q next (rows_between (restored k) (restored next) rows)
   pub stands : StandsForRows table w (length older + 1) (rows_between (restored k) (restored next) rows)
@@ -66,7 +66,7 @@ IsComingWhy k g why = (ComesApart (restored k) g → ⊥) × (comes_why (restore
 
 -- ---- What is told.
 
--- Of a request that goes on: what is kept is that behind it, and so is the table. Nothing is said of what is kept where
+-- Of a request that goes on: what is kept is that after it, and so is the table. Nothing is said of what is kept where
 -- it may begin a large one: it is a first chunk. None goes on as answers do upon which a chunk is asked for.
 abbrev pub AsksOnward : Configuration → ReqSetup → List (List ℕ) → List Row → Kept → RouteFields → (body : List ℕ) → Onward
     → (new : Party) → (table : List Seen) → Type 0

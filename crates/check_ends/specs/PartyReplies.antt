@@ -1,4 +1,4 @@
--- What is told of an answer, by what is kept of a requester and the responder. This project's own.
+-- What is reported of an answer, by what is kept of a requester and the responder. This project's own.
 use Rattle.std.specs.Prelude.{◌≡◌, ◌⊎◌, ℕ, List, true, Some, Result, Ok, Err}
 use Rattle.mctp_framing.specs.Cutting.{RouteFields}
 use Rattle.mctp_framing.specs.Gathering.{Gathered}
@@ -32,7 +32,7 @@ abbrev pub IsGoingWhy : RspSetup → Kept → Gathered → Why → Type 0
 IsGoingWhy r k g BadVerify = GoesApart r (restored k) g
 IsGoingWhy r k g why = (GoesApart r (restored k) g → ⊥) × (goes_why r (restored k) g ≡ Some why)
 
--- It begins a large answer, or ends one.
+-- It begins a large response, or ends one.
 abbrev pub IsPartOfLarge : Configuration → Kept → ℕ → (answer : List ℕ) → Type 0
 IsPartOfLarge w k tag answer =
     (round : Round) × AnswersRound k tag round

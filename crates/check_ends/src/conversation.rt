@@ -3,10 +3,9 @@ ghost use Rattle.std.specs.Prelude.{◌≡◌};
 use crate::Party;
 use check_laws::LargeRequest;
 
-/// A requester of a capture and the responder towards it, at any place but while a large answer is
-/// fetched: what is kept of both, and the large request that is under way, if one is. It judges
-/// requests and answers whose order is right, and tells the table of sessions of those that go on. It
-/// takes no memory but when it is made.
+/// A requester of a capture and the responder towards it, at any place but while a large response is fetched: what is
+/// kept of both, and the large request that is under way, if one is. It judges requests and answers whose order is
+/// right, and tells the table of sessions of those that go on. Allocates only when constructed.
 #[derive(Drop)]
 pub struct Conversation {
     /// The two ends.
@@ -24,7 +23,7 @@ impl Conversation {
     ghost use Rattle.capture_machine.specs.Rounds.{new_dialogue};
     ghost use Rattle.world_machine.specs.Setup.{Configuration};
 
-    /// Where nothing came yet.
+    /// The initial state, before any message.
     pub fn new(party: Party) -> Conversation
         ensures { (w : Configuration) (q : ReqSetup) → IsParty party w q (kept_of (new_dialogue q)) []
             → StandsFor result w q [] [] }

@@ -1,5 +1,4 @@
-//! What packets show, and what those between others leave, each as the contract of a function that does
-//! nothing.
+//! What packets show, and what those between others leave, each as the contract of a function that does nothing.
 
 ghost use Rattle.check_ends.specs.Conversation.{AwaitingConversationsStay, OtherConversationsStay, WalksShow};
 
@@ -13,15 +12,14 @@ pub fn walks_show()
     rows_are_of_all();
 }
 
-/// A packet between the responder and another requester leaves what is kept of this one, among the
-/// rows that it makes.
+/// A packet between the responder and another requester leaves what is kept of this one, among the rows that it makes.
 pub fn other_conversations_stay()
     ensures { OtherConversationsStay }
 {
     other_places_stay();
 }
 
-/// A packet behind which more of a body is awaited leaves what is kept, among the same rows.
+/// A packet after which more of a body is awaited leaves what is kept, among the same rows.
 pub fn awaiting_conversations_stay()
     ensures { AwaitingConversationsStay }
 {}

@@ -23,9 +23,8 @@ impl Party {
     ghost use Rattle.capture_machine.specs.SessionTable.{Row};
     ghost use Rattle.world_machine.specs.Setup.{Configuration};
 
-    // An answer came while a large request is under way: it goes on, and is taken for the acknowledgement
-    // of the last chunk, unless the next one is owed; or why it is refused. No large answer begins or ends by
-    // it.
+    // An answer came while a large request is under way: it goes on, and is taken for the acknowledgement of the last
+    // chunk, unless the next one is owed; or why it is refused. No large response begins or ends by it.
     pub(crate) fn replies_meanwhile(
         &mut self,
         large: &mut LargeRequest,
@@ -122,11 +121,10 @@ impl Conversation {
         }
     }
 
-    /// An answer of at most 4,161 bytes came whole, in order behind this round: it goes on, and the table of
-    /// sessions with it; or it is a part of a large answer, where no large request is sent; or no walk goes on with
-    /// it, and then why. But for the first, the table stays, and nothing is said of what is kept then. An `Err`
-    /// comes only where PSK_EXCHANGE_RSP began a session and there is no memory for its entry, and says nothing of
-    /// what is kept.
+    /// An answer of at most 4,161 bytes came whole, in order after this round: it goes on, and the table of sessions
+    /// with it; or it is a part of a large response, where no large request is sent; or no walk goes on with it, and
+    /// then why. But for the first, the table stays, and nothing is said of what is kept then. An `Err` comes only
+    /// where PSK_EXCHANGE_RSP began a session and there is no memory for its entry, and says nothing of what is kept.
     pub fn replies(
         &mut self,
         table: &mut SessionTable,

@@ -42,8 +42,7 @@ impl Party {
         self.asker.begins_large(body)
     }
 
-    // A request came where no large one is under way: it goes on, and begins one or none; or why it is
-    // refused.
+    // A request came where no large one is under way: it goes on, and begins one or none; or why it is refused.
     fn asks_at_rest(
         &mut self,
         table: &mut SessionTable,
@@ -73,8 +72,8 @@ impl Party {
         }
     }
 
-    // A request that is no copy came while a large one is under way, and a round may begin with it: it is
-    // the next chunk, or the last one, or GET_VERSION; or why it is refused.
+    // A request that is no copy came while a large one is under way, and a round may begin with it: it is the next
+    // chunk, or the last one, or GET_VERSION; or why it is refused.
     fn asks_onward(
         &mut self,
         mut large: LargeRequest,
@@ -118,8 +117,7 @@ impl Party {
         }
     }
 
-    // A request came while a large one is under way: it goes on, and the large one with it; or why it is
-    // refused.
+    // A request came while a large one is under way: it goes on, and the large one with it; or why it is refused.
     fn asks_meanwhile(
         &mut self,
         large: LargeRequest,
@@ -151,8 +149,8 @@ impl Party {
         self.asks_onward(large, table, body)
     }
 
-    // A request came while this large one is under way, or none: it goes on, and what is under way then; or
-    // why it is refused.
+    // A request came while this large one is under way, or none: it goes on, and what is under way then; or why it is
+    // refused.
     pub(crate) fn asks_at(
         &mut self,
         large: Option<LargeRequest>,
@@ -211,8 +209,8 @@ impl Conversation {
         self.party.asks_whole(table, round, tag, body)
     }
 
-    // The same where a large request is under way, or may begin. It stands apart, since a function clears the places
-    // of its values when it is entered, and a large request is large.
+    // The same where a large request is under way, or may begin. It stands apart, since a function clears the places of
+    // its values when it is entered, and a large request is large.
     fn asks_largely(
         &mut self,
         table: &mut SessionTable,
@@ -239,9 +237,9 @@ impl Conversation {
         }
     }
 
-    /// A request of at most 4,161 bytes came whole under a tag, in order behind this round: it goes on,
-    /// and the table of sessions with it; or no walk goes on with it, and then why, and the table stays.
-    /// Nothing is said of what is kept then.
+    /// A request of at most 4,161 bytes came whole under a tag, in order after this round: it goes on, and the table of
+    /// sessions with it; or no walk goes on with it, and then why, and the table stays. Nothing is said of what is kept
+    /// then.
     pub fn asks(
         &mut self,
         table: &mut SessionTable,

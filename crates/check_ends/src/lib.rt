@@ -1,9 +1,9 @@
-//! What the two ends of a capture may have sent, judged by the ends' own code: the requests and the answers
-//! of one requester, while no large answer is fetched.
+//! What the two ends of a capture may have sent, judged by the ends' own code: the requests and the answers of one
+//! requester, while no large response is fetched.
 //!
-//! Read first: `StandsFor` in `specs/Conversation.antt`, what is kept of a requester and the responder at any
-//! such place, and `IsParty` in `specs/Party.antt`, what is kept while no large message is under way. The
-//! calls are `Conversation::asks` and `Conversation::replies`, and `Party::asks` and `Party::replies`.
+//! Read first: `StandsFor` in `specs/Conversation.antt`, what is kept of a requester and the responder at any such
+//! place, and `IsParty` in `specs/Party.antt`, what is kept while no large message is under way. The calls are
+//! `Conversation::asks` and `Conversation::replies`, and `Party::asks` and `Party::replies`.
 #![tactic(auto)]
 
 mod conversation;

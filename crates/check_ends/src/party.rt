@@ -12,10 +12,9 @@ use responder_core::Setup;
 use spdm_basis::RecordFrame;
 use spdm_grammar::Why;
 
-/// A requester of a capture and the responder towards it, while no large message is under way: what
-/// the two ends hold, and the keys of answers that were given; its number, and where its entries stand
-/// in the table of sessions. It judges requests and answers whose order is right, and tells the table
-/// of those that go on. It takes no memory but when it is made.
+/// A requester of a capture and the responder towards it, while no large message is under way: what the two ends hold,
+/// and the keys of answers that were given; its number, and where its entries stand in the table of sessions. It judges
+/// requests and answers whose order is right, and tells the table of those that go on. Allocates only when constructed.
 #[derive(Drop)]
 pub struct Party {
     /// The requester.
@@ -30,11 +29,11 @@ pub struct Party {
     pub places: Places,
     /// What is had of the request whose answer is judged. Between two calls it does not matter.
     pub coming: Coming,
-    /// Room for the text of a record. What it holds before and after a call does not matter.
+    /// Room for the text of a record. Scratch space.
     pub text: RecordFrame,
 }
 
-// What is told of a request that is refused for this: its body may be the first chunk of a large one.
+// What is reported of a request that is refused for this: its body may be the first chunk of a large one.
 fn refused(why: Why, body: &[u8]) -> Result<Onward, Why>
     ensures { result ≡ (if is_first_chunk body.now then Ok onward.Large else Err why) }
 {
@@ -60,8 +59,8 @@ impl Party {
     ghost use Rattle.capture_machine.specs.SessionTable.{Row, number_from};
     ghost use Rattle.world_machine.specs.Setup.{Configuration};
 
-    /// A requester with this number, counted from 1, of which nothing came yet, and the responder that
-    /// is set up so towards it. The table of sessions has no entries.
+    /// A requester with this number, counted from 1, of which nothing came yet, and the responder that is set up so
+    /// towards it. The table of sessions has no entries.
     pub fn new(asker: Asker, number: u8, setup: &Setup<'_>) -> Party
         ensures { (w : Configuration) (q : ReqSetup) → IsAsker asker q (kept_of (new_dialogue q))
             → number ≡ number_from 1 q.eid w.requesters
@@ -79,9 +78,9 @@ impl Party {
         }
     }
 
-    /// A request of at most 4,161 bytes came whole under a tag, in order behind this round: it goes
-    /// on, and the table of sessions with it; or it is refused, and then why, and the table stays.
-    /// Nothing is said of what is kept then, and where it may begin a large request.
+    /// A request of at most 4,161 bytes came whole under a tag, in order after this round: it goes on, and the table of
+    /// sessions with it; or it is refused, and then why, and the table stays. Nothing is said of what is kept then, and
+    /// where it may begin a large request.
     pub fn asks(
         &mut self,
         table: &mut SessionTable,
@@ -103,8 +102,8 @@ impl Party {
         }
     }
 
-    /// The same of a request that goes whole, at any place where no large request is sent: it goes on, or why
-    /// it is refused as such a one. The responder's connection is not asked.
+    /// The same of a request that goes whole, at any place where no large request is sent: it goes on, or why it is
+    /// refused as such a one. The responder's connection is not asked.
     pub fn asks_whole(
         &mut self,
         table: &mut SessionTable,

@@ -4,8 +4,7 @@ ghost use Rattle.check_ends.specs.Party.{OtherPartiesStay};
 
 use check_laws::other_places_stay;
 
-/// A packet between the responder and another requester leaves what is kept of this one, among the
-/// rows that it makes.
+/// A packet between the responder and another requester leaves what is kept of this one, among the rows that it makes.
 pub fn other_parties_stay()
     ensures { OtherPartiesStay }
 {

@@ -52,12 +52,10 @@ impl Party {
         self.answerer.prepare(body, &mut self.coming);
     }
 
-    /// An answer of at most 4,161 bytes came whole, in order behind this round: it goes on, and the
-    /// table of sessions with it; or it is refused, and then why, and the table stays. Nothing is said
-    /// of what is kept then, and where it is a part of a large answer, or the requester asks for a chunk
-    /// upon it. An `Err` comes only where
-    /// PSK_EXCHANGE_RSP began a session and there is no memory for its entry, and says nothing of what
-    /// is kept.
+    /// An answer of at most 4,161 bytes came whole, in order after this round: it goes on, and the table of sessions
+    /// with it; or it is refused, and then why, and the table stays. Nothing is said of what is kept then, and where it
+    /// is a part of a large response, or the requester asks for a chunk upon it. An `Err` comes only where
+    /// PSK_EXCHANGE_RSP began a session and there is no memory for its entry, and says nothing of what is kept.
     pub fn replies(
         &mut self,
         table: &mut SessionTable,
@@ -133,8 +131,8 @@ impl Party {
         }
     }
 
-    /// What an answer changed by which this session was begun, if one was; behind it the requester
-    /// accepted a session under this ReqSessionID, and the session of this RspSessionID took a record.
+    /// What an answer changed by which this session was begun, if one was; after it the requester accepted a session
+    /// under this ReqSessionID, and the session with this RspSessionID took a record.
     pub fn change(&self, begun: Option<u16>, accepted: Option<u16>, taken: Option<u16>) -> Change
         ensures begun { result.begun ≡ begun }
         ensures accepted { result.accepted ≡ accepted }
@@ -152,9 +150,9 @@ impl Party {
         }
     }
 
-    /// An answer was given, with the key of the answer to its request, while the requester awaits a chunk
-    /// of a large answer or not: both ends go on. What the requester does upon it is told. A large answer
-    /// is fetched from then on where it asks for a chunk.
+    /// An answer was given, with the key of the answer to its request, while the requester awaits a chunk of a large
+    /// response or not: both ends go on. What the requester does upon it is told. A large response is fetched from then
+    /// on where it asks for a chunk.
     pub fn go_on(
         &mut self,
         round: &Round,
