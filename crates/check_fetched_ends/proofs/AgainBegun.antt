@@ -1,4 +1,4 @@
--- LargeResponse again in a session: what is kept behind it, whether the requester asks for a chunk upon it or not.
+-- LargeResponse again in a session: what is kept after it, whether the requester asks for a chunk upon it or not.
 use Rattle.std.proofs.Common.{◌≡◌, ◌≤◌, ◌<◌, ◌+◌, ◌==◌, ◌&&◌, ◌||◌, ◌∙◌, ℕ, List, [], ◌∷◌, refl, sym, ap, subst, drop, take, length, arith, Bool, true, false, Option, Some, None, is_some, is_none, cond, inl, inr}
 use Rattle.std.specs.Int.{div_ceil}
 use Rattle.std.specs.Prelude.{nat_lt, not, slice_index, bytes_eq}
@@ -384,7 +384,7 @@ module _ (w : Configuration) (q : ReqSetup) (older : List (List ℕ)) (k : Kept)
           let asked = subst (λ (l : List ℕ). IsAskedIn r (session_of (id_in_record l) h) (last_message r h l) (its r id h n unseen).op) same (asked_again r id h n unseen (ap (repeats (ended_of h)) same ∙ reads.anew)) in
           same_op fetched.op (its r id h n unseen).op (sym kept_in.asked.asks ∙ asked.asks)
 
-      -- Zeros of the least length go by chunks.
+      -- Zeros of the least length are sent in chunks.
       abbrev pub bytes : List ℕ
       bytes = zeros fetched.least
 

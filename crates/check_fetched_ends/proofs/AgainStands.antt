@@ -1,5 +1,5 @@
--- A record that was passed in a session, and gets LargeResponse again: what it asks for is read again from it, and its request may
--- lead to all MEASUREMENTS for that operation that go by chunks.
+-- A record that was passed in a session, and gets LargeResponse again: what it asks for is read again from it, and its
+-- request may lead to all MEASUREMENTS for that operation that are sent in chunks.
 use Rattle.std.proofs.Common.{◌≡◌, ◌≤◌, ◌<◌, ◌&&◌, ◌↔◌, ◌∙◌, ℕ, List, [], ◌∷◌, refl, sym, ap, subst, drop, length, Bool, true, false, Option, Some, None, is_some, is_none, inl, inr}
 use Rattle.std.specs.Prelude.{not}
 use Rattle.std.proofs.lemmas.Bool.{false≢true}

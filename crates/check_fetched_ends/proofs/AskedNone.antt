@@ -49,7 +49,7 @@ use Rattle.world_machine.specs.Setup.{Configuration, known_of}
 -- ---- What goes whole in a session is no LargeResponse.
 
 module _ (r : RspSetup) (h : History) (tag : ℕ) (body answer : List ℕ) (type : (slice_index body 0 == 5) ≡ false) where
-  -- What the record leads to behind these drops.
+  -- What the record leads to after these drops.
   abbrev leads : (ids : List ℕ) → Outcome
   leads ids = on_body r (with_dropped h ids) tag body (values_shown_by r (with_dropped h ids) tag body answer) no_draw
 

@@ -1,4 +1,4 @@
--- LargeResponse in answer to a record: what is kept of the large answer that is fetched in its session from then on.
+-- LargeResponse in answer to a record: what is kept of the large response that is fetched in its session from then on.
 use Rattle.std.proofs.Common.{◌≡◌, ◌≤◌, ◌<◌, ◌+◌, ◌==◌, ◌&&◌, ◌↔◌, ℕ, List, [], ◌∷◌, ◌++◌, refl, sym, ap, ◌∙◌, subst, drop, take, length, Bool, true, false, Option, Some, None, cond, eq-eqb, inl}
 use Rattle.std.specs.Prelude.{MatchBool, slice_index}
 use Rattle.std.proofs.lemmas.Bool.{not-false}

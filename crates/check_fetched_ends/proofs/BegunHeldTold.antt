@@ -1,4 +1,4 @@
--- What is told of an answer in the clear while nothing is fetched.
+-- What is reported of an answer in the clear while nothing is fetched.
 use Rattle.std.proofs.Common.{◌≡◌, ◌<◌, ◌==◌, ◌∙◌, ℕ, List, sym, ap, subst, drop, Bool, true, false, Some, eq-eqb, eqb-true}
 use Rattle.std.specs.Prelude.{◌↔◌, slice_index}
 use Rattle.std.proofs.lemmas.Bool.{false≢true}
@@ -51,7 +51,7 @@ module _ (w : Configuration) (q : ReqSetup) (older : List (List ℕ)) (rows : Li
   pub sealed_answer : (byte : w.responder.beat < 256) (limits : IsSetUp k.setup) (carries : Carries w q older k) → (slice_index answer 0 ≡ 5 → ⊥) → IsLargeHere → ⊥
   sealed_answer byte limits carries other is = other (here w q older k route answer byte limits carries turn is.type is.large).typed
 
-  -- It is told by the connection.
+  -- It is determined by the connection.
   module _ (type : slice_index turn.round.body 0 ≡ 5) (clear : slice_index answer 0 ≡ 5) (tag : ℕ) (message reply : List ℕ) (one : tag ≡ turn.round.tag) (two : message ≡ drop 1 turn.round.body) (three : reply ≡ drop 1 answer) (result : Bool)
       (told : (result ≡ true) ↔ IsShownLarge (responder_for w k) k.responder tag (clear_body message) (clear_body reply)) where
     is_clear : (slice_index turn.round.body 0 == 5) ≡ true

@@ -1,4 +1,4 @@
--- What is kept of a large answer whose fetch begins in a session.
+-- What is kept of a large response whose fetch begins in a session.
 use Rattle.std.proofs.Common.{◌≡◌, ◌<◌, ◌+◌, ◌*◌, ◌≤◌, ◌==◌, ◌&&◌, ℕ, zero, suc, List, ◌∷◌, [], refl, sym, ap, ◌∙◌, subst, drop, length, arith, Bool, true, false, Some, None, cond, eq-eqb, is_some}
 use Rattle.std.specs.Int.{div_ceil}
 use Rattle.std.specs.Prelude.{is_none, nat_lt, not, slice_index}

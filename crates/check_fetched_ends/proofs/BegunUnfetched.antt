@@ -1,4 +1,4 @@
--- LargeResponse in answer to a record, upon which the requester asks for no chunk: what is kept behind it.
+-- LargeResponse in answer to a record, upon which the requester asks for no chunk: what is kept after it.
 use Rattle.std.proofs.Common.{◌≡◌, ◌<◌, ◌+◌, ◌==◌, ◌&&◌, ℕ, List, [], ◌∷◌, refl, sym, ap, ◌∙◌, subst, drop, length, Bool, true, false, Ok, Some, None, cond, eq-eqb, is_some, not, inr}
 use Rattle.std.specs.Prelude.{is_none, slice_index}
 use Rattle.std.proofs.lemmas.Bool.{false≢true}
@@ -63,7 +63,7 @@ behind_entry P n m t reply tag d h here ends live is =
     (subst (λ (b : Bool). P (cond b [] (when_live (session_of n h) (Heard m t reply)))) (sym ends)
     (subst P (sym (live_behind (session_of n h) (Heard m t reply) live)) is))
 
--- Its large answer was never seen.
+-- Its large response was never seen.
 unseen_there : (n tag : ℕ) (m : List ℕ) (t : Turn) (reply : List ℕ) (d : Draw) (h : History) → id_in_record m ≡ n → passes t ≡ false → turn_unseen t ≡ turn_with [] None t
     → history_unseen n (Sealed tag m t reply d ∷ h) ≡ unseen (Sealed tag m t reply d) ∷ h
 unseen_there n tag m t reply d h here none same =

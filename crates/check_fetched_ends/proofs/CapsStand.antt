@@ -47,7 +47,7 @@ same_by l k is = record { phase = ap phase_of is; caps = record { asked = ap (λ
 pub both : (l k j : List Turn) → SameSizes l k → SameSizes k j → SameSizes l j
 both l k j one two = record { phase = one.phase ∙ two.phase; caps = record { asked = one.caps.asked ∙ two.caps.asked; told = one.caps.told ∙ two.caps.told } }
 
--- With some bytes as a large answer.
+-- With some bytes as a large response.
 pub large_sizes : (place : Option ℕ) (w : List ℕ) (h : History) → NoCaps h → SameSizes (clear_turns (with_large place w h)) (clear_turns h)
 large_sizes None w h caps = sizes_seen w h caps
 large_sizes (Some id) w h caps = same_by _ _ (session_turns id w h)
@@ -150,7 +150,7 @@ module _ (tag : ℕ) (t : Turn) (d : Draw) (g : History) where
     tells_turn (Tells early taken version caps asked answered whole) code long = told_now m version caps asked answered
     tells_turn (Stays version caps short) code long = absurd (let few = (short code).short in omega (arith, few, long))
 
--- A turn whose large answer was not seen.
+-- A turn whose large response was not seen.
 unseen_settles : (phase : Phase) (m : List ℕ) (t : Turn) → is_some (handle_in t.effect) ≡ true → Settling phase m t → Settling phase m (turn_with [] None t)
 unseen_settles phase m t large (Renews version taken) = Renews version taken
 unseen_settles phase m t large (Tells early taken version caps asked answered whole) = absurd (false≢true (sym whole ∙ large))
@@ -159,7 +159,7 @@ unseen_settles phase m t large (Stays version caps short) =
 
 -- ---- An answer.
 
--- What is told behind it.
+-- What is reported after it.
 pub record Behind (h next : History) (body answer : List ℕ) : Type 0 where
   pub kept : KeptCaps next
   pub stays : IsLater body → (a b : List ℕ) → IsTold h a b → IsTold next a b
@@ -213,7 +213,7 @@ module _ (r : RspSetup) (k g h : History) (tag : ℕ) (body : List ℕ) (judged 
           let led = led_record r k tag body (Adds e) type may in
           sealed_behind tag m _ _ e (record_added r led.free tag m e k led.leads) type
 
-  -- One whose large answer was not seen.
+  -- One whose large response was not seen.
   pub unseen_behind : (e : Entry) → MayLeadTo r k tag body (Adds e) → is_large e ≡ true → Behind h (unseen e ∷ g) body (sent_by e)
   unseen_behind e may large = by_type (slice_index body 0 == 5) refl
     where

@@ -1,4 +1,4 @@
--- What the calls tell of a chunk of a large answer that is fetched in a session.
+-- What the calls tell of a chunk of a large response that is fetched in a session.
 use Rattle.std.proofs.Common.{◌≡◌, ◌≤◌, ◌<◌, ◌-◌, ◌^◌, ◌==◌, ◌||◌, ℕ, List, [], ◌∷◌, sym, ap, ◌∙◌, subst, drop, length, arith, Bool, true, false, Option, Some, eqb-true}
 use Rattle.std.specs.Prelude.{slice_index}
 use Rattle.std.proofs.lemmas.Bool.{false≢true}

@@ -1,5 +1,6 @@
--- While nothing is fetched, an answer in the clear that brings no new LargeResponse, and upon which the requester asks for a chunk,
--- is the same LargeResponse again, plain or in an acknowledgement, to a repeat of a request whose large answer passed unseen.
+-- While nothing is fetched, an answer in the clear that brings no new LargeResponse, and upon which the requester asks
+-- for a chunk, is the same LargeResponse again, plain or in an acknowledgement, to a repeat of a request whose large
+-- response passed unseen.
 use Rattle.std.proofs.Common.{◌≡◌, ◌<◌, ◌≤◌, ◌==◌, ◌&&◌, ◌⊎◌, ◌∙◌, ℕ, List, [], refl, sym, ap, subst, drop, length, arith, Bool, true, false, Option, Some, None, Result, Ok, Err, is_some, cond, inl, inr}
 use Rattle.std.specs.Prelude.{not, slice_index}
 use Rattle.std.proofs.lemmas.Bool.{false≢true, not-false}
@@ -75,7 +76,7 @@ capable q h EndSession awaited may = absurd awaited
 capable q h (ChunkSend x) awaited may = absurd awaited
 capable q h (ChunkGet n k) awaited may = absurd awaited
 
--- It awaits the answer to this request, whole in the message or by chunks.
+-- It awaits the answer to this request, whole in the message or in chunks.
 abbrev pub IsFor : Aim → RequestMessage → Type 0
 IsFor aim a = (aim ≡ Plain a) ⊎ ((handle : ℕ) × (number : ℕ) × (aim ≡ ByChunks a handle number))
 
@@ -169,7 +170,7 @@ module _ (w : Configuration) (q : ReqSetup) (older : List (List ℕ)) (k : Kept)
 
     -- ---- The responder.
 
-    -- It is a repeat, and the answer is its reply, whose large answer was not seen.
+    -- It is a repeat, and the answer is its reply, whose large response was not seen.
     pub record IsAgain : Type 0 where
       pub again : is_repeat (kept_of k.responder) turn.round.tag (drop 1 turn.round.body) ≡ true
       pub same : clear_body (kept_reply (kept_of k.responder)) ≡ answer

@@ -1,4 +1,4 @@
--- Upon which answers in the clear the requester asks for a chunk while a large answer is fetched there.
+-- Upon which answers in the clear the requester asks for a chunk while a large response is fetched there.
 use Rattle.std.proofs.Common.{◌≡◌, ◌≢◌, ◌∙◌, ◌<◌, ◌≤◌, ◌+◌, ◌^◌, ◌==◌, ℕ, List, refl, sym, ap, subst, drop, length, arith, Bool, true, false, Option, Some, None, cond, inl, inr}
 use Rattle.std.specs.Prelude.{IfSome, nat_lt, slice_index}
 use Rattle.std.proofs.lemmas.Bool.{false≢true, not-true, ne_eqb}

@@ -45,7 +45,7 @@ both_are : (a b : Bool) → a ≡ true → b ≡ true → (a && b) ≡ true
 both_are true b one two = two
 both_are false b one two = absurd (false≢true one)
 
--- A request that is whole in its message, and may have a large answer, is one of the two, or NEGOTIATE_ALGORITHMS.
+-- A request that is whole in its message, and may have a large response, is one of the two, or NEGOTIATE_ALGORITHMS.
 plain_none : (m : List ℕ) (a : RequestMessage) → m ≡ canonical_request a → may_be_large a ≡ true → has_free_length (code_of m) ≡ false → ((offer : OfferMessage) → a ≡ NegotiateAlgorithms offer → ⊥) → ⊥
 plain_none m GetVersion is may other none = false≢true may
 plain_none m (GetCapabilities caps) is may other none = false≢true may

@@ -1,4 +1,4 @@
--- What is kept of a large answer that is fetched hangs on the responder's history, and on what is kept beside.
+-- What is kept of a large response that is fetched depends on the responder's history, and on what is kept beside.
 use Rattle.std.proofs.Common.{◌≡◌, List}
 use Rattle.requester_machine.specs.Setup.{ReqSetup}
 use Rattle.check_ends.specs.Party.{IsBeside}

@@ -1,4 +1,4 @@
--- What is told of an answer while no large one is fetched: no part of a large answer is left.
+-- What is reported of an answer while no large one is fetched: no part of a large response is left.
 use Rattle.std.proofs.Common.{◌≡◌, ◌==◌, ◌∙◌, ℕ, List, ◌∷◌, refl, sym, ap, subst, length, drop, Bool, true, false, Option, Some, None, Result, Ok, Err, is_some, cond, inl, inr}
 use Rattle.std.specs.Prelude.{IfOk, slice_index}
 use Rattle.std.proofs.lemmas.Bool.{false≢true}
@@ -52,7 +52,7 @@ use Rattle.capture_machine.specs.Rounds.{Round, no_draw}
 use Rattle.capture_machine.specs.SessionTable.{Row, rows_between}
 use Rattle.world_machine.specs.Setup.{Configuration}
 
--- CHUNK_GET is taken only while a large answer is pending.
+-- CHUNK_GET is taken only while a large response is pending.
 get_pends : (p : Place) (m : List ℕ) (t : Turn) → IsGet p m t → has_pending p ≡ true
 get_pends p m t is =
     let transfer : ℕ = (place_terms p).common.to_requester.transfer in
@@ -166,7 +166,7 @@ module _ (w : Configuration) (q : ReqSetup) (older : List (List ℕ)) (rows : Li
   sent_by party None is stands k keeps = false≢true is
   sent_by party (Some large) is stands k keeps = sending_is_alone w q older stands.0 k stands.1.sending keeps
 
-  -- No part of a large answer comes then, and the requester asks for no chunk.
+  -- No part of a large response comes then, and the requester asks for no chunk.
   pub sent_rest : (party : Party) (large : Option LargeRequest) → is_some large ≡ true → conversations.StandsAs party large w q older rows → (result : Result (Result Onward declared.Why) OutOfMemory)
       → IfOk result (λ told. conversations.IsJudgedAnswer w q older rows packet route answer told new.party new.large table) → IfOk result (λ told. IsJudgedAnswer w q older rows packet route answer told (record { talk = new; fetched = o }) table)
   sent_rest party large is stands (Ok (Ok onward.Kept)) c =

@@ -1,4 +1,4 @@
--- What is kept behind an answer, while a large one is fetched, or none is.
+-- What is kept after an answer, while a large one is fetched, or none is.
 use Rattle.std.proofs.Common.{◌≡◌, ◌+◌, ℕ, List, ◌∷◌, refl, sym, subst, length, Option, Some, None, is_some, true, false, Result, Ok, Err}
 use Rattle.std.proofs.lemmas.Bool.{false≢true}
 use Rattle.std.specs.Prelude.{IfOk}

@@ -82,7 +82,7 @@ module _ (w : Configuration) (q : ReqSetup) (older : List (List ℕ)) (d : Dialo
   unseen_here : UnseenStand d.responder
   unseen_here = (walks_alike w q older d d walk walk).one.unseen
 
-  -- While no large answer is fetched, also while a large request is sent.
+  -- While no large response is fetched, also while a large request is sent.
   rest_like : (party : Party) (large : Option LargeRequest) (rows : List Row) → conversations.StandsAs party large w q older rows → StandsLike party.answerer.connection d.responder
   rest_like party None rows there =
       let k : Kept = there.0 in
@@ -127,7 +127,7 @@ module _ (w : Configuration) (q : ReqSetup) (older : List (List ℕ)) (d : Dialo
       by_awaited x (inl version) at = ap (λ (l : List ℕ). slice_index l 0 == 5) version.1
       by_awaited x (inr chunk) at = clear_type x.body (chunk.1 ∙ at)
 
-  -- So it is told of a message in the clear whether it is a repeat, while a large answer is fetched.
+  -- So it is told of a message in the clear whether it is a repeat, while a large response is fetched.
   repeats_by : (talk : Conversation) (rows : List Row) (tag : ℕ) (m : List ℕ) (result : Bool) (large : Fetch) → StandsAs talk (Some large) w q older rows → ((held : Held) → large ≡ fetch.InClear held → result ≡ is_repeat held.newest tag m)
       → ((fetched : InSession) → large ≡ fetch.InSession fetched → (r : RspSetup) (h : History) → connected.StandsFor talk.party.answerer.connection r h → result ≡ is_repeat (kept_of h) tag m) → result ≡ is_repeat (kept_of d.responder) tag m
   repeats_by talk rows tag m result (fetch.InClear held) there clear session = clear held refl ∙ ap (λ (k : Option kept_messages.Kept). is_repeat k tag m) (newest_held talk held rows there)

@@ -1,5 +1,5 @@
--- A packet between the responder and another requester leaves what is kept of this one; so does a packet behind which more of
--- a body is awaited.
+-- A packet between the responder and another requester leaves what is kept of this one; so does a packet after which
+-- more of a body is awaited.
 use Rattle.std.proofs.Common.{◌≡◌, ◌≢◌, ◌<◌, ◌∙◌, ◌⊎◌, ℕ, List, ◌∷◌, refl, sym, ap, subst, true, false, Option, Some, None, Ok, inl, inr}
 use Rattle.mctp_framing.specs.Gathering.{Gathered}
 use Rattle.mctp_framing.specs.Gathering.Gathered.{More}

@@ -1,5 +1,5 @@
--- What is kept of a large answer that is fetched in a session hangs on the set-up and the responder's history alone, so a
--- request leaves it.
+-- What is kept of a large response that is fetched in a session depends on the set-up and the responder's history
+-- alone, so a request leaves it.
 use Rattle.std.proofs.Common.{◌≡◌, List, sym, ap, ◌∙◌, subst, false, true, Some}
 use Rattle.check_responder.specs.Answerer.{IsAnswerer}
 use Rattle.check_ends.specs.Party.{IsBeside}

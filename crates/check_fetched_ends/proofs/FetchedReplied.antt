@@ -1,4 +1,4 @@
--- What is told of an answer while a large one is fetched, in words of walks.
+-- What is reported of an answer while a large one is fetched, in words of walks.
 use Rattle.std.proofs.Common.{◌≡◌, ◌∙◌, ℕ, List, ◌∷◌, sym, subst, Some, inl, inr}
 use Rattle.mctp_framing.specs.Cutting.{RouteFields}
 use Rattle.mctp_framing.specs.Gathering.{Gathered}
@@ -30,7 +30,7 @@ module _ (w : Configuration) (q : ReqSetup) (older : List (List ℕ)) (packet : 
   pub walk_before : Walks w q older (dialogue_of f u)
   walk_before = own.all u own.stands.1
 
-  -- What it makes of what is kept, is kept behind it.
+  -- What it makes of what is kept, is kept after it.
   pub fetched_behind : (next : Fetching) → GoesFetching w f (Whole route answer) next → IsFetchingOf w q (packet ∷ older) next
   fetched_behind next goes = fetching_goes w q older packet at.fields f next at.parses at.other at.goes own (subst (λ (g : Gathered). GoesFetching w f g next) (sym at.whole) goes)
 

@@ -43,7 +43,7 @@ module _ (f : Fetching) (least most : ℕ) (lengths : AreLengths f.place least m
       let begins = filled_begins (number_of f) (size_of f) (bytes_of f) m within in
       (large, size_by (number_of f) (size_of f) m v (told f.at f.kept.responder) long, less_begins (bytes_of f) (bytes_in (number_of f) m) v begins)
 
-  -- And behind that chunk.
+  -- And after that chunk.
   pub stands_next : (next : Fetching) → next.place ≡ f.place → bytes_of next ≡ bytes_with (number_of f) (bytes_of f) m → size_of next ≡ cond (number_of f == 0) (Some (size_in m)) (size_of f) → MayStand next v
   stands_next next place bytes size =
       let begins = filled_begins (number_of f) (size_of f) (bytes_of f) m within in

@@ -1,4 +1,4 @@
--- The verify data of the last chunk of a large answer whose fetch began late, told of its request as the newest one.
+-- The verify data of the last chunk of a large response whose fetch began late, told of its request as the newest one.
 use Rattle.std.proofs.Common.{◌≡◌, ◌≤◌, ◌<◌, ◌==◌, ◌∙◌, ℕ, List, refl, sym, ap, subst, length, Bool, true, false, Option, Some, None, cond, inl, inr, eq-eqb}
 use Rattle.std.specs.Prelude.{slice_index}
 use Rattle.check_laws.proofs.TurnShown.{inside_allowed}

@@ -1,5 +1,6 @@
--- Behind the last chunk of a large answer whose fetch began late: a connection that stands for the history with the request in
--- front stands for the one with it at its place, once it has the last record of the ended session, and so do the keys of answers.
+-- After the last chunk of a large response whose fetch began late: a connection that stands for the history with the
+-- request in front stands for the one with it at its place, once it has the last record of the ended session, and so do
+-- the keys of answers.
 use Rattle.std.proofs.Common.{◌≡◌, ◌<◌, ◌==◌, ◌||◌, ◌++◌, ◌∙◌, ℕ, List, [], ◌∷◌, refl, sym, ap, subst, Bool, true, false, Option, Some, None, cond, inl, inr, eq-eqb, eqb-true}
 use Rattle.std.specs.Prelude.{MatchBool}
 use Rattle.std.proofs.lemmas.Bool.{false≢true}

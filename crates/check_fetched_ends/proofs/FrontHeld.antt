@@ -1,5 +1,5 @@
--- The request of a large answer that is held, as the newest one: what stands of the history stands of it there, whether it came
--- last, or its fetch began late.
+-- The request of a large response that is held, as the newest one: what stands of the history stands of it there,
+-- whether it came last, or its fetch began late.
 use Rattle.std.proofs.Common.{◌≡◌, ◌+◌, ◌==◌, ◌&&◌, ◌||◌, ◌++◌, ◌∙◌, ℕ, List, [], ◌∷◌, refl, sym, ap, subst, Bool, true, false, Option, Some, None, cond, is_some, unwrap_or}
 use Rattle.std.specs.Prelude.{MatchBool, not}
 use Rattle.std.proofs.lemmas.Bool.{false≢true}

@@ -1,5 +1,5 @@
--- The request of a large answer that is held may have led to bytes exactly where they show so of it as the newest one, and, where
--- its fetch began late, no mark is set of the session that they begin.
+-- The request of a large response that is held may have led to bytes exactly when they show so of it as the newest one,
+-- and, where its fetch began late, no mark is set of the session that they begin.
 use Rattle.std.proofs.Common.{◌≡◌, ◌<◌, ◌++◌, ◌∙◌, ℕ, List, ◌∷◌, sym, ap, subst, true, false, Option, Some, None}
 use Rattle.check_fetched_laws.proofs.WholeDrops.{whole_has_led}
 use Rattle.check_fetched_laws.specs.ClearSessions.{AreGets, IsUnseenRequest}

@@ -1,4 +1,4 @@
--- The session that a whole large answer begins, and whether it was touched since its request.
+-- The session that a whole large response begins, and whether it was touched since its request.
 use Rattle.std.proofs.Common.{◌≡◌, ◌≤◌, ◌==◌, ◌||◌, ◌∙◌, ℕ, List, refl, sym, ap, subst, arith, Bool, true, false, Option, Some, None, cond, inl, inr}
 use Rattle.std.specs.Prelude.{is_some, nat_lt}
 use Rattle.std.proofs.lemmas.Bool.{false≢true}

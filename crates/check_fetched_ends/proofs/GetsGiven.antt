@@ -1,4 +1,4 @@
--- The CHUNK_GETs behind the request of a large answer give its chunks from the first one on.
+-- The CHUNK_GETs after the request of a large response give its chunks from the first one on.
 use Rattle.std.proofs.Common.{◌≡◌, ◌+◌, ◌++◌, ◌&&◌, ◌||◌, ℕ, List, [], ◌∷◌, refl, sym, subst, Bool, true, false, is_some}
 use Rattle.std.specs.Prelude.{MatchBool, not}
 use Rattle.std.proofs.lemmas.Bool.{false≢true}
@@ -35,7 +35,7 @@ one_more : (b : Bool) (A : Type 0) (n : ℕ) → b ≡ true → MatchBool b A (n
 one_more true A n is given = given
 one_more false A n is none = absurd (false≢true is)
 
--- Those that stand behind it give all.
+-- Those that follow it give all.
 pub gets_given : (transfer handle : ℕ) (whole : List ℕ) (gets : List Entry) (tag : ℕ) (t : Turn) (h : History) (n : ℕ) → AreGets gets → is_unseen_effect t.effect ≡ true → GiveChunks transfer handle whole (gets ++ Clear tag t no_draw ∷ h) n
     → AreGiven transfer handle whole gets n
 gets_given transfer handle whole [] tag t h n are unseen given =

@@ -1,4 +1,5 @@
--- What the history of a large answer that is held keeps of what was left before its request, also where the fetch began late.
+-- What the history of a large response that is held keeps of what was left before its request, also where the fetch
+-- began late.
 use Rattle.std.proofs.Common.{◌≡◌, ◌≤◌, ◌&&◌, ◌+◌, ◌++◌, ◌∷◌, ◌∙◌, ℕ, List, [], refl, sym, ap, subst, Bool, true, false, Option, Some, None, arith, inl, inr}
 use Rattle.std.specs.Prelude.{MatchBool, not}
 use Rattle.std.proofs.lemmas.Bool.{false≢true}
@@ -29,7 +30,7 @@ none_in : (live past : Bool) → (live ≡ true → past ≡ true) → (live && 
 none_in true past is = ap not (is refl)
 none_in false past is = refl
 
--- Behind PSK_EXCHANGE none is in its handshake, so the request leaves the history at the repeat as it is.
+-- After PSK_EXCHANGE none is in its handshake, so the request leaves the history at the repeat as it is.
 pub late_left : (marks : Marks) (tag : ℕ) (t : Turn) (before left : History) → IsLate marks tag t before → IsLeftBy (Clear tag t no_draw) before left → left ≡ before
 late_left marks tag t before left late leaves = by_code (takes PSK_EXCHANGE t) refl leaves
   where

@@ -1,4 +1,4 @@
--- Behind LargeResponse in the clear the connection stands for what its request left of the sessions before it.
+-- After LargeResponse in the clear the connection stands for what its request left of the sessions before it.
 use Rattle.std.proofs.Common.{◌≡◌, ◌<◌, ◌∙◌, ◌==◌, ◌++◌, ℕ, List, [], ◌∷◌, refl, sym, ap, subst, true, false, Option, None}
 use Rattle.std.specs.Prelude.{slice_index}
 use Rattle.mctp_framing.specs.Cutting.{RouteFields}
@@ -67,6 +67,6 @@ module _ (w : Configuration) (q : ReqSetup) (older : List (List ℕ)) (k : Kept)
   keys_begun seen_keys keys =
       subst (answer_keys.StandFor seen_keys (responder_for w k)) (sym here.added) (keys_stand_on seen_keys (responder_for w k) (Clear turn.round.tag left_turn no_draw ∷ []) k.responder (tt, tt) keys)
 
-  -- What is shown of the sessions behind it is what was left.
+  -- What is shown of the sessions after it is what was left.
   pub views_begun : (left : History) → Left left → views_in (behind w q older k route answer byte limits carries turn type large) ≡ views_in left
   views_begun left left_is = ap views_in here.added ∙ views_are_left [] (Clear turn.round.tag left_turn no_draw) k.responder left tt here.unseen left_is

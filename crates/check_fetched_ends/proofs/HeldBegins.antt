@@ -1,5 +1,5 @@
--- LargeResponse in the clear, upon which the requester asks for a chunk: what is kept of the large answer that is fetched from
--- then on.
+-- LargeResponse in the clear, upon which the requester asks for a chunk: what is kept of the large response that is
+-- fetched from then on.
 use Rattle.std.proofs.Common.{◌≡◌, ◌≤◌, ◌<◌, ◌+◌, ◌==◌, ◌&&◌, ◌↔◌, ℕ, List, [], ◌∷◌, ◌++◌, refl, sym, ap, ◌∙◌, subst, drop, take, length, arith, Bool, true, false, Option, Some, None, is_some, cond, inl, inr}
 use Rattle.std.specs.Prelude.{nat_lt, slice_index}
 use Rattle.std.proofs.lemmas.Slice.Eq.{bytes_eq-Decides}
@@ -72,7 +72,7 @@ module _ (w : Configuration) (q : ReqSetup) (older : List (List ℕ)) (k : Kept)
   given : Given
   given = (large_is_shown r (restored k) round answer behind byte).1 (large, refl)
 
-  -- It is kept behind it.
+  -- It is kept after it.
   pub begins : asks_upon k route.tag answer ≡ true → BeginsFetching w k (Whole route answer) next
   begins fetches =
       let heard = heard_on w q older k limits carries route.tag round answer turn.answers.0 turn.answers.1 None behind in

@@ -63,7 +63,7 @@ none_of : (o : Option ErrorCode) → is_none o ≡ true → o ≡ None
 none_of None is = refl
 none_of (Some e) is = absurd (false≢true is)
 
--- An answer that goes by chunks goes so only where both ends can.
+-- An answer that is sent in chunks goes so only where both ends can.
 chunk_by : (known more chunk less : Bool) → (known && less) ≡ true → (known && (more || (not chunk && less))) ≡ false → chunk ≡ true
 chunk_by true more true less goes long = refl
 chunk_by true true false less goes long = absurd (false≢true (sym long))
@@ -99,7 +99,7 @@ module _ (w : Configuration) (q : ReqSetup) (older : List (List ℕ)) (k : Kept)
   abbrev now : History
   now = behind w q older k route answer byte limits carries turn type large
 
-  -- Whether the request came by chunks.
+  -- Whether the request arrived in chunks.
   abbrev carried : Bool
   carried = slice_index (drop 1 answer) 1 == CHUNK_SEND_ACK
 

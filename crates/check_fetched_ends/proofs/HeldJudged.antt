@@ -1,4 +1,4 @@
--- An answer while a large one is fetched in the clear, by what it was found to be: what is told of it.
+-- An answer while a large one is fetched in the clear, by what it was found to be: what is reported of it.
 use Rattle.std.proofs.Common.{◌≡◌, ◌≢◌, ◌∙◌, ◌↔◌, ◌≤◌, IsTrue, ℕ, List, ◌∷◌, refl, sym, ap, subst, drop, length, Bool, true, false, Option, Some, None, Result, Ok}
 use Rattle.std.specs.Prelude.{OnOk}
 use Rattle.spdm_basis.specs.declared.OutOfMemory.{OutOfMemory}
@@ -138,6 +138,6 @@ module _ (f : Fetching) (route : RouteFields) (answer : List ℕ) (turn : Answer
   pub not_version : (body : List ℕ) → body ≡ body_in seen → (result : Bool) → (IsTrue result ↔ (clear_body (canonical_request GetVersion) ≡ body)) → result ≡ false → turn.round.body ≢ clear_body (canonical_request GetVersion)
   not_version body of result told none = λ is. false≢true (sym none ∙ told.1 (sym (body_is body of ∙ is)))
 
--- What is told of a result, where it is this one.
+-- What is reported of a result, where it is this one.
 pub heard_as : (P : Type 0) (result : Result Unit OutOfMemory) (it : Unit) → OnOk result P → result ≡ Ok it → P
 heard_as P result it told was = subst (λ (x : Result Unit OutOfMemory). OnOk x P) was told

@@ -1,4 +1,4 @@
--- What is held of a large answer stands for what is kept also where only the requester's side went on.
+-- What is held of a large response stands for what is kept also where only the requester's side went on.
 use Rattle.std.proofs.Common.{◌≡◌, ◌∙◌, ℕ, List, sym, ap, subst}
 use Rattle.check_ends.specs.Party.{IsBeside}
 use Rattle.check_responder.specs.declared.answer_keys.AnswerKeys.{AnswerKeys}

@@ -1,4 +1,4 @@
--- Which lengths of a large answer in the clear go by chunks: those from the least to the most.
+-- Which lengths of a large response in the clear are sent in chunks: those from the least to the most.
 use Rattle.std.proofs.Common.{◌≡◌, ◌≤◌, ◌<◌, ◌+◌, ◌-◌, ◌==◌, ◌&&◌, ◌||◌, ◌↔◌, ◌∙◌, ℕ, List, refl, sym, ap, subst, length, arith, Bool, true, false, cond}
 use Rattle.std.specs.Prelude.{nat_lt, not}
 use Rattle.std.proofs.lemmas.Bool.{false≢true}

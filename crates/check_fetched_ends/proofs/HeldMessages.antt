@@ -1,4 +1,4 @@
--- What the text of an answer to a record holds: CHUNK_RESPONSE exactly where a chunk is given.
+-- What the text of an answer to a record holds: CHUNK_RESPONSE exactly when a chunk is given.
 use Rattle.std.proofs.Common.{◌≡◌, ◌≤◌, ◌∙◌, ◌==◌, ℕ, List, ◌∷◌, refl, sym, ap, subst, drop, length, Bool, true, false, Option, Some, None, cond, is_some}
 use Rattle.std.proofs.lemmas.Bool.{false≢true}
 use Rattle.std.specs.Prelude.{slice_index}

@@ -1,5 +1,5 @@
--- The round while a large answer is fetched in the clear, and is no GET_VERSION: it goes there, and is a repeat, or CHUNK_GET
--- for the next chunk of any bytes that may stand.
+-- The round while a large response is fetched in the clear, and is no GET_VERSION: it goes there, and is a repeat, or
+-- CHUNK_GET for the next chunk of any bytes that may stand.
 use Rattle.std.proofs.Common.{◌≡◌, ◌≢◌, ◌≤◌, ◌<◌, ◌==◌, ◌⊎◌, ℕ, List, refl, sym, ap, ◌∙◌, subst, drop, arith, Bool, true, false, Option, Some, None, cond, inl, inr}
 use Rattle.std.specs.Prelude.{slice_index}
 use Rattle.std.proofs.lemmas.Bool.{false≢true}

@@ -1,4 +1,5 @@
--- Why an answer is refused while a large one is fetched in the clear: it is told by what was left before its request.
+-- Why an answer is refused while a large one is fetched in the clear: it is determined by what was left before its
+-- request.
 use Rattle.std.proofs.Common.{◌≡◌, ◌≤◌, ◌==◌, ◌||◌, ℕ, List, refl, sym, ap, ◌∙◌, subst, drop, arith, Bool, true, false, Option, Some, None, cond, inl, inr, Err}
 use Rattle.std.specs.Prelude.{MatchBool, slice_index}
 use Rattle.std.proofs.lemmas.Bool.{false≢true}

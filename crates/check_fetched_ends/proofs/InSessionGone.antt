@@ -1,4 +1,4 @@
--- What is kept behind a chunk of a large answer that is fetched in a session.
+-- What is kept after a chunk of a large response that is fetched in a session.
 use Rattle.std.proofs.Common.{◌≡◌, ◌<◌, ◌==◌, ◌&&◌, ℕ, List, [], ◌∷◌, refl, sym, ap, ◌∙◌, subst, drop, Bool, true, false, Some, None, cond, eqb-true}
 use Rattle.std.specs.Prelude.{not, slice_index}
 use Rattle.std.proofs.lemmas.Bool.{not-false, not-true}

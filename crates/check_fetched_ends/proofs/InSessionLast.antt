@@ -1,4 +1,4 @@
--- The last chunk of a large answer that is fetched in a session.
+-- The last chunk of a large response that is fetched in a session.
 use Rattle.std.proofs.Common.{◌≡◌, ◌<◌, ◌+◌, ◌&&◌, ℕ, List, [], ◌∷◌, refl, sym, ap, ◌∙◌, subst, length, Bool, true, false, Option, Some, None, Ok, cond, inr}
 use Rattle.std.specs.Prelude.{◌||◌, not}
 use Rattle.std.proofs.lemmas.Bool.{false≢true}
@@ -142,7 +142,7 @@ module _ (w : Configuration) (q : ReqSetup) (older : List (List ℕ)) (rows : Li
   unfolding last_shown
   last_adds = body_adds r g round.tag round.body answer read.record_is read.read.taken (values_shown_by r g round.tag round.body answer)
 
-  -- What is kept behind it.
+  -- What is kept after it.
   abbrev pub last_kept : Kept
   last_kept = heard_kept k (last_entry ∷ g) route.tag round answer
 

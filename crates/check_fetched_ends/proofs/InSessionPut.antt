@@ -1,5 +1,5 @@
--- In the session in which a large answer is fetched, other bytes that may stand for it are pending where some are, and may be
--- put there.
+-- In the session in which a large response is fetched, other bytes that may stand for it are pending where some are,
+-- and may be put there.
 use Rattle.std.proofs.Common.{◌≡◌, ◌≤◌, ◌<◌, ◌+◌, ◌==◌, ℕ, List, refl, sym, ap, ◌∙◌, subst, drop, length, arith, true, false, Option, Some}
 use Rattle.std.specs.Prelude.{nat_lt, slice_index}
 use Rattle.std.proofs.lemmas.Bool.Decides.{nat_tests}
@@ -38,7 +38,7 @@ few_round InClear = omega arith
 few_round InChunks = omega arith
 few_round InSession = omega arith
 
--- A length that goes by chunks is longer than what the requester takes at once.
+-- A length that is sent in chunks is longer than what the requester takes at once.
 pub long_enough : (p : Place) (v : List ℕ) (size : ℕ) → size ≡ (place_terms p).common.to_requester.transfer → IsLargeAnswer p v → size < length v + 16
 long_enough p v size is large =
     let less : nat_lt (place_terms p).common.to_requester.transfer (bytes_round p.at + length v) ≡ true = and_second (sizes_are_known p.phase) (nat_lt (place_terms p).common.to_requester.transfer (bytes_round p.at + length v)) large.0 in

@@ -1,4 +1,5 @@
--- An answer to a record of the session in which a large answer is fetched: what it leads to, with some bytes that may stand.
+-- An answer to a record of the session in which a large response is fetched: what it leads to, with some bytes that may
+-- stand.
 use Rattle.std.proofs.Common.{◌≡◌, ◌<◌, ◌==◌, ℕ, List, ◌∷◌, refl, sym, ap, ◌∙◌, subst, drop, take, length, arith, Bool, true, false, Option, Some, cond}
 use Rattle.std.specs.Prelude.{slice_index}
 use Rattle.std.proofs.lemmas.Bool.{false≢true}
@@ -135,7 +136,7 @@ module _ (w : Configuration) (q : ReqSetup) (older : List (List ℕ)) (f : Fetch
           (subst (λ (l : History). IsShownAnswer r l round.tag round.body answer × (e ∷ h ≡ after (with_dropped h (drops_shown_by r l round.tag round.body answer)) (outcome_shown r l round.tag round.body answer))) (sym judged)
           (shown, sym (ap (λ (l : List ℕ). after (with_dropped h l) (outcome_shown r g round.tag round.body answer)) (no_drops r g round.tag round.body answer type will sealed) ∙ ap (after h) adds)))
 
-      -- What is kept behind it, while the requester awaits a chunk still.
+      -- What is kept after it, while the requester awaits a chunk still.
       abbrev pub next : Fetching
       next = record f { kept = heard_kept k (e ∷ h) route.tag round answer }
 

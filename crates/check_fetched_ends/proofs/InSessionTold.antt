@@ -1,4 +1,4 @@
--- What is told of a chunk of a large answer that is fetched in a session.
+-- What is reported of a chunk of a large response that is fetched in a session.
 use Rattle.std.proofs.Common.{◌≡◌, ◌≤◌, ◌<◌, ◌+◌, ◌-◌, ◌^◌, ◌==◌, ◌↔◌, ℕ, List, [], ◌∷◌, refl, sym, ap, ◌∙◌, subst, length, arith, Bool, true, false, Option, Some, Ok, cond}
 use Rattle.std.specs.Prelude.{MatchBool}
 use Rattle.std.proofs.lemmas.Bool.{false≢true}
@@ -42,7 +42,7 @@ use Rattle.check_fetched_ends.specs.InSession.{AreLengths, AsksFor, IsFetchedIn,
 use Rattle.check_fetched_ends.specs.declared.session_fetch.in_session.InSession.{InSession}
 use Rattle.check_fetched_ends.specs.declared.upon.Upon.TheVariants as upon
 
--- As many messages came, whatever stands for a large answer.
+-- As many messages came, whatever stands for a large response.
 few_by : (at : Option ℕ) (v : List ℕ) (e : Entry) (g : History) (b : Bool) → messages_of (with_large at v g) ≡ messages_of g → messages_of (cond b (seen v e ∷ g) (e ∷ with_large at v g)) ≡ messages_of (e ∷ g)
 few_by at v (Clear tag t d) g true same = refl
 few_by at v (Sealed tag m t reply d) g true same = refl

@@ -1,4 +1,5 @@
--- GET_VERSION in place of a chunk of a large answer that is fetched in a session: VERSION ends the fetch, and all sessions.
+-- GET_VERSION in place of a chunk of a large response that is fetched in a session: VERSION ends the fetch, and all
+-- sessions.
 use Rattle.std.proofs.Common.{◌≡◌, ◌≤◌, ◌<◌, ◌+◌, ◌-◌, ◌^◌, ◌==◌, ◌&&◌, ◌||◌, ◌%◌, ℕ, List, [], ◌∷◌, refl, sym, ap, ◌∙◌, subst, drop, length, Bool, true, false, Option, Some, None, Ok, Err, cond, inl, inr, arith}
 use Rattle.std.specs.Prelude.{not, slice_index}
 use Rattle.std.proofs.lemmas.Bool.{false≢true, false_from_ne_true}
@@ -120,7 +121,7 @@ module _ (w : Configuration) (q : ReqSetup) (older : List (List ℕ)) (rows : Li
   pub own_anew : IsAnew (responder_for w f.kept) f.kept.responder turn.round.tag
   own_anew = record { room = room; anew = anew round.tag; sized = sized }
 
-  -- It is no repeat with any bytes in the place of a large answer.
+  -- It is no repeat with any bytes in the place of a large response.
   anew_at : (v : List ℕ) → IsAnew r (with_large None v h) round.tag
   anew_at v = record {
     room = room;

@@ -52,7 +52,7 @@ use Rattle.check_fetched_ends.proofs.TextsAlike.{text_moved}
 use Rattle.check_fetched_ends.specs.ChunkJudged.{IsNoChunk}
 use Rattle.check_fetched_ends.specs.InSession.{AreLengths, AsksFor, IsMeasuredBy, IsTextOf, bytes_with, filled, is_chunk, size_with}
 
--- What a chunk shows is of a length that goes by chunks, and no longer than it told.
+-- What a chunk shows is of a length that is sent in chunks, and no longer than it told.
 pub record Fits (f : Fetching) (least most : ℕ) (message : List ℕ) : Type 0 where
   pub least_is : least ≤ size_with (number_of f) (size_of f) message
   pub most_is : size_with (number_of f) (size_of f) message ≤ most

@@ -217,7 +217,7 @@ walk_shows w q (packet ∷ older) d walk = step_shows w q.eid older walk.0 d (pa
 
 -- ---- The newest request in the clear that was taken.
 
--- A large answer stands behind no chunk.
+-- A large response follows no chunk.
 abbrev IsWhole : History → Type 0
 IsWhole h = (is_some (large_of (clear_turns h)) ≡ true) × (given_of (clear_turns h) ≡ 0)
 

@@ -1,4 +1,5 @@
--- A connection that gave all chunks of a large answer again stands for the history in which they were given one by one.
+-- A connection that gave all chunks of a large response again stands for the history in which they were given one by
+-- one.
 use Rattle.std.proofs.Common.{◌≡◌, ◌≢◌, ◌<◌, ◌+◌, ◌==◌, ◌&&◌, ◌||◌, ◌++◌, ◌⊎◌, ◌∙◌, ℕ, zero, suc, List, [], ◌∷◌, refl, sym, ap, subst, arith, Bool, true, false, Option, Some, None, cond, eqb-true, inl, inr}
 use Rattle.std.specs.Prelude.{MatchBool, not}
 use Rattle.std.proofs.lemmas.Bool.{false≢true}

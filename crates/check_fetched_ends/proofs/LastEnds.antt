@@ -1,4 +1,4 @@
--- The last chunk of a large answer that is held, of bytes to which its request leads: the fetch ends by it.
+-- The last chunk of a large response that is held, of bytes to which its request leads: the fetch ends by it.
 use Rattle.std.proofs.Common.{◌≡◌, ◌≢◌, ◌<◌, ◌+◌, ◌^◌, ◌==◌, ◌&&◌, ◌||◌, ◌∙◌, ℕ, List, [], ◌∷◌, refl, sym, ap, subst, length, Bool, true, false, Option, Some, None, Ok, cond, inr, arith}
 use Rattle.std.specs.Prelude.{not}
 use Rattle.std.proofs.lemmas.Option.{same_Some}

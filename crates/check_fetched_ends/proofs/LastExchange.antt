@@ -1,4 +1,4 @@
--- Whether the request of a large answer that is held is PSK_EXCHANGE.
+-- Whether the request of a large response that is held is PSK_EXCHANGE.
 use Rattle.std.proofs.Common.{◌≡◌, ◌∙◌, ℕ, List, [], refl, sym, ap, subst, Bool, true, Option, None, is_some}
 use Rattle.check_responder.proofs.ClearJudged.{adds_at}
 use Rattle.check_responder.specs.declared.answer_keys.AnswerKeys.{AnswerKeys}

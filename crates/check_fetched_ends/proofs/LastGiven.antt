@@ -1,4 +1,4 @@
--- The bytes of a large answer whose chunks are asked for one by one.
+-- The bytes of a large response whose chunks are asked for one by one.
 use Rattle.std.proofs.Common.{◌≡◌, ◌≤◌, ◌<◌, ◌+◌, ◌-◌, ◌*◌, ◌==◌, ◌++◌, ◌∙◌, ℕ, suc, List, ◌∷◌, refl, sym, ap, subst, drop, take, length, arith, Bool, true, false, Option, Some, None, cond}
 use Rattle.std.specs.Prelude.{slice_index}
 use Rattle.std.proofs.lemmas.Bool.Decides.{nat_tests}
@@ -30,7 +30,7 @@ last_by false handle number told x = refl
 pub last_told : (transfer handle : ℕ) (whole : List ℕ) (n : ℕ) → (slice_index (canonical_response (ChunkResponse (nth_chunk transfer handle whole n))) 2 == 1) ≡ (n + 1 == chunk_count transfer whole)
 last_told transfer handle whole n = last_by (n + 1 == chunk_count transfer whole) handle n (cond (n == 0) (Some (length whole)) None) (nth_chunk transfer handle whole n).chunk
 
--- Its bytes are put behind those before.
+-- Its bytes are put after those before.
 chunk_bytes : (transfer handle : ℕ) (whole : List ℕ) (n : ℕ) → bytes_in n (canonical_response (ChunkResponse (nth_chunk transfer handle whole n))) ≡ (nth_chunk transfer 0 whole n).chunk
 chunk_bytes transfer handle whole n = chunk_by (n == 0) _ handle n (length whole) _
 

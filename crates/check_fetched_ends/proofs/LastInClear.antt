@@ -1,4 +1,5 @@
--- The last chunk of a large answer that is fetched in the clear: it ends the fetch exactly where its request leads to all bytes.
+-- The last chunk of a large response that is fetched in the clear: it ends the fetch exactly when its request leads to
+-- all bytes.
 use Rattle.std.proofs.Common.{◌≡◌, ◌≢◌, ◌<◌, ◌+◌, ◌∙◌, ℕ, List, ◌∷◌, refl, ap, false, Some, None}
 use Rattle.std.specs.Prelude.{◌↔◌, nat_lt}
 use Rattle.check_ends.specs.declared.party.Party.{Party}
@@ -49,7 +50,7 @@ module _ (w : Configuration) (q : ReqSetup) (older : List (List ℕ)) (rows : Li
   abbrev undrawn : AreUndrawn h
   undrawn = walks_undrawn w q older (dialogue_of f own.stands.0) (own.all own.stands.0 own.stands.1)
 
-  -- The history behind it.
+  -- The history after it.
   abbrev pub behind_last : History
   behind_last = got ∷ with_large None v (dropped_before_large None (drops_with b.before (seen v asked)) f.kept.responder)
 
@@ -71,8 +72,8 @@ module _ (w : Configuration) (q : ReqSetup) (older : List (List ℕ)) (rows : Li
         let led = led_from r byte held.tag b.turn b.gets b.before h undrawn b.are b.unseen v held.late b.behind ids (refl, c.0, c.1) in
         (get_completes next_is_given r (dialogue_of f v) v round asks.handle (number_of f) answer next refl asks.body asks.next).1 (ids, given, last, led.0, led.1, c.2)
 
-    -- The last chunk goes on exactly where the request leads to these bytes at the values that they show, and no mark is set of the
-    -- session that they begin.
+    -- The last chunk goes on exactly when the request leads to these bytes at the values that they show, and no mark is
+    -- set of the session that they begin.
     pub last_ends : (next : History) → Completes (responder_for w f.kept) (dialogue_of f v) round answer next
         ↔ (IsShownEntry (responder_for w f.kept) b.before (seen v asked) × IsUnmarked held.late b.before (seen v asked) × (next ≡ behind_last))
     last_ends next = (to_led next, from_led next)

@@ -1,4 +1,4 @@
--- What is told of all bytes of a large answer that is held, by the bytes that its request leads to.
+-- What is reported of all bytes of a large response that is held, by the bytes that its request leads to.
 use Rattle.std.proofs.Common.{◌≡◌, ◌≤◌, ◌<◌, ◌+◌, ◌==◌, ◌&&◌, ◌∙◌, ℕ, List, [], ◌∷◌, refl, sym, ap, subst, length, arith, Bool, true, false, Option, Some, None, cond, eq-eqb, eqb-true}
 use Rattle.std.specs.Prelude.{bytes_eq, not, slice_index}
 use Rattle.std.specs.Int.{div_ceil}

@@ -1,4 +1,4 @@
--- All chunks of a large answer may be asked for again behind its request, whatever bytes it has.
+-- All chunks of a large response may be asked for again after its request, whatever bytes it has.
 use Rattle.std.proofs.Common.{◌≡◌, ◌≢◌, ◌≤◌, ◌<◌, ◌+◌, ◌^◌, ◌==◌, ◌&&◌, ◌||◌, ◌++◌, ◌∙◌, ℕ, zero, suc, List, [], ◌∷◌, refl, sym, ap, subst, length, arith, drop, Bool, true, false, Option, Some, None, cond, is_some, is_none}
 use Rattle.std.specs.Prelude.{nat_lt, not, bytes_eq, slice_index, unwrap_or}
 use Rattle.std.proofs.lemmas.Bool.{false≢true, lt-ltb, ltb-true}
@@ -141,7 +141,7 @@ module _ (tag : ℕ) (t : Turn) (un : is_unseen_effect t.effect ≡ true) (befor
     pub ready_there : (other : List ℕ) → length other ≤ 4096 → IsReady (Clear tag t no_draw ∷ before) other (handle_shown t) 0
     ready_there other few = subst (λ (n : ℕ). IsReady (asked ∷ before) other n 0) (handle_is other) (ready_begins (asked ∷ before) other settles (begun_is other) few chunks)
 
-    -- Nothing hangs on the sessions.
+    -- Nothing depends on the sessions.
     pub ready_moved : (other : List ℕ) (k : History) → length other ≤ 4096 → clear_turns k ≡ clear_turns before → IsReady (Clear tag t no_draw ∷ k) other (handle_shown t) 0
     ready_moved other k few same =
         let is = ready_there other few in

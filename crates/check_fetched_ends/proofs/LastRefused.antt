@@ -1,4 +1,4 @@
--- The last chunk of a large answer that is held, which is refused, and why.
+-- The last chunk of a large response that is held, which is refused, and why.
 use Rattle.std.proofs.Common.{◌≡◌, ◌≢◌, ◌≤◌, ◌<◌, ◌+◌, ◌==◌, ◌&&◌, ◌||◌, ◌∙◌, ℕ, List, ◌∷◌, refl, sym, ap, subst, drop, take, length, arith, Bool, true, false, Option, Some, None, Err, cond, inl, inr}
 use Rattle.std.specs.Prelude.{bytes_eq, nat_lt, not, slice_index}
 use Rattle.std.proofs.lemmas.Bool.{false≢true}
@@ -266,7 +266,8 @@ module _ (w : Configuration) (q : ReqSetup) (older : List (List ℕ)) (rows : Li
               apart = subst (λ (n : ℕ). is_apart n apart.other v ≡ true) (sym (sized apart.other (hash_at b.before) apart.apart apart.code apart.led)) apart.apart;
             }
 
-  -- Its verify data are alone wrong exactly where the request leads to bytes from which they are apart, and no mark is set.
+  -- Its verify data are alone wrong exactly when the request leads to bytes from which they are apart, and no mark is
+  -- set.
   apart_to : (late : Option Marks) → HasHere late → CompletesApart r (dialogue_of f v) round answer → Apart × IsUnmarked late b.before (seen v e)
   apart_to None has c = (new_to has c, tt)
   apart_to (Some marks) has c = to_apart r byte held.tag t b.before b.unseen v marks b.gets h has undrawn b.are (dialogue_of f v) refl refl round here answer c

@@ -1,5 +1,5 @@
--- The last chunk of a large answer that is held: its chunks may be asked for again, and then the connection stands for what is
--- behind them.
+-- The last chunk of a large response that is held: its chunks may be asked for again, and then the connection stands
+-- for what is after them.
 use Rattle.std.proofs.Common.{◌≡◌, ◌≢◌, ◌≤◌, ◌<◌, ◌+◌, ◌==◌, ◌++◌, ◌∙◌, ℕ, zero, suc, List, [], ◌∷◌, refl, sym, ap, subst, drop, length, arith, Bool, true, false, Option, Some, None, cond, eqb-true, is_some, inl, inr}
 use Rattle.std.specs.Prelude.{MatchBool, nat_lt, slice_index}
 use Rattle.std.proofs.lemmas.Bool.Decides.{nat_tests}
@@ -74,7 +74,7 @@ use Rattle.capture_machine.specs.Rounds.{Dialogue, Round, no_draw}
 use Rattle.capture_machine.specs.SessionTable.{Row}
 use Rattle.world_machine.specs.Setup.{Configuration}
 
--- The keys of answers stand behind drops and messages in the clear.
+-- The keys of answers follow drops and messages in the clear.
 dropped_keys : (seen_keys : AnswerKeys) (r : RspSetup) (ids : List ℕ) (h : History) → answer_keys.StandFor seen_keys r h → answer_keys.StandFor seen_keys r (with_dropped h ids)
 dropped_keys seen_keys r [] h stands = stands
 dropped_keys seen_keys r (id ∷ ids) h stands = dropped_keys seen_keys r ids (Dropped id ∷ h) (keys_stand_on seen_keys r (Dropped id ∷ []) h (tt, tt) stands)
@@ -260,7 +260,7 @@ module _ (w : Configuration) (q : ReqSetup) (older : List (List ℕ)) (rows : Li
   abbrev newest : Entry
   newest = Clear round.tag newest_turn no_draw
 
-  -- The history with the request in front, and the one behind the last chunk.
+  -- The history with the request in front, and the one after the last chunk.
   abbrev front : History
   front = newest ∷ b.gets ++ seen v asked ∷ with_dropped b.before ids
 

@@ -1,4 +1,5 @@
--- What the request of a large answer leads to in the clear at the values that all bytes show, by what is told of it.
+-- What the request of a large response leads to in the clear at the values that all bytes show, by what is reported of
+-- it.
 use Rattle.std.proofs.Common.{◌≡◌, ◌≤◌, ◌<◌, ◌==◌, ◌↔◌, ◌∙◌, ℕ, List, [], ◌∷◌, refl, sym, ap, subst, length, Bool, true, false, Option, Some, None, cond, is_some}
 use Rattle.std.proofs.lemmas.Bool.{false≢true}
 use Rattle.std.specs.Prelude.{slice_index}
@@ -117,7 +118,7 @@ module _ (r : RspSetup) (byte : r.beat < 256) (before left : History) (tag : ℕ
       ap (λ (k : Free). clear_whole (clear_place g) m k whole (chunk_in (request_at (clear_place g) m))) (shown_anew r tag m t.reply g anew_here)
       ∙ sym (shown_like gl g like r m t.reply whole)
 
-  -- It is told so.
+  -- It is reported so.
   pub record LeadsTo (other : List ℕ) : Type 0 where
     pub large : IsLargeAt r (left_by before left (Clear tag t no_draw) whole) tag t.message f t.reply
     pub adds : on_clear r (left_by before left (Clear tag t no_draw) whole) tag t.message f no_draw ≡ Adds (seen other (Clear tag t no_draw))

@@ -262,7 +262,7 @@ module _ (w : Configuration) (q : ReqSetup) (older : List (List ℕ)) (k : Kept)
     abbrev pub next : Fetching
     next = record { kept = heard_kept k k.responder route.tag turn.round answer; at = place_named turn.round.body; place = place_again (place_named turn.round.body) k.responder k.responder }
 
-    -- In front of what came since, under another tag.
+    -- Before what came since, under another tag.
     module _ (other : ℕ) (apart : other ≢ turn.round.tag) where
       apart_back : other ≢ back.tag
       apart_back = λ is. apart (is ∙ sym passed.0)

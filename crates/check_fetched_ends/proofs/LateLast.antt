@@ -1,5 +1,5 @@
--- The verify data of the last chunk of a large answer whose fetch began late are alone wrong exactly where its request may lead, in
--- front, to bytes that are apart from those of the chunks.
+-- The verify data of the last chunk of a large response whose fetch began late are alone wrong exactly when its request
+-- may lead, in front, to bytes that are apart from those of the chunks.
 use Rattle.std.proofs.Common.{◌≡◌, ◌≢◌, ◌++◌, ◌∙◌, ℕ, List, refl, sym, ap, subst, true, Option, Some, None}
 use Rattle.std.proofs.lemmas.Option.{same_Some}
 use Rattle.check_fetched_ends.specs.LateApart.{IsLateApart, LateApart}

@@ -1,4 +1,4 @@
--- What the last chunk shows of a request that stands back is told in front of what came since.
+-- What the last chunk shows of a request that stands back is told before what came since.
 use Rattle.std.proofs.Common.{◌≡◌, ◌≢◌, ◌<◌, ◌==◌, ◌⊎◌, ◌++◌, ◌∙◌, ℕ, List, [], ◌∷◌, sym, ap, subst, Bool, true, false, None, inl, inr}
 use Rattle.std.specs.Prelude.{MatchBool}
 use Rattle.std.proofs.lemmas.Bool.{false≢true}

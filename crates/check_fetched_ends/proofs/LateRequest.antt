@@ -1,5 +1,5 @@
--- What a fetch that begins late has to keep of its request: it stands in front of what came since, under another tag, as the request
--- of a new LargeResponse does.
+-- What a fetch that begins late has to keep of its request: it precedes what came since, under another tag, as the
+-- request of a new LargeResponse does.
 use Rattle.std.proofs.Common.{◌≡◌, ◌≢◌, ◌==◌, ◌&&◌, ◌⊎◌, ◌∙◌, ℕ, List, refl, sym, ap, subst, Bool, true, false, Some, inl, inr}
 use Rattle.std.specs.Prelude.{MatchBool, not}
 use Rattle.check_fetched_laws.proofs.LargeSized.{large_is_sized}
@@ -75,7 +75,7 @@ module _ (r : RspSetup) (h : History) (s : StandsBack h) (tag : ℕ) (free : IsF
   late_unseen : IsUnseenRequest (Clear tag s.turn no_draw)
   late_unseen = (s.passed.unseen, other_code free.code)
 
-  -- It leaves the sessions as they are: behind PSK_EXCHANGE none is in its handshake.
+  -- It leaves the sessions as they are: after PSK_EXCHANGE none is in its handshake.
   left_by : (b : Bool) → takes PSK_EXCHANGE s.turn ≡ b → MatchBool b (IsWithoutHandshake h h) (h ≡ h)
   left_by true exchange = inl ((λ id other. none_in (is_live (session_of id h)) (is_past_handshake (stage_of (session_of id h))) (all_are_past h s id exchange)), refl)
   left_by false exchange = refl

@@ -1,4 +1,4 @@
--- What is told of an answer that may be LargeResponse again, by what it shows.
+-- What is reported of an answer that may be LargeResponse again, by what it shows.
 use Rattle.std.proofs.Common.{◌≡◌, ◌==◌, ◌&&◌, ◌∙◌, ℕ, List, refl, sym, ap, subst, drop, Bool, true, false, Some, cond}
 use Rattle.std.specs.Prelude.{bytes_eq, slice_index}
 use Rattle.std.proofs.lemmas.Bool.{false≢true}

@@ -1,5 +1,5 @@
--- While a chunk of the large answer is left to be given in its session: other bytes may stand for it as well, and without it the
--- session is the same but for that.
+-- While a chunk of the large response is left to be given in its session: other bytes may stand for it as well, and
+-- without it the session is the same but for that.
 use Rattle.std.proofs.Common.{◌≡◌, ◌≢◌, ◌<◌, ◌-◌, ◌*◌, ℕ, List, sym, ap, ◌∙◌, subst, take, length, arith, Bool, true, Option, Some}
 use Rattle.std.specs.Prelude.{nat_lt}
 use Rattle.std.proofs.lemmas.Bool.Decides.{nat_tests}

@@ -1,5 +1,5 @@
--- What is left unjudged of an answer is left so whatever is kept of the packets: each walk over them tells the same
--- but for padding.
+-- What is left unjudged of an answer is left so whatever is kept of the packets: each walk over them tells the same but
+-- for padding.
 use Rattle.std.proofs.Common.{◌≡◌, ◌==◌, ◌∙◌, ℕ, List, ◌∷◌, refl, sym, ap, subst, Bool, true, false, Option, Some, None}
 use Rattle.std.specs.Prelude.{not}
 use Rattle.std.proofs.lemmas.Bool.{false≢true}

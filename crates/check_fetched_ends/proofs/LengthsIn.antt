@@ -1,4 +1,4 @@
--- The lengths of a large answer that go by chunks in a session.
+-- The lengths of a large response that are sent in chunks in a session.
 use Rattle.std.proofs.Common.{◌≡◌, ◌≤◌, ◌+◌, ◌&&◌, ◌||◌, ℕ, refl, sym, ap, ◌∙◌, length, arith, Bool, true, false}
 use Rattle.std.specs.Prelude.{nat_lt, not}
 use Rattle.std.proofs.lemmas.Bool.Decides.{nat_tests}

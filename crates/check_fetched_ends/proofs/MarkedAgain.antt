@@ -1,4 +1,4 @@
--- What is told of an answer with the marks, where it may be LargeResponse again.
+-- What is reported of an answer with the marks, where it may be LargeResponse again.
 use Rattle.std.proofs.Common.{◌≡◌, ◌+◌, ◌∙◌, ℕ, List, ◌∷◌, sym, ap, subst, length, true, Option, Some, None, is_some}
 use Rattle.std.proofs.lemmas.Bool.{false≢true}
 use Rattle.std.proofs.lemmas.Option.{same_Some}

@@ -1,4 +1,4 @@
--- The marks stand on behind what goes on.
+-- The marks stand on after what goes on.
 use Rattle.std.proofs.Common.{◌≡◌, ◌==◌, ◌&&◌, ◌||◌, ◌∙◌, ℕ, List, ◌∷◌, refl, sym, ap, subst, drop, Bool, true, false, Option, Some, None, Result, Ok, Err, cond}
 use Rattle.std.specs.Prelude.{slice_index}
 use Rattle.std.proofs.lemmas.Bool.{false≢true}
@@ -45,13 +45,13 @@ one_test : (clear taken touches_it moves : Bool) (n i : ℕ) (was : Bool) → mo
 one_test true taken touches_it moves n i was is = ap (λ (b : Bool). cond b false was) (sym is)
 one_test false taken touches_it moves n i was is = ap (λ (b : Bool). (n == i && b) || was) (sym is)
 
--- What is told of a request before its answer, of each walk.
+-- What is reported of a request before its answer, of each walk.
 pub record AreTold (ends : JudgedEnds) (w : Configuration) (q : ReqSetup) (older : List (List ℕ)) (tag : ℕ) (m : List ℕ) (repeats kept live : Bool) : Type 0 where
   pub clear : (d : Dialogue) → Walks w q older d → repeats ≡ is_repeat (kept_of d.responder) tag m
   pub sealed : (d : Dialogue) → Walks w q older d → ((held : Held) → ends.fetched ≡ Some (fetch.InClear held) → ⊥) → kept ≡ is_kept_record d.responder m
   pub lives : (d : Dialogue) → Walks w q older d → ((held : Held) → ends.fetched ≡ Some (fetch.InClear held) → ⊥) → live ≡ is_live (session_of (id_in_record m) d.responder)
 
--- And behind it.
+-- And after it.
 abbrev pub IsToldBehind : JudgedEnds → Configuration → ReqSetup → (older : List (List ℕ)) → (tag : ℕ) → (body answer : List ℕ) → (repeats kept live moves : Bool) → Type 0
 IsToldBehind ends w q older tag body answer repeats kept live moves =
     (rows : List Row) (d : Dialogue) (h : History) → judged.StandsFor ends w q older rows → Walks w q older d

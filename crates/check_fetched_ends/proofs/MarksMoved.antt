@@ -238,7 +238,7 @@ module _ (r : RspSetup) (tag : ℕ) (m : List ℕ) (f : Free) where
 form_led : (r : RspSetup) (tag : ℕ) (m : List ℕ) (f : Free) (g : History) (o : Outcome) → on_record r g tag m f no_draw ≡ o → RecordForm r tag m f (is_kept_record g m) (is_live (session_of (id_in_record m) g)) o
 form_led r tag m f g o leads = subst (RecordForm r tag m f (is_kept_record g m) (is_live (session_of (id_in_record m) g))) leads (record_form r tag m f g)
 
--- Where its session is live behind drops, it is a repeat as before them.
+-- Where its session is live after drops, it is a repeat as before them.
 ended_dropped : (ids : List ℕ) (h : History) → ended_of (with_dropped h ids) ≡ ended_of h
 ended_dropped [] h = refl
 ended_dropped (id ∷ ids) h = ended_dropped ids (Dropped id ∷ h)
@@ -253,7 +253,7 @@ kept_dropped ids m h live =
       | inr gone ↦ absurd (false≢true (sym (ap is_live gone) ∙ live))
     ]
 
--- While bytes stand for a large answer of its session, a record is a repeat as without them, and the session is live.
+-- While bytes stand for a large response of its session, a record is a repeat as without them, and the session is live.
 record_kept : (fetching : Option (List ℕ)) (body : List ℕ) (h : History) → (slice_index body 0 == 5) ≡ false → UnseenStand h → is_kept_record (judging fetching body h) (drop 1 body) ≡ is_kept_record h (drop 1 body)
 record_kept None body h type stand = refl
 record_kept (Some w) body h type stand =

@@ -1,4 +1,4 @@
--- Packets of others leave the marks, and so do packets behind which more of a body is awaited.
+-- Packets of others leave the marks, and so do packets after which more of a body is awaited.
 use Rattle.std.proofs.Common.{◌≡◌, ◌≢◌, ◌<◌, ◌⊎◌, ◌∙◌, ℕ, List, ◌∷◌, refl, sym, ap, subst, Bool, true, false, Result, Ok, Err, inl, inr}
 use Rattle.std.specs.Prelude.{MatchBool}
 use Rattle.check_laws.specs.Order.{is_answer, is_request}

@@ -1,4 +1,4 @@
--- The marks stand on behind each packet that goes on in a walk.
+-- The marks stand on after each packet that goes on in a walk.
 use Rattle.std.proofs.Common.{◌≡◌, ◌≤◌, ◌==◌, ◌&&◌, ◌||◌, ◌∙◌, ℕ, List, [], ◌∷◌, refl, sym, ap, subst, drop, Bool, true, false, Option, Some, None, Result, Ok, Err, cond, inl, inr}
 use Rattle.std.specs.Prelude.{MatchBool, slice_index}
 use Rattle.std.proofs.lemmas.Option.{same_Some}

@@ -78,7 +78,7 @@ module _ (w : Configuration) (q : ReqSetup) (older : List (List ℕ)) (rows : Li
           | inr again ↦ none-some it.0 (sym again.0.1.0)
         ]
 
-    -- Upon an answer behind which nothing is fetched it asks for no chunk.
+    -- Upon an answer after which nothing is fetched it asks for no chunk.
     pub ends_none : IsSetUp f.kept.setup → IsFetchingOf w q older f → (next : Kept) → EndsFetching w f (Whole route answer) next → ⊥
     ends_none limits own next c =
         let it = c.3.2 in

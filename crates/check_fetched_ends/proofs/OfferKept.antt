@@ -1,4 +1,5 @@
--- What an answer leaves of the request with which a repeat is compared: its tag, and whether its large answer passed unseen.
+-- What an answer leaves of the request with which a repeat is compared: its tag, and whether its large response passed
+-- unseen.
 use Rattle.std.proofs.Common.{◌≡◌, ◌==◌, ◌&&◌, ◌+◌, ◌≤◌, ◌∙◌, ◌⊎◌, ℕ, List, [], ◌∷◌, refl, sym, ap, subst, drop, length, arith, Bool, true, false, Option, Some, None, is_some, cond, inl, inr, eq-eqb, eqb-true, ne_eqb}
 use Rattle.std.specs.Prelude.{bytes_eq, slice_index}
 use Rattle.std.proofs.lemmas.Bool.{false≢true}

@@ -1,4 +1,5 @@
--- While a chunk of a large answer is left to be given, other bytes may stand for the answer too: with another last byte.
+-- While a chunk of a large response is left to be given, other bytes may stand for the answer too: with another last
+-- byte.
 use Rattle.std.proofs.Common.{◌≡◌, ◌<◌, ◌≤◌, ◌+◌, ◌&&◌, ◌||◌, ℕ, zero, suc, List, [], ◌∷◌, refl, sym, ap, ◌∙◌, drop, take, length, arith, Bool, true, false, Option, Some, None}
 use Rattle.std.specs.Prelude.{nat_lt, not, slice_index}
 use Rattle.std.proofs.lemmas.Bool.{false≢true}

@@ -84,7 +84,7 @@ module _ (w : Configuration) (q : ReqSetup) (older : List (List ℕ)) (rows : Li
   abbrev pub outcome : Outcome
   outcome = outcome_shown (responder_for w f.kept) (with_large (Some fetched.id) kept.whole f.kept.responder) turn.round.tag turn.round.body answer
 
-  -- The history behind it.
+  -- The history after it.
   abbrev pub behind : History
   behind = after (with_dropped f.kept.responder ids) outcome
 

@@ -1,4 +1,4 @@
--- Whether a chunk is left to be given behind an answer in a session that gives none.
+-- Whether a chunk is left to be given after an answer in a session that gives none.
 use Rattle.std.proofs.Common.{◌≡◌, ◌<◌, ◌==◌, ◌&&◌, ◌||◌, ◌⊎◌, ℕ, List, [], ◌∷◌, refl, sym, ap, ◌∙◌, subst, drop, Bool, true, false, Option, Some, None, is_none, is_some, cond, inl, inr}
 use Rattle.std.specs.Prelude.{not}
 use Rattle.std.proofs.Math.Bool.{and-false}
@@ -111,7 +111,7 @@ module _ (w : Configuration) (q : ReqSetup) (older : List (List ℕ)) (rows : Li
   abbrev then : History
   then = behind w q older rows f route answer byte limits own turn party fetched kept refuses other shown
 
-  -- The session, before and behind it.
+  -- The session, before and after it.
   abbrev s : Events
   s = session_of id g
 
@@ -150,7 +150,7 @@ module _ (w : Configuration) (q : ReqSetup) (older : List (List ℕ)) (rows : Li
     pub sealed : IsSealed r g round.tag round.body e
     sealed = sealed_in r g round.tag round.body e other.record_is may
 
-    -- The session behind it has that record.
+    -- The session after it has that record.
     then_is : with_large (Some id) x then ≡ Sealed round.tag (drop 1 round.body) sealed.turn sealed.reply no_draw ∷ g
     then_is =
         large_then w q older rows f route answer byte limits own turn party fetched kept refuses other shown
@@ -191,7 +191,7 @@ module _ (w : Configuration) (q : ReqSetup) (older : List (List ℕ)) (rows : Li
     terms_then : is_live (session_with id then x) ≡ true → session_terms (session_with id then x) ≡ session_terms s
     terms_then live = ap session_terms (session_then live)
 
-    -- With any bytes the session has that record behind it. Where a chunk is left, its request was refused.
+    -- With any bytes the session has that record after it. Where a chunk is left, its request was refused.
     with_bytes : (v : List ℕ) → with_large (Some id) v then ≡ Sealed round.tag (drop 1 round.body) sealed.turn sealed.reply no_draw ∷ with_large (Some id) v h
     with_bytes v =
         let old : is_unseen_in (Some id) e ≡ false = old_in (Some id) e (led_seen r g round.tag round.body e may) in
@@ -236,7 +236,7 @@ module _ (w : Configuration) (q : ReqSetup) (older : List (List ℕ)) (rows : Li
   terms_by (Unopened b) is live = ap session_terms (session_stays (ap (after (with_dropped g dropped)) is) live)
   terms_by (Adds e) is live = terms_then e is live
 
-  -- Where a chunk is left behind it, the session stays with any bytes, but for a request that was refused.
+  -- Where a chunk is left after it, the session stays with any bytes, but for a request that was refused.
   stays_idle : then ≡ with_dropped h dropped → (v : List ℕ) → is_live (session_with id then v) ≡ true → StaysIn (session_with id h v) (session_with id then v)
   stays_idle is v live =
       let same : session_with id then v ≡ session_of id (with_dropped (with_large (Some id) v h) dropped) = ap (λ (l : History). session_of id (with_large (Some id) v l)) is ∙ ap (session_of id) (dropped_large id v dropped h) in
@@ -251,7 +251,7 @@ module _ (w : Configuration) (q : ReqSetup) (older : List (List ℕ)) (rows : Li
       → StaysIn (session_with fetched.id f.kept.responder v) (session_with fetched.id then v)
   stays_then = stays_by leads_to refl
 
-  -- By the session as it is seen behind it, and by whether a record was taken.
+  -- By the session as it is seen after it, and by whether a record was taken.
   module _ (view : Option SessionView) (viewed : IsViewOf view (session_of fetched.id (history_shown (responder_for w f.kept) (with_large (Some fetched.id) kept.whole f.kept.responder) turn.round.tag turn.round.body answer))) (taken : Option ℕ) (takes_it : taken ≡ answered_by leads_to) where
     view_then : IsViewOf view (session_with id then x)
     view_then = subst (λ (l : History). IsViewOf view (session_of id l)) (sym (large_then w q older rows f route answer byte limits own turn party fetched kept refuses other shown)) viewed

@@ -1,4 +1,4 @@
--- What is told of an answer in a session that gives no chunk of the large one.
+-- What is reported of an answer in a session that gives no chunk of the large one.
 use Rattle.std.proofs.Common.{◌≡◌, ◌<◌, ◌+◌, ◌-◌, ◌^◌, ◌==◌, ℕ, List, [], ◌∷◌, refl, sym, ap, ◌∙◌, subst, drop, length, arith, Bool, true, false, Option, Some, None, Ok, Err, inl, inr, is_none, is_some}
 use Rattle.std.specs.Prelude.{not, slice_index}
 use Rattle.std.proofs.lemmas.Bool.{false≢true}
@@ -129,7 +129,7 @@ module _ (w : Configuration) (q : ReqSetup) (older : List (List ℕ)) (rows : Li
       → IsAnswerer new (responder_for w f.kept) (history_shown (responder_for w f.kept) (with_large (Some fetched.id) kept.whole f.kept.responder) turn.round.tag turn.round.body answer)
   behind_given new request is stands = subst (λ (b : List ℕ). IsAnswerer new r (history_shown r g round.tag b answer)) (own_body request is) stands
 
-  -- Behind LargeResponse.
+  -- After LargeResponse.
   pub behind_large : (new : Answerer) (request : List ℕ) → request ≡ drop 1 turn.round.body → IsAnswerer new (responder_for w f.kept) (history_behind (responder_for w f.kept) (with_large (Some fetched.id) kept.whole f.kept.responder) turn.round.tag (record_body request) answer given.Large)
       → IsAnswerer new (responder_for w f.kept) (history_behind (responder_for w f.kept) (with_large (Some fetched.id) kept.whole f.kept.responder) turn.round.tag turn.round.body answer given.Large)
   behind_large new request is stands = subst (λ (b : List ℕ). IsAnswerer new r (history_behind r g round.tag b answer given.Large)) (own_body request is) stands
@@ -224,7 +224,7 @@ module _ (w : Configuration) (q : ReqSetup) (older : List (List ℕ)) (rows : Li
         let whole = law (restored k) (restored then_kept.kept) l leads_to refl in
         quiet_step (restored k) (restored then_kept.kept) refl (whole.0 ∙ (steps law).0) (accepted_on k then route.tag round answer turn.answers.0 turn.answers.1 accepts ∙ accepts_none)
 
-    -- The requester asks for no chunk: nothing is fetched behind it.
+    -- The requester asks for no chunk: nothing is fetched after it.
     pub ended_then : (new : Party) (newly : InSession) (table : List Seen) → IsAsker new.asker q then_kept.kept → IsAnswerer new.answerer (responder_for w f.kept) then
         → StandFor new.keys (responder_for w f.kept) (history_shown (responder_for w f.kept) (with_large (Some fetched.id) kept.whole f.kept.responder) turn.round.tag turn.round.body answer) → new.number ≡ number_from 1 q.eid w.requesters
         → rows_of.StandFor new.places (restored then_kept.kept) (rows_upon f.kept then_kept.kept rows) → StandsForRows table w (length older + 1) (rows_upon f.kept then_kept.kept rows) → asks_upon f.kept route.tag answer ≡ false

@@ -30,7 +30,7 @@ use Rattle.check_fetched_ends.specs.RefusedAgain.{NoneLargeAgain, RefusedAgain, 
 
 -- ---- The place.
 
--- That of these turns, beside so many sessions past their handshake.
+-- That of these turns, with so many established sessions.
 abbrev place_of : List Turn → ℕ → Place
 place_of turns n = record {
   at = InClear;

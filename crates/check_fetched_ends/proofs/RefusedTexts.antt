@@ -1,4 +1,4 @@
--- The text of an answer to a record holds ERROR exactly where its request was refused, but for LargeResponse.
+-- The text of an answer to a record holds ERROR exactly when its request was refused, but for LargeResponse.
 use Rattle.std.proofs.Common.{◌≡◌, ◌<◌, ◌∙◌, ◌==◌, ℕ, List, ◌∷◌, refl, sym, ap, subst, drop, length, Bool, true, false, Option, Some, None, cond, is_none, is_some}
 use Rattle.std.proofs.lemmas.Bool.{false≢true, not-true}
 use Rattle.std.specs.Prelude.{slice_index}
@@ -35,7 +35,7 @@ use Rattle.check_fetched_ends.specs.SessionOthers.{IsRefusing, is_error, is_refu
 
 -- ---- A turn.
 
--- Its reply is ERROR exactly where it was refused.
+-- Its reply is ERROR exactly when it was refused.
 abbrev IsTold : Turn → Type 0
 IsTold t = is_some (handle_in t.effect) ≡ false → is_error t.reply ≡ is_some t.refused
 

@@ -60,8 +60,8 @@ use Rattle.world_machine.specs.Setup.{Configuration, known_of}
 
 -- ---- What was answered.
 
--- How long the answers to GET_MEASUREMENTS and PSK_EXCHANGE are is free; GET_VERSION and CHUNK_GET come while a large answer is
--- fetched. Any other request is one of these.
+-- How long the answers to GET_MEASUREMENTS and PSK_EXCHANGE are is free; GET_VERSION and CHUNK_GET come while a large
+-- response is fetched. Any other request is one of these.
 pub record IsSteady (m : List ℕ) : Type 0 where
   pub measures : code_of m ≢ GET_MEASUREMENTS
   pub exchange : code_of m ≢ PSK_EXCHANGE
@@ -125,7 +125,7 @@ module _ (r : RspSetup) (tag : ℕ) (m : List ℕ) where
 get_code : (handle number : ℕ) → code_of (canonical_request (ChunkGet handle number)) ≡ CHUNK_GET
 get_code handle number = refl
 
--- While a large answer is fetched it is a repeat.
+-- While a large response is fetched it is a repeat.
 fetched_again : (h : History) (w : List ℕ) (tag : ℕ) (body : List ℕ) → (slice_index body 0 == 5) ≡ true → IsSteady (drop 1 body) → Stands h w tag body → is_repeat (kept_of h) tag (drop 1 body) ≡ true
 fetched_again h w tag body type steady (inl version) = absurd (steady.version (ap (λ (l : List ℕ). code_of (drop 1 l)) version))
 fetched_again h w tag body type steady (inr fetch) = by_how fetch.how

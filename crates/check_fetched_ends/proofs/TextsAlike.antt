@@ -1,4 +1,5 @@
--- Whether a session takes a record, and what an answer to it holds, hangs on no byte of a large answer that was not seen.
+-- Whether a session takes a record, and what an answer to it holds, depends on no byte of a large response that was not
+-- seen.
 use Rattle.std.proofs.Common.{◌≡◌, ◌==◌, ◌&&◌, ℕ, List, sym, ap, ◌∙◌, drop, Bool, true, Option, Some}
 use Rattle.std.specs.Prelude.{is_none, not, slice_index}
 use Rattle.check_responder.specs.AnswerKeys.{will_take}

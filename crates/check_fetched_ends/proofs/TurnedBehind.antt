@@ -1,4 +1,4 @@
--- LargeResponse in answer to a record, while another large answer is fetched in its session: what goes on with it.
+-- LargeResponse in answer to a record, while another large response is fetched in its session: what goes on with it.
 use Rattle.std.proofs.Common.{◌≡◌, ◌<◌, ◌+◌, ◌==◌, ◌&&◌, ◌||◌, ◌∙◌, ℕ, List, [], ◌∷◌, ◌++◌, refl, sym, ap, subst, drop, take, length, Bool, true, false, Option, Some, None, cond, inl, inr}
 use Rattle.std.specs.Prelude.{not, slice_index}
 use Rattle.mctp_framing.specs.Cutting.{RouteFields}

@@ -1,5 +1,5 @@
--- LargeResponse in answer to a record, while another large answer is fetched in its session: what the calls leave stands for what
--- is kept behind it.
+-- LargeResponse in answer to a record, while another large response is fetched in its session: what the calls leave
+-- stands for what is kept after it.
 use Rattle.std.proofs.Common.{◌≡◌, ◌≢◌, ◌<◌, ◌+◌, ◌-◌, ◌^◌, ◌==◌, ◌&&◌, ◌∙◌, ℕ, List, ◌∷◌, refl, sym, ap, subst, drop, length, arith, Bool, true, false, Some, None, cond, Ok, is_none, is_some}
 use Rattle.std.specs.Prelude.{nat_lt, not, slice_index}
 use Rattle.std.proofs.lemmas.Bool.{false≢true}

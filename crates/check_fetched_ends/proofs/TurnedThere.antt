@@ -1,5 +1,5 @@
--- LargeResponse in answer to a record, while another large answer is fetched in its session: what it leads to, and what it leads
--- to where that one was not seen.
+-- LargeResponse in answer to a record, while another large response is fetched in its session: what it leads to, and
+-- what it leads to where that one was not seen.
 use Rattle.std.proofs.Common.{◌≡◌, ◌≤◌, ◌<◌, ◌==◌, ◌&&◌, ◌↔◌, ℕ, List, [], ◌∷◌, refl, sym, ap, ◌∙◌, subst, drop, length, Bool, true, false, Option, Some, None, cond, is_none}
 use Rattle.std.specs.Prelude.{not, slice_index}
 use Rattle.check_responder.specs.AnswerKeys.{will_take}
@@ -152,7 +152,7 @@ module _ (g h : History) (all : (i : ℕ) → SeenAlike (session_of i g) (sessio
       same_there : unseen e ∷ h ≡ unseen (e0 r h tag body answer type will_h shown_too.0 op asks_h) ∷ h
       same_there = shown_too.1 ∙ ap (begun_large h) (shown_is r h tag body answer type will_h shown_too.0 op asks_h)
 
-      -- Its request may lead to all MEASUREMENTS for this operation that go by chunks.
+      -- Its request may lead to all MEASUREMENTS for this operation that are sent in chunks.
       pub asks_too : record_body (drop 1 body) ≡ body → (v : List ℕ) → IsLargeAnswer (session_place (session_of (id_in_record (drop 1 body)) g)) v → IsShownWhole r (Some (id_in_record (drop 1 body))) v (unseen e ∷ h) ↔ IsMeasuredBy r op v
       asks_too six v fits =
           subst (λ (l : History). IsShownWhole r (Some (id_in_record m)) v l ↔ IsMeasuredBy r op v) (sym same_there)

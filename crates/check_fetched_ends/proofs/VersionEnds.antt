@@ -1,4 +1,4 @@
--- VERSION ends the large answer that is fetched in the clear.
+-- VERSION ends the large response that is fetched in the clear.
 use Rattle.std.proofs.Common.{◌≡◌, ◌+◌, ◌<◌, ◌==◌, ◌||◌, ◌∙◌, ℕ, List, [], ◌∷◌, refl, sym, ap, subst, length, Bool, true, false, Option, Some, None, cond, inl, Ok}
 use Rattle.std.specs.Prelude.{not}
 use Rattle.mctp_framing.specs.Cutting.{RouteFields}
@@ -87,7 +87,7 @@ module _ (w : Configuration) (q : ReqSetup) (older : List (List ℕ)) (rows : Li
   awaits : AwaitsVersion w q older rows f own party held kept round turn.answers.0 version
   awaits = awaits_version w q older rows f own party held kept round turn.answers.0 version
 
-  -- The keys stand behind it.
+  -- The keys follow it.
   pub keys_behind : (seen : AnswerKeys) → StandFor seen (responder_for w f.kept) f.kept.responder → StandFor seen (responder_for w f.kept) behind
   keys_behind seen keys = keys_stand_on seen r (version_entry round.tag ∷ []) h (tt, tt) keys
 

@@ -1,5 +1,5 @@
--- While a large answer is fetched in the clear, another answer to GET_VERSION than VERSION goes on from no walk, and its verify
--- data are not alone wrong.
+-- While a large response is fetched in the clear, another answer to GET_VERSION than VERSION goes on from no walk, and
+-- its verify data are not alone wrong.
 use Rattle.std.proofs.Common.{◌≡◌, ◌≢◌, ◌==◌, ◌||◌, ◌⊎◌, ◌∙◌, ℕ, List, ◌∷◌, refl, sym, ap, subst, drop, Bool, true, false, Option, Some, None, cond, inl, inr, Err}
 use Rattle.std.specs.Prelude.{slice_index}
 use Rattle.std.proofs.lemmas.Bool.{false≢true}

@@ -1,5 +1,5 @@
--- GET_VERSION behind a large answer that is held, also where the fetch began late: it is no repeat, and nothing of the fetch counts
--- behind it.
+-- GET_VERSION after a large response that is held, also where the fetch began late: it is no repeat, and nothing of the
+-- fetch counts after it.
 use Rattle.std.proofs.Common.{◌≡◌, ◌≤◌, ◌+◌, ◌%◌, ◌==◌, ◌&&◌, ◌||◌, ◌++◌, ◌∷◌, ◌∙◌, ℕ, List, [], refl, sym, ap, subst, Bool, true, false, Option, Some, None, is_some, cond}
 use Rattle.std.specs.Prelude.{bytes_eq, not}
 use Rattle.std.proofs.Math.Bool.{and-false}

@@ -1,4 +1,4 @@
--- While a large answer is fetched in the clear, GET_VERSION is no repeat, and the requester awaits VERSION.
+-- While a large response is fetched in the clear, GET_VERSION is no repeat, and the requester awaits VERSION.
 use Rattle.std.proofs.Common.{◌≡◌, ◌≤◌, ◌==◌, ◌∙◌, ℕ, List, ◌∷◌, refl, sym, ap, subst, drop, arith, Bool, true, false, Option, Some, None, inl, inr}
 use Rattle.std.specs.Prelude.{slice_index}
 use Rattle.std.proofs.lemmas.Bool.{false≢true}
@@ -93,7 +93,7 @@ module _ (w : Configuration) (q : ReqSetup) (older : List (List ℕ)) (rows : Li
   pub anew_left : IsAnew (responder_for w f.kept) kept.before.left round.tag
   anew_left = record { room = anew_all.0; anew = anew_all.2; sized = b.stands.sizes }
 
-  -- A connection that took it stands behind what is fetched too.
+  -- A connection that took it follows what is fetched too.
   pub stands_behind : (seen : Connection) → connected.StandsFor seen (responder_for w f.kept) (version_entry round.tag ∷ kept.before.left) → connected.StandsFor seen (responder_for w f.kept) (version_entry round.tag ∷ f.kept.responder)
   stands_behind seen stands = version_held held.late held.tag b.turn b.gets b.before b.left h b.behind b.are b.unseen b.left_is seen r round.tag stands
 

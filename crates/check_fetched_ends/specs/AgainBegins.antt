@@ -1,4 +1,4 @@
--- What is told of LargeResponse that comes again in a session, while nothing is fetched. This project's own.
+-- What is reported of LargeResponse that comes again in a session, while nothing is fetched. This project's own.
 use Rattle.std.specs.Prelude.{◌≡◌, ◌+◌, ◌==◌, ℕ, List, length, slice_index, false}
 use Rattle.mctp_framing.specs.Cutting.{RouteFields}
 use Rattle.mctp_framing.specs.Gathering.Gathered.{Whole}
@@ -21,7 +21,7 @@ use Rattle.capture_machine.specs.Rounds.{Round}
 use Rattle.capture_machine.specs.SessionTable.{Row}
 use Rattle.world_machine.specs.Setup.{Configuration}
 
--- The answer to a record is LargeResponse again, whose large answer was not seen.
+-- The answer to a record is LargeResponse again, whose large response was not seen.
 pub record IsAgainInRecord (w : Configuration) (k : Kept) (tag : ℕ) (answer : List ℕ) : Type 0 where
   pub round : Round
   pub answers : AnswersRound k tag round

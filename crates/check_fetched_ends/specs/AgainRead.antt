@@ -23,7 +23,8 @@ use Rattle.capture_machine.specs.LargeAnswers.{IsLargeAnswer}
 abbrev pub holds_large : (inner : List ℕ) → Bool
 holds_large inner = slice_index inner 0 == 5 && (slice_index inner 2 == ERROR && slice_index inner 3 == LARGE_RESPONSE)
 
--- A message asks in a live session for this operation of GET_MEASUREMENTS, whose blocks are there, and some answer goes by chunks.
+-- A message asks in a live session for this operation of GET_MEASUREMENTS, whose blocks are there, and some answer is
+-- sent in chunks.
 pub record IsAskedIn (r : RspSetup) (s : Events) (message : List ℕ) (op : ℕ) : Type 0 where
   pub live : is_live s ≡ true
   pub asks : request_at (session_place s) message ≡ Some (GetMeasurements op)
@@ -32,7 +33,7 @@ pub record IsAskedIn (r : RspSetup) (s : Events) (message : List ℕ) (op : ℕ)
   pub wide : 12 < (session_terms s).common.to_requester.transfer
   pub some : (whole : List ℕ) × IsLargeAnswer (session_place s) whole
 
--- What is kept where the large answer to such a message is fetched from now on; or it is no such message.
+-- What is kept where the large response to such a message is fetched from now on; or it is no such message.
 pub record IsKeptIn (r : RspSetup) (s : Events) (id : ℕ) (message : List ℕ) (fetched : InSession) : Type 0 where
   pub asked : IsAskedIn r s message fetched.op
   pub id_is : fetched.id ≡ id
@@ -55,7 +56,8 @@ pub record IsLargeAgain (r : RspSetup) (h : History) (request answer : List ℕ)
 abbrev pub last_message : RspSetup → History → (request : List ℕ) → List ℕ
 last_message r h request = drop 1 (last_opened r.psk (session_of (id_in_record request) h) request)
 
--- It is so, and this is kept where its large answer is fetched from now on; or it is not, or the record asks for none.
+-- It is so, and this is kept where its large response is fetched from now on; or it is not, or the record asks for
+-- none.
 abbrev pub IsPreparedAgain : RspSetup → History → (request answer : List ℕ) → Option Again → Type 0
 IsPreparedAgain r h request answer None =
     (op handle : ℕ) → IsLargeAgain r h request answer handle

@@ -1,5 +1,5 @@
--- What a message in the clear asks for, and what is left of the sessions before it, where its large answer was not seen. This
--- project's own.
+-- What a message in the clear asks for, and what is left of the sessions before it, where its large response was not
+-- seen. This project's own.
 use Rattle.std.specs.Prelude.{◌≡◌, ◌==◌, ℕ, List, slice_index, Bool, MatchBool, Option, Some, None}
 use Rattle.chunking.specs.Collecting.{collected}
 use Rattle.chunking.specs.Collecting.Collection.{Whole}
@@ -14,7 +14,7 @@ use Rattle.spdm_grammar.specs.Requests.{request_in}
 use Rattle.spdm_grammar.specs.declared.names.request_code.TheConstants.{PSK_EXCHANGE}
 use Rattle.spdm_machine.specs.Terms.{hash_len, terms_of}
 
--- The chunk that it is behind these turns; none where it is no chunk.
+-- The chunk that it is after these turns; none where it is no chunk.
 abbrev pub chunk_at : List Turn → (m : List ℕ) → Option ChunkMessage
 chunk_at turns m = chunk_in (request_in (hash_len (terms_of (negotiation_of turns))) m)
 

@@ -1,4 +1,4 @@
--- Upon which answers the requester asks for a chunk while a large answer is fetched. This project's own.
+-- Upon which answers the requester asks for a chunk while a large response is fetched. This project's own.
 use Rattle.std.specs.Prelude.{◌≡◌, ◌≢◌, ◌==◌, ℕ, List, slice_index, true, false, Some, None}
 use Rattle.check_requester.specs.HeardKept.{asks_upon, heard_kept}
 use Rattle.check_laws.specs.KeptChanges.{accepted_from}
@@ -50,9 +50,9 @@ SessionAsksOn = (w : Configuration) (q : ReqSetup) (older : List (List ℕ)) (f 
 
 -- ---- Wherever it is fetched.
 
--- Upon an answer with which it is fetched on, or another one begins, the requester asks for a chunk; upon an answer behind which
--- nothing is fetched it asks for none. So no answer ends it upon which the requester asks for a chunk, and with none does it go
--- on upon which it asks for none.
+-- Upon an answer with which it is fetched on, or another one begins, the requester asks for a chunk; upon an answer
+-- after which nothing is fetched it asks for none. So no answer ends it upon which the requester asks for a chunk, and
+-- with none does it go on upon which it asks for none.
 pub record IsAskedUpon (w : Configuration) (f : Fetching) (route : RouteFields) (answer : List ℕ) : Type 0 where
   pub goes : (next : Fetching) → GoesFetching w f (Whole route answer) next → asks_upon f.kept route.tag answer ≡ true
   pub turns : (next : Fetching) → TurnsFetching w f (Whole route answer) next → asks_upon f.kept route.tag answer ≡ true

@@ -1,4 +1,4 @@
--- How a fetch begins in the clear, by what is told of an answer. This project's own.
+-- How a fetch begins in the clear, by what is reported of an answer. This project's own.
 use Rattle.std.specs.Prelude.{◌≡◌, ◌+◌, ◌==◌, ◌||◌, ℕ, List, Bool, Some, drop, length, slice_index, true, false}
 use Rattle.mctp_framing.specs.Cutting.{RouteFields}
 use Rattle.mctp_framing.specs.Gathering.Gathered.{Whole}
@@ -33,9 +33,10 @@ IsLargeInClear w k tag answer =
 abbrev pub has_free_length : (code : ℕ) → Bool
 has_free_length code = code == GET_MEASUREMENTS || code == PSK_EXCHANGE
 
--- It is no LargeResponse to a request in the clear by what it shows, and nothing changes; or it is LargeResponse, and the
--- requester asks for no chunk upon it: then the request is one of these, it goes on, its answer is never seen, and this is what
--- is kept behind it; or a fetch begins, and this stands for what is kept from then on, and so does the table.
+-- It is no LargeResponse to a request in the clear by what it shows, and nothing changes; or it is LargeResponse, and
+-- the requester asks for no chunk upon it: then the request is one of these, it goes on, its answer is never seen, and
+-- this is what is kept after it; or a fetch begins, and this stands for what is kept from then on, and so does the
+-- table.
 abbrev pub IsBegunHeld : Configuration → ReqSetup → List (List ℕ) → List Row → Kept → RouteFields → (answer : List ℕ) → BegunHeld
     → (new : Party) → (before after : List Seen) → Type 0
 IsBegunHeld w q older rows k route answer begun.Not new before after =

@@ -1,4 +1,5 @@
--- What is told of an answer while nothing is fetched: whether a fetch begins by it in a session. This project's own.
+-- What is reported of an answer while nothing is fetched: whether a fetch begins by it in a session. This project's
+-- own.
 use Rattle.std.specs.Prelude.{◌≡◌, ◌+◌, ◌==◌, ℕ, List, length, slice_index, Bool, true, false, Some, Result, Ok}
 use Rattle.mctp_framing.specs.Cutting.{RouteFields}
 use Rattle.mctp_framing.specs.Gathering.Gathered.{Whole}
@@ -30,7 +31,7 @@ IsLargeInRecord w k tag answer =
     (round : Round) × AnswersRound k tag round × ((slice_index round.body 0 == 5) ≡ false)
     × IsShownLarge (responder_for w k) k.responder round.tag round.body answer
 
--- Where a part of a large answer is left, it is no such answer.
+-- Where a part of a large response is left, it is no such answer.
 abbrev pub IsLeftOther : Configuration → Kept → ℕ → (answer : List ℕ) → Result Onward declared.Why → Type 0
 IsLeftOther w k tag answer (Ok onward.Large) = IsLargeInRecord w k tag answer → ⊥
 IsLeftOther w k tag answer other = Unit {0}

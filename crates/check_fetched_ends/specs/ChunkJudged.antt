@@ -1,4 +1,4 @@
--- What is told of a chunk of a large answer that is fetched in a session. This project's own.
+-- What is reported of a chunk of a large response that is fetched in a session. This project's own.
 use Rattle.std.specs.Prelude.{◌≡◌, ℕ, List, Option, Some, None, Ok, true}
 use Rattle.mctp_framing.specs.Cutting.{RouteFields}
 use Rattle.requester_machine.specs.Setup.{ReqSetup}

@@ -1,4 +1,4 @@
--- What is told of an answer to a requester while a large one is fetched. This project's own.
+-- What is reported of an answer to a requester while a large one is fetched. This project's own.
 use Rattle.std.specs.Prelude.{◌≡◌, ◌+◌, ◌⊎◌, ℕ, List, drop, length, slice_index, Some, None, Result, Ok, Err}
 use Rattle.mctp_framing.specs.Cutting.{RouteFields}
 use Rattle.mctp_framing.specs.Gathering.{Gathered}
@@ -27,15 +27,16 @@ rows_upon k next rows = rows_between (restored k) (restored next) rows
 
 -- ---- What is told of an answer.
 
--- Why it is refused. Its verify data are alone wrong with some bytes that may stand for the large answer, or with none.
+-- Why it is refused. Its verify data are alone wrong with some bytes that may stand for the large response, or with
+-- none.
 abbrev pub IsFetchedWhy : Configuration → Fetching → Gathered → Why → Type 0
 IsFetchedWhy w f g BadVerify = (whole : List ℕ) × MayStand f whole × GoesApart (responder_for w f.kept) (dialogue_of f whole) g
 IsFetchedWhy w f g why =
     ((whole : List ℕ) → MayStand f whole → GoesApart (responder_for w f.kept) (dialogue_of f whole) g → ⊥)
     × (goes_why (responder_for w f.kept) (restored f.kept) g ≡ Some why)
 
--- It goes on, and then this stands for what is kept behind it, and so does the table: the large answer is fetched on, or another
--- one from then on, or none; or it is refused, and then why.
+-- It goes on, and then this stands for what is kept after it, and so does the table: the large response is fetched on,
+-- or another one from then on, or none; or it is refused, and then why.
 abbrev pub IsRepliedTo : Configuration → ReqSetup → List (List ℕ) → List Row → Fetching → RouteFields → (answer : List ℕ)
     → Result Upon declared.Why → (new : Party) → (stands : Fetching → List Row → Type 0) → (table : List Seen) → Type 0
 IsRepliedTo w q older rows f route answer (Ok upon.Fetched) new stands table =

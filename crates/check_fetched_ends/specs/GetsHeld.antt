@@ -1,4 +1,4 @@
--- The CHUNK_GETs that came while a large answer is fetched in the clear. This project's own.
+-- The CHUNK_GETs that came while a large response is fetched in the clear. This project's own.
 use Rattle.std.specs.Prelude.{◌≡◌, ◌+◌, ℕ, List, [], ◌∷◌, MatchBool}
 use Rattle.chunking.specs.Cutting.{nth_chunk}
 use Rattle.check_fetched_laws.specs.ClearChunks.{clear_with, get_entry}

@@ -1,5 +1,5 @@
--- A large answer that is fetched in the clear, as the program keeps it: the connection stands as before its request, and what
--- came since is held beside it. This project's own.
+-- A large response that is fetched in the clear, as the program keeps it: the connection stands as before its request,
+-- and what came since is held beside it. This project's own.
 use Rattle.std.specs.Prelude.{◌≡◌, ◌≢◌, ◌≤◌, ◌<◌, ◌+◌, ◌++◌, ◌∷◌, ℕ, List, Option, Some, None, drop, length, slice_index, Bool, true, false, if◌then◌else◌, nat_lt}
 use Rattle.check_responder.specs.AnswerKeys as answer_keys
 use Rattle.check_requester.specs.Asker.{IsAsker}
@@ -50,14 +50,15 @@ use Rattle.world_machine.specs.Setup.{Configuration}
 
 -- ---- What is kept.
 
--- An entry is what its request led to with some bytes as its large answer, after sessions were dropped, but for that answer.
+-- An entry is what its request led to with some bytes as its large response, after sessions were dropped, but for that
+-- answer.
 abbrev pub IsLedTo : RspSetup → (before : History) → Entry → Type 0
 IsLedTo r before entry =
     (dropped : List ℕ) × (led : Entry) × MayLeadTo r (with_dropped before dropped) (tag_in entry) (request_in entry) (Adds led)
     × (is_large led ≡ true) × (unseen led ≡ entry)
 
--- A request passed before in this history, and its fetch begins late, by a repeat that comes behind it: it stands further
--- back there, under another tag, and these are the marks of the sessions that were touched since.
+-- A request passed before in this history, and its fetch begins late, by a repeat that comes after it: it stands
+-- further back there, under another tag, and these are the marks of the sessions that were touched since.
 pub record IsLate (marks : Marks) (tag : ℕ) (turn : Turn) (h : History) : Type 0 where
   pub back : StandsBack h
   pub same : back.turn ≡ turn
@@ -66,8 +67,8 @@ pub record IsLate (marks : Marks) (tag : ℕ) (turn : Turn) (h : History) : Type
   pub other : tag ≢ back.tag
   pub stand : marking.StandsFor marks h
 
--- The responder's history is the one before a request, that request with its answer not seen, and the CHUNK_GETs that came
--- since; or, where the fetch began late, the CHUNK_GETs behind the history at the repeat.
+-- The responder's history is the one before a request, that request with its answer not seen, and the CHUNK_GETs that
+-- came since; or, where the fetch began late, the CHUNK_GETs after the history at the repeat.
 abbrev pub HasGets : Option Marks → (tag : ℕ) → Turn → (gets : List Entry) → (before h : History) → Type 0
 HasGets None tag turn gets before h = h ≡ gets ++ Clear tag turn no_draw ∷ before
 HasGets (Some marks) tag turn gets before h = IsLate marks tag turn before × (h ≡ gets ++ before)
@@ -91,8 +92,8 @@ pub record StandsBefore (seen : Answerer) (seen_keys : AnswerKeys) (held : Held)
   pub reply : turn.reply ≡ held.reply
   pub newest : held.newest ≡ kept_of h
 
--- It is kept of what is fetched in the clear: what came of it, the lengths that go by chunks, and the requester's transfer
--- size, for which it is cut; and the CHUNK_GETs gave it from the first chunk on.
+-- It is kept of what is fetched in the clear: what came of it, the lengths that are sent in chunks, and the requester's
+-- transfer size, for which it is cut; and the CHUNK_GETs gave it from the first chunk on.
 pub record IsHeldIn (party : Party) (held : Held) (w : Configuration) (q : ReqSetup) (f : Fetching) (rows : List Row) : Type 0 where
   pub beside : IsBeside party w q f.kept rows
   pub at : f.at ≡ None
@@ -104,7 +105,7 @@ pub record IsHeldIn (party : Party) (held : Held) (w : Configuration) (q : ReqSe
 
 -- ---- The bytes.
 
--- With those of a chunk they are of a told length that goes by chunks, and are no longer.
+-- With those of a chunk they are of a told length that is sent in chunks, and are no longer.
 pub record AreHeldFitting (held : Held) (message : List ℕ) : Type 0 where
   pub least : held.least ≤ size_with held.answer.number held.answer.size message
   pub most : size_with held.answer.number held.answer.size message ≤ held.most
@@ -159,14 +160,14 @@ IsShownHeld held tag body answer told = (repeats_held held tag body ≡ false) �
 
 -- ---- An answer with which it is fetched on.
 
--- The responder's history behind it: no session begins by it, none takes a record, and the same are shown.
+-- The responder's history after it: no session begins by it, none takes a record, and the same are shown.
 pub record IsQuiet (h behind : History) : Type 0 where
   pub begun : begun_count behind ≡ begun_count h
   pub taken : (if nat_lt (length h) (length behind) then answered_in behind else None) ≡ None
   pub views : views_in behind ≡ views_in h
 
--- What it leaves of the party: the connection and the keys stay, and the rest stands for what is kept behind it, and so does
--- the table.
+-- What it leaves of the party: the connection and the keys stay, and the rest stands for what is kept after it, and so
+-- does the table.
 pub record IsHeardHeld (old new : Party) (table : List Seen) (w : Configuration) (q : ReqSetup) (older : List (List ℕ)) (rows : List Row) (f next : Fetching) : Type 0 where
   pub asker : IsAsker new.asker q next.kept
   pub answerer : new.answerer ≡ old.answerer

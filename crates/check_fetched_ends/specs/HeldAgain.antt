@@ -1,4 +1,4 @@
--- What is held behind LargeResponse again in the clear, before the first chunk. This project's own.
+-- What is held after LargeResponse again in the clear, before the first chunk. This project's own.
 use Rattle.std.specs.Prelude.{◌≡◌, ◌≢◌, ◌≤◌, ◌+◌, ℕ, List, Some}
 use Rattle.negotiate.specs.declared.shared.Common.{Common}
 use Rattle.check_fetched_ends.specs.declared.clear_fetch.held.Held.{Held}
@@ -7,8 +7,8 @@ use Rattle.check_late_laws.specs.LargeAnswers.{StandsFor}
 use Rattle.check_late_laws.specs.declared.late_fetch.marks.Marks.{Marks}
 use Rattle.spdm_grammar.specs.declared.names.TheConstants.{MAX_MESSAGE_SIZE}
 
--- The request and the reply under another tag, with these marks, and no chunk; the newest message under its own tag; and the
--- lengths that go by chunks, where this is common to both ends.
+-- The request and the reply under another tag, with these marks, and no chunk; the newest message under its own tag;
+-- and the lengths that are sent in chunks, where this is common to both ends.
 pub record IsHeldAgain (common : Common) (marks : Marks) (tag : ℕ) (message reply : List ℕ) (held : Held) : Type 0 where
   pub other : held.tag ≢ tag
   pub request : held.request ≡ message

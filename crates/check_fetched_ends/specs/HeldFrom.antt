@@ -1,4 +1,4 @@
--- What is held behind LargeResponse in the clear, before the first chunk. This project's own.
+-- What is held after LargeResponse in the clear, before the first chunk. This project's own.
 use Rattle.std.specs.Prelude.{◌≡◌, ◌≤◌, ◌+◌, ℕ, List, Some, None}
 use Rattle.negotiate.specs.declared.shared.Common.{Common}
 use Rattle.check_fetched_ends.specs.declared.clear_fetch.held.Held.{Held}
@@ -6,8 +6,8 @@ use Rattle.check_late_laws.specs.Fetching.{Fetching, number_of}
 use Rattle.check_late_laws.specs.LargeAnswers.{StandsFor}
 use Rattle.spdm_grammar.specs.declared.names.TheConstants.{MAX_MESSAGE_SIZE, MIN_DATA_TRANSFER_SIZE}
 
--- The request and the reply, and no chunk; and the lengths that go by chunks, where this is common to both ends and so many
--- bytes stand round the answer.
+-- The request and the reply, and no chunk; and the lengths that are sent in chunks, where this is common to both ends
+-- and so many bytes stand round the answer.
 pub record IsHeldFrom (common : Common) (tag round : ℕ) (message reply : List ℕ) (held : Held) : Type 0 where
   pub tag_is : held.tag ≡ tag
   pub request : held.request ≡ message

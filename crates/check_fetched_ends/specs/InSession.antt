@@ -1,5 +1,5 @@
--- A large answer that is fetched in a session, as the program keeps it: the connection judges with some bytes in its place.
--- This project's own.
+-- A large response that is fetched in a session, as the program keeps it: the connection judges with some bytes in its
+-- place. This project's own.
 use Rattle.std.specs.Prelude.{◌≡◌, ◌≤◌, ◌<◌, ◌-◌, ◌==◌, ◌++◌, ◌↔◌, ℕ, List, drop, length, slice_index, Bool, true, false, if◌then◌else◌, Option, Some, None, unwrap_or}
 use Rattle.check_responder.specs.AnswerKeys.{will_take}
 use Rattle.check_ends.specs.Party.{IsBeside}
@@ -47,7 +47,7 @@ pub record IsTextOf (r : RspSetup) (h : History) (body answer text : List ℕ) :
 
 -- ---- The bytes.
 
--- The lengths that go by chunks at a place are those from the least to the most.
+-- The lengths that are sent in chunks at a place are those from the least to the most.
 abbrev pub AreLengths : Place → (least most : ℕ) → Type 0
 AreLengths p least most = (whole : List ℕ) → IsLargeAnswer p whole ↔ ((least ≤ length whole) × (length whole ≤ most))
 
@@ -64,7 +64,7 @@ abbrev pub filled : (number : ℕ) → Option ℕ → (bytes message : List ℕ)
 filled number told bytes message =
     bytes_with number bytes message ++ zeros (size_with number told message - length (bytes_with number bytes message))
 
--- They are of a told length that goes by chunks, and are no longer.
+-- They are of a told length that is sent in chunks, and are no longer.
 pub record AreFitting (fetched : InSession) (message : List ℕ) : Type 0 where
   pub least : fetched.least ≤ size_with fetched.answer.number fetched.answer.size message
   pub most : size_with fetched.answer.number fetched.answer.size message ≤ fetched.most
@@ -84,17 +84,17 @@ abbrev pub IsMeasuredBy : RspSetup → (op : ℕ) → (whole : List ℕ) → Typ
 IsMeasuredBy r op whole =
     (f : Free) × (length f.nonce ≡ 32) × (length f.measured_opaque ≤ 1024) × (whole ≡ canonical_response (measurements_answer r f op))
 
--- The request of the large answer of a session may lead to all MEASUREMENTS for this operation that go by chunks, and to
--- nothing else.
+-- The request of the large response of a session may lead to all MEASUREMENTS for this operation that are sent in
+-- chunks, and to nothing else.
 abbrev pub AsksFor : RspSetup → (id : ℕ) → Place → (op : ℕ) → History → Type 0
 AsksFor r id place op h = (whole : List ℕ) → IsLargeAnswer place whole → IsShownWhole r (Some id) whole h ↔ IsMeasuredBy r op whole
 
 -- ---- What is kept.
 
--- The connection judges with some bytes that may stand; what is kept of the chunks, the lengths that go by chunks, the
--- RspSessionID, the operation that the request asks for, which has its blocks, and whether a chunk is left to be given. Where none
--- is, the session counts the answer, and is else as if it was not seen. The responder takes messages of four bytes, and
--- GET_VERSION would be no repeat.
+-- The connection judges with some bytes that may stand; what is kept of the chunks, the lengths that are sent in
+-- chunks, the RspSessionID, the operation that the request asks for, which has its blocks, and whether a chunk is left
+-- to be given. Where none is, the session counts the answer, and is else as if it was not seen. The responder takes
+-- messages of four bytes, and GET_VERSION would be no repeat.
 pub record IsFetchedIn (party : Party) (fetched : InSession) (w : Configuration) (q : ReqSetup) (f : Fetching) (rows : List Row) : Type 0 where
   pub beside : IsBeside party w q f.kept rows
   pub at : f.at ≡ Some fetched.id
@@ -113,8 +113,8 @@ pub record IsFetchedIn (party : Party) (fetched : InSession) (w : Configuration)
 
 -- ---- An answer.
 
--- The answer to a record of the session holds a chunk, and one is left to be given: these bytes stand for the large answer
--- with it, and the connection judges with them.
+-- The answer to a record of the session holds a chunk, and one is left to be given: these bytes stand for the large
+-- response with it, and the connection judges with them.
 pub record IsReadIn (party : Party) (fetched : InSession) (w : Configuration) (q : ReqSetup) (f : Fetching) (rows : List Row) (body answer message whole : List ℕ) : Type 0 where
   pub kept : IsFetchedIn party fetched w q f rows
   pub same : kept.whole ≡ whole

@@ -1,5 +1,5 @@
--- What is kept of a requester and the responder at any place, also while a large answer is fetched, and what is told of a
--- request and of an answer there, in words of packets and of walks over them. This project's own.
+-- What is kept of a requester and the responder at any place, also while a large response is fetched, and what is
+-- reported of a request and of an answer there, in words of packets and of walks over them. This project's own.
 use Rattle.std.specs.Prelude.{◌≡◌, ◌≢◌, ◌<◌, ◌+◌, ◌⊎◌, ℕ, List, ◌∷◌, drop, length, false, true, Option, Some, None, IsSome, Result, Ok, Err}
 use Rattle.mctp_framing.specs.Cutting.{RouteFields}
 use Rattle.mctp_framing.specs.Gathering.{Gathered}
@@ -36,12 +36,12 @@ use Rattle.world_machine.specs.Setup.{Configuration}
 
 -- ---- What is kept.
 
--- This is kept of a large answer that is fetched, in a session or in the clear.
+-- This is kept of a large response that is fetched, in a session or in the clear.
 abbrev pub IsFetched : Party → Fetch → Configuration → ReqSetup → Fetching → List Row → Type 0
 IsFetched party (fetch.InSession fetched) w q f rows = IsFetchedIn party fetched w q f rows
 IsFetched party (fetch.InClear held) w q f rows = IsHeldIn party held w q f rows
 
--- It is kept of the packets, among the rows that they show: no large answer is fetched behind them, or this one is.
+-- It is kept of the packets, among the rows that they show: no large response is fetched after them, or this one is.
 abbrev pub StandsAs : Conversation → Option Fetch → Configuration → ReqSetup → (older : List (List ℕ)) → List Row → Type 0
 StandsAs talk None w q older rows = conversations.StandsFor talk w q older rows
 StandsAs talk (Some fetched) w q older rows =
@@ -69,7 +69,7 @@ OtherEndsStay = (seen : JudgedEnds) (w : Configuration) (q : ReqSetup) (older : 
     → is_request w.responder.eid q.eid p ≡ false → is_answer w.responder.eid q.eid p ≡ false
     → StandsFor seen w q older rows → StandsFor seen w q (packet ∷ older) (rows_between before after rows)
 
--- A packet of this requester, or for it, behind which more of a body is awaited, leaves it, and the rows too. The
+-- A packet of this requester, or for it, after which more of a body is awaited, leaves it, and the rows too. The
 -- heartbeat period is a byte.
 abbrev pub AwaitingEndsStay : Type 0
 AwaitingEndsStay = (seen : JudgedEnds) (w : Configuration) (q : ReqSetup) (older : List (List ℕ)) (packet : List ℕ) (p : PacketFields) (rows : List Row)
@@ -98,8 +98,8 @@ IsLeft w k tag answer =
 abbrev pub IsPart : Configuration → ReqSetup → List (List ℕ) → ℕ → (answer : List ℕ) → Type 0
 IsPart w q older tag answer = (k : Kept) × Keeps w q older k × IsLeft w k tag answer
 
--- Of an answer: it goes on, or it is left unjudged so, and why it is refused where no walk goes on with it; or no walk does, and
--- then why. None is a part of a large answer that is left.
+-- Of an answer: it goes on, or it is left unjudged so, and why it is refused where no walk goes on with it; or no walk
+-- does, and then why. None is a part of a large response that is left.
 abbrev pub IsJudgedAnswer : Configuration → ReqSetup → List (List ℕ) → List Row → (packet : List ℕ) → RouteFields → (answer : List ℕ)
     → Result Onward declared.Why → (new : JudgedEnds) → (table : List Seen) → Type 0
 IsJudgedAnswer w q older rows packet route answer (Ok onward.Kept) new table = StandsBehind new table w q older rows packet

@@ -1,5 +1,5 @@
--- The last chunk of a large answer that is held: what its request leads to, now that all its bytes are there. This project's
--- own.
+-- The last chunk of a large response that is held: what its request leads to, now that all its bytes are there. This
+-- project's own.
 use Rattle.std.specs.Prelude.{◌≡◌, ◌≤◌, ◌<◌, ◌+◌, ◌==◌, ◌&&◌, bytes_eq, if◌then◌else◌, ℕ, zero, suc, List, [], ◌∷◌, length, slice_index, Bool, true, Option, Some, None}
 use Rattle.chunking.specs.Collecting.{joined}
 use Rattle.chunking.specs.Cutting.{chunk_count, chunks_before}
@@ -25,14 +25,15 @@ use Rattle.capture_machine.specs.LargeAnswers.{seen, with_large}
 
 -- ---- All chunks again.
 
--- The transfer size of the requester, while these bytes are the large answer in the clear; and how many chunks they have.
+-- The transfer size of the requester, while these bytes are the large response in the clear; and how many chunks they
+-- have.
 abbrev pub transfer_at : History → (whole : List ℕ) → ℕ
 transfer_at h whole = (place_terms (clear_with h whole)).common.to_requester.transfer
 
 abbrev pub count_at : History → (whole : List ℕ) → ℕ
 count_at h whole = chunk_count (transfer_at h whole) whole
 
--- The history with so many CHUNK_GETs behind it, under one tag, which give the first chunks of these bytes.
+-- The history with so many CHUNK_GETs after it, under one tag, which give the first chunks of these bytes.
 abbrev pub gets_behind : (tag handle : ℕ) → (whole : List ℕ) → History → (count : ℕ) → History
 gets_behind tag handle whole h zero = h
 gets_behind tag handle whole h (suc n) =
@@ -50,7 +51,7 @@ pub record AreAsked (seen : Connection) (bytes : List ℕ) (r : RspSetup) (h : H
   pub stands : connected.StandsFor seen r (with_large None whole (gets_behind tag handle whole h count))
   pub bytes_are : bytes ≡ joined (chunks_before (transfer_at h whole) 0 whole count)
 
--- The history behind all of them.
+-- The history after all of them.
 abbrev pub all_given : (tag handle : ℕ) → (whole : List ℕ) → History → History
 all_given tag handle whole h = with_large None whole (gets_behind tag handle whole h (count_at h whole))
 
@@ -67,7 +68,7 @@ pub record IsLedApart (r : RspSetup) (before : History) (entry : Entry) (whole :
 abbrev pub hash_at : History → ℕ
 hash_at h = hash_len (terms_of (negotiation_of (clear_turns h)))
 
--- By what is told of it.
+-- By what is reported of it.
 abbrev pub IsLedSo : RspSetup → (before : History) → Entry → (whole : List ℕ) → Led → Type 0
 IsLedSo r before entry whole led.Whole = IsShownEntry r before (seen whole entry)
 IsLedSo r before entry whole led.Apart = (IsShownEntry r before (seen whole entry) → ⊥) × IsLedApart r before entry whole (hash_at before)
@@ -84,7 +85,8 @@ led_by size given whole =
 abbrev pub left_by : (before left : History) → Entry → (whole : List ℕ) → History
 left_by before left entry whole = with_dropped left (drops_with before (seen whole entry))
 
--- Its chunks may be asked for again behind what was left, whatever bytes it has; and so many were given before the last one.
+-- Its chunks may be asked for again after what was left, whatever bytes it has; and so many were given before the last
+-- one.
 pub record IsLastOf (held : Held) (r : RspSetup) (before left : History) (entry : Entry) (tag handle : ℕ) (whole : List ℕ) : Type 0 where
   pub give : (other : List ℕ) → length other ≤ MAX_MESSAGE_SIZE → CanBeGiven r (entry ∷ left_by before left entry whole) other tag handle
   pub transfer : (other : List ℕ) → transfer_at (entry ∷ left_by before left entry whole) other ≡ held.transfer

@@ -1,5 +1,5 @@
--- The last chunk of a large answer that is held, where its fetch began late: the session that the whole begins, and the last
--- record of the session that ended. This project's own.
+-- The last chunk of a large response that is held, where its fetch began late: the session that the whole begins, and
+-- the last record of the session that ended. This project's own.
 use Rattle.std.specs.Prelude.{◌≡◌, ◌==◌, ◌||◌, nat_lt, if◌then◌else◌, ℕ, List, Bool, false, Option, Some, None}
 use Rattle.responder_core.specs.LateFetch.{with_ended}
 use Rattle.responder_core.specs.declared.connected.Connection.{Connection}

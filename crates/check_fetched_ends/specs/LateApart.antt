@@ -1,4 +1,5 @@
--- The last chunk of a large answer in the clear whose fetch began late, where its verify data are alone wrong. This project's own.
+-- The last chunk of a large response in the clear whose fetch began late, where its verify data are alone wrong. This
+-- project's own.
 use Rattle.std.specs.Prelude.{◌≡◌, ◌≢◌, ◌↔◌, ◌++◌, ℕ, List, slice_index, true, false, Some, None}
 use Rattle.check_late_laws.specs.Late.Passed.{StandsBack}
 use Rattle.check_late_laws.specs.Late.PassedLast.{AreSince, IsFree, WasAnew, in_front, touched_by}
@@ -26,8 +27,8 @@ pub record IsLateApart (r : RspSetup) (d : Dialogue) (round : Round) (answer : L
   pub apart : is_apart (verify_size d) bytes whole ≡ true
   pub untouched : touched_by (id_begun (in_front h s tag bytes)) h ≡ false
 
--- While these bytes stand for the large answer of the request, and only messages in the clear came since its repeat, an answer
--- is apart from one that completes it exactly where that is so.
+-- While these bytes stand for the large response of the request, and only messages in the clear came since its repeat,
+-- an answer is apart from one that completes it exactly when that is so.
 abbrev pub LateApart : Type 0
 LateApart = (r : RspSetup) (d : Dialogue) (round : Round) (answer : List ℕ) (since : List Entry) (h : History) (s : StandsBack h) (whole : List ℕ) (tag : ℕ)
     → d.responder ≡ since ++ h → d.fetching ≡ Some whole → place_named round.body ≡ None → AreSince since → IsFree s.turn → WasAnew h s → tag ≢ s.tag

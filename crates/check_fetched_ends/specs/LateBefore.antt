@@ -11,8 +11,8 @@ use Rattle.responder_machine.specs.Refusal.{sizes_are_known}
 use Rattle.responder_machine.specs.Setup.{RspSetup}
 use Rattle.capture_machine.specs.Rounds.{no_draw}
 
--- In front of this history, under this tag, it may lead to its LargeResponse; its answer was not seen; and it leaves the sessions as
--- they are.
+-- Before this history, under this tag, it may lead to its LargeResponse; its answer was not seen; and it leaves the
+-- sessions as they are.
 pub record IsLateBefore (r : RspSetup) (h : History) (entry : Entry) : Type 0 where
   pub unseen : IsUnseenRequest entry
   pub left : IsLeftBy entry h h

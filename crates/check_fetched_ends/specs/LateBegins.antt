@@ -1,4 +1,4 @@
--- How a fetch begins late in the clear, by LargeResponse again, by what is told of an answer. This project's own.
+-- How a fetch begins late in the clear, by LargeResponse again, by what is reported of an answer. This project's own.
 use Rattle.std.specs.Prelude.{◌≡◌, ◌+◌, ◌==◌, ◌&&◌, ℕ, List, Bool, true, bytes_eq, drop, length, slice_index}
 use Rattle.check_responder.specs.Answerer.{shows_large}
 use Rattle.check_requester.specs.HeardKept.{asks_upon}

@@ -1,5 +1,5 @@
--- What an answer makes of the marks of touched sessions, told from the history before it and the one behind it. This project's
--- own.
+-- What an answer makes of the marks of touched sessions, told from the history before it and the one after it. This
+-- project's own.
 use Rattle.std.specs.Prelude.{◌≡◌, ◌==◌, ◌&&◌, ◌||◌, not, if◌then◌else◌, ℕ, List, Bool, false, Some, drop, slice_index}
 use Rattle.check_ends.specs.Conversation.{IsAnswer}
 use Rattle.check_laws.specs.KeptChanges.{is_kept_record}
@@ -15,7 +15,7 @@ use Rattle.responder_machine.specs.Session.{id_in_record, is_live, session_of}
 use Rattle.capture_machine.specs.Rounds.{Dialogue, Round}
 use Rattle.world_machine.specs.Setup.{Configuration}
 
--- A message in the clear was taken: it was no repeat before its answer, and is one behind it.
+-- A message in the clear was taken: it was no repeat before its answer, and is one after it.
 abbrev pub is_taken_by : (before behind : History) → (tag : ℕ) → (m : List ℕ) → Bool
 is_taken_by before behind tag m = not (is_repeat (kept_of before) tag m) && is_repeat (kept_of behind) tag m
 
@@ -26,7 +26,7 @@ is_touched_by before behind request answer =
     if slice_index answer 0 == 5 then is_live (session_of id before) && not (is_live (session_of id behind))
     else not (is_kept_record before request)
 
--- Whether the session of an id is touched behind an answer.
+-- Whether the session of an id is touched after an answer.
 abbrev pub touched_behind : (before behind : History) → (tag : ℕ) → (body answer : List ℕ) → (id : ℕ) → Bool
 touched_behind before behind tag body answer id =
     if slice_index body 0 == 5 then (if is_taken_by before behind tag (drop 1 body) then false else touched id before)
@@ -38,7 +38,7 @@ MarksStand seen w q older = (d : Dialogue) → Walks w q older d → marking.Sta
 
 -- ---- The law.
 
--- In a walk that goes on with an answer, the sessions are touched behind it as these histories tell.
+-- In a walk that goes on with an answer, the sessions are touched after it as these histories tell.
 abbrev pub AnswerMovesMarks : Type 0
 AnswerMovesMarks = (w : Configuration) (q : ReqSetup) (older : List (List ℕ)) (packet : List ℕ) (route : RouteFields) (answer : List ℕ) (before after : Dialogue) (round : Round)
     → IsAnswer w q older packet route answer → Walks w q older before → StepsTo w q.eid older before packet after → before.round ≡ Some round

@@ -1,5 +1,6 @@
--- What is kept of a requester and the responder at any place, with the marks of the sessions that were touched since the newest
--- request in the clear that was taken; and what is told of a request and of an answer there. This project's own.
+-- What is kept of a requester and the responder at any place, with the marks of the sessions that were touched since
+-- the newest request in the clear that was taken; and what is reported of a request and of an answer there. This
+-- project's own.
 use Rattle.std.specs.Prelude.{◌≡◌, ◌≢◌, ◌<◌, ◌==◌, ◌&&◌, ◌⊎◌, ℕ, List, ◌∷◌, drop, slice_index, Bool, true, false, if◌then◌else◌, Result, Ok, Err}
 use Rattle.check_ends.specs.Conversation.{NoneGoesOn}
 use Rattle.check_ends.specs.declared.onward.Onward.{Onward}
@@ -75,7 +76,7 @@ OtherMarkedStay = (seen : MarkedEnds) (w : Configuration) (q : ReqSetup) (older 
     → is_request w.responder.eid q.eid p ≡ false → is_answer w.responder.eid q.eid p ≡ false
     → StandsFor seen w q older rows → StandsFor seen w q (packet ∷ older) (rows_between before after rows)
 
--- A packet of this requester, or for it, behind which more of a body is awaited, leaves it, and the rows too. The
+-- A packet of this requester, or for it, after which more of a body is awaited, leaves it, and the rows too. The
 -- heartbeat period is a byte.
 abbrev pub AwaitingMarkedStay : Type 0
 AwaitingMarkedStay = (seen : MarkedEnds) (w : Configuration) (q : ReqSetup) (older : List (List ℕ)) (packet : List ℕ) (p : PacketFields) (rows : List Row)

@@ -1,4 +1,4 @@
--- What is kept of a large answer whose fetch is about to begin in a session. This project's own.
+-- What is kept of a large response whose fetch is about to begin in a session. This project's own.
 use Rattle.std.specs.Prelude.{◌≡◌, ◌<◌, ℕ, List, drop, true, false, Option, Some, None, is_some}
 use Rattle.responder_core.specs.OwnAnswers.{opens_in}
 use Rattle.check_late_laws.specs.Fetching.{Fetching, number_of}
@@ -31,7 +31,7 @@ abbrev pub AsksOperation : RspSetup → History → (request : List ℕ) → (op
 AsksOperation r h request op =
     let s = session_of (id_in_record request) h in request_at (session_place s) (drop 1 (opened r.psk s request)) ≡ Some (GetMeasurements op)
 
--- What is kept where its large answer is fetched from now on, in its session: a chunk has room for some bytes.
+-- What is kept where its large response is fetched from now on, in its session: a chunk has room for some bytes.
 pub record IsPrepared (r : RspSetup) (h : History) (request : List ℕ) (fetched : InSession) : Type 0 where
   pub id : fetched.id ≡ id_in_record request
   pub asks : AsksOperation r h request fetched.op
@@ -47,7 +47,7 @@ NeverLarge r h request =
     let s = session_of (id_in_record request) h in
     opens_in r s request ≡ true → (f : Free) → is_some (handle_in (turn_in r s f request).effect) ≡ true → ⊥
 
--- This is kept where its large answer is fetched from now on; or it never gets one.
+-- This is kept where its large response is fetched from now on; or it never gets one.
 abbrev pub IsPreparedFor : RspSetup → History → (request : List ℕ) → Option InSession → Type 0
 IsPreparedFor r h request None = NeverLarge r h request
 IsPreparedFor r h request (Some fetched) = IsPrepared r h request fetched

@@ -17,7 +17,7 @@ use Rattle.spdm_machine.specs.Keys.{Draw}
 use Rattle.check_laws.specs.AnswersShown.{is_whole}
 use Rattle.capture_machine.specs.Rounds.{no_draw}
 
--- The history behind a message that was refused, and behind sessions that were dropped then.
+-- The history after a message that was refused, and after sessions that were dropped then.
 abbrev pub behind_refused : RspSetup → History → (tag : ℕ) → (m : List ℕ) → Free → Draw → (dropped : List ℕ) → History
 behind_refused r h tag m f d ids = with_dropped (Clear tag (turn_of r (clear_place h) m f) d ∷ h) ids
 

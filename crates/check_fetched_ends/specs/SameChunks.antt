@@ -18,7 +18,7 @@ pub record IsTold (h : History) (request answer : List ℕ) : Type 0 where
   pub told : (negotiation_of (clear_turns h)).capabilities ≡ answer
 
 -- In each walk what the requester took as CAPABILITIES is what the responder told it last, as long as the requester's
--- negotiation counts: from CAPABILITIES on, until it begins anew.
+-- negotiation counts: from CAPABILITIES on, until it starts over.
 abbrev pub SameCapabilities : Type 0
 SameCapabilities = (w : Configuration) (q : ReqSetup) (older : List (List ℕ)) (d : Dialogue) → Walks w q older d → is_capable (requester_history.phase_of d.requester) ≡ true
     → IsTold d.responder (requester_history.negotiation_of d.requester).get_capabilities (requester_history.negotiation_of d.requester).capabilities

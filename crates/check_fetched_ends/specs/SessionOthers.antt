@@ -31,7 +31,7 @@ abbrev pub is_refused : Entry → Bool
 is_refused (Sealed tag m t reply d) = is_some t.refused
 is_refused _ = false
 
--- A record may lead to this entry, whose answer this is, with some bytes that may stand for the large answer.
+-- A record may lead to this entry, whose answer this is, with some bytes that may stand for the large response.
 pub record LeadsWith (r : RspSetup) (id : ℕ) (f : Fetching) (round : Round) (answer : List ℕ) (v : List ℕ) (e : Entry) : Type 0 where
   pub stands : MayStand f v
   pub leads : MayLeadTo r (with_large (Some id) v f.kept.responder) round.tag round.body (Adds e)
@@ -48,14 +48,14 @@ pub record IsOtherAnswer (r : RspSetup) (fetched : InSession) (f : Fetching) (ro
 abbrev pub IsOtherRound : RspSetup → InSession → Fetching → (answer : List ℕ) → (refuses : Bool) → Type 0
 IsOtherRound r fetched f answer refuses = (round : Round) × (f.kept.round ≡ Some round) × IsOtherAnswer r fetched f round answer refuses
 
--- Whether a chunk is left to be given behind it: one was before it, the session is live, and either no record was taken or its
--- request was refused.
+-- Whether a chunk is left to be given after it: one was before it, the session is live, and either no record was taken
+-- or its request was refused.
 abbrev pub left_then : (left live idle refuses : Bool) → Bool
 left_then left live idle refuses = left && live && (idle || refuses)
 
--- It may be told that a large answer of the session was not seen: these bytes are pending there, and others might be; or none
--- are, and the session only counts the answer; or there is no session, and each connection that judges with these bytes stands
--- for the history without them too.
+-- It may be told that a large response of the session was not seen: these bytes are pending there, and others might be;
+-- or none are, and the session only counts the answer; or there is no session, and each connection that judges with
+-- these bytes stands for the history without them too.
 abbrev pub MayForget : (id : ℕ) → History → (whole : List ℕ) → (left live : Bool) → Type 0
 MayForget id h whole true live = (other : List ℕ) × (whole ≢ other) × IsMeasured id h whole × IsMeasured id h other
 MayForget id h whole false true = IsUncounted id (with_large (Some id) whole h) h

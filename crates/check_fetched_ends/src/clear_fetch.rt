@@ -1,4 +1,4 @@
-//! A large answer that is fetched in the clear.
+//! A large response that is fetched in the clear.
 
 pub mod asked_exchange;
 pub mod asks_laws;

@@ -11,7 +11,7 @@ pub fn other_ends_stay()
     other_places_stay();
 }
 
-/// A packet behind which more of a body is awaited leaves it.
+/// A packet after which more of a body is awaited leaves it.
 pub fn awaiting_ends_stay()
     ensures { AwaitingEndsStay }
 {}

@@ -1,6 +1,6 @@
 use crate::{Held, InSession};
 
-/// A large answer that is fetched.
+/// A large response that is fetched.
 #[derive(Drop)]
 pub enum Fetch {
     /// In a session: the responder's connection judges with some bytes in the place of the answer.

@@ -1,14 +1,14 @@
 use crate::Fetch;
 use check_ends::{Conversation, Party};
 
-/// A requester of a capture and the responder towards it, at any place: what is kept of both, and the large answer
-/// that is fetched, if one is. It judges requests and answers whose order is right, and tells the table of sessions
-/// of those that go on. It takes no memory but when it is made.
+/// A requester of a capture and the responder towards it, at any place: what is kept of both, and the large response
+/// that is fetched, if one is. It judges requests and answers whose order is right, and tells the table of sessions of
+/// those that go on. Allocates only when constructed.
 #[derive(Drop)]
 pub struct JudgedEnds {
     /// What is kept of both.
     pub talk: Conversation,
-    /// The large answer that is fetched. No large request is under way then.
+    /// The large response that is fetched. No large request is under way then.
     pub fetched: Option<Fetch>,
 }
 
@@ -21,7 +21,7 @@ impl JudgedEnds {
     ghost use Rattle.capture_machine.specs.Rounds.{new_dialogue};
     ghost use Rattle.world_machine.specs.Setup.{Configuration};
 
-    /// Where nothing came yet.
+    /// The initial state, before any message.
     pub fn new(party: Party) -> JudgedEnds
         ensures { (w : Configuration) (q : ReqSetup) → IsParty party w q (kept_of (new_dialogue q)) []
             → StandsFor result w q [] [] }

@@ -159,7 +159,7 @@ impl JudgedEnds {
     }
 
     // An answer came where no large message is under way, and it begins no large one in a session: it may begin one
-    // where its request is in the clear. Any other is told before places are made for a large answer. The request was
+    // where its request is in the clear. Any other is told before places are made for a large response. The request was
     // prepared for.
     fn begins_other(
         &mut self,
@@ -261,7 +261,7 @@ impl JudgedEnds {
         self.begins_other(table, setup, round, answer)
     }
 
-    // The same where a large answer is fetched. It stands apart, since a function clears the places of its values
+    // The same where a large response is fetched. It stands apart, since a function clears the places of its values
     // when it is entered, and what is fetched is large.
     fn replies_meanwhile(
         &mut self,
@@ -291,12 +291,11 @@ impl JudgedEnds {
         }
     }
 
-    /// An answer of at most 4,161 bytes came whole, in order behind this round: it goes on, and the
-    /// table of sessions with it; or the requester asks for a chunk upon it where nothing is fetched, which is
-    /// left unjudged, and why it is refused where no walk goes on with it; or no walk does, and then why. But
-    /// for the first, nothing is said of what is kept then, and of the table. An `Err` comes only where
-    /// PSK_EXCHANGE_RSP began a session, whole or with its last chunk, and there is no memory for its entry,
-    /// and says nothing of what is kept.
+    /// An answer of at most 4,161 bytes came whole, in order after this round: it goes on, and the table of sessions
+    /// with it; or the requester asks for a chunk upon it where nothing is fetched, which is left unjudged, and why it
+    /// is refused where no walk goes on with it; or no walk does, and then why. But for the first, nothing is said of
+    /// what is kept then, and of the table. An `Err` comes only where PSK_EXCHANGE_RSP began a session, whole or with
+    /// its last chunk, and there is no memory for its entry, and says nothing of what is kept.
     pub fn replies(
         &mut self,
         table: &mut SessionTable,

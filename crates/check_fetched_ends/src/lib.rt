@@ -1,5 +1,5 @@
-//! Captures, while a large answer is fetched: a requester and the responder are judged by their own code, though
-//! of the answer no byte is known but those of the chunks that came.
+//! Captures, while a large response is fetched: a requester and the responder are judged by their own code, though of
+//! the answer no byte is known but those of the chunks that came.
 //!
 //! Read first: `IsRepliedTo` in `specs/Fetched.antt`, and `StandsFor` in `specs/JudgedEnds.antt`. The calls are those of
 //! `JudgedEnds`.

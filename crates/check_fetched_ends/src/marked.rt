@@ -15,7 +15,7 @@ use spdm_grammar::Why;
 /// newest request in the clear that was taken: by that a fetch that begins late is judged.
 #[derive(Drop)]
 pub struct MarkedEnds {
-    /// What is kept of both, and of the large answer that is fetched.
+    /// What is kept of both, and of the large response that is fetched.
     pub ends: JudgedEnds,
     /// A mark for each session that was touched.
     pub marks: Marks,
@@ -41,7 +41,7 @@ impl MarkedEnds {
     ghost use Rattle.capture_machine.specs.SessionTable.{Row};
     ghost use Rattle.world_machine.specs.Setup.{Configuration, known_of};
 
-    /// Where nothing came yet.
+    /// The initial state, before any message.
     pub fn new(party: Party) -> MarkedEnds
         ensures { (w : Configuration) (q : ReqSetup) → IsParty party w q (kept_of (new_dialogue q)) []
             → StandsFor result w q [] [] }
@@ -52,8 +52,8 @@ impl MarkedEnds {
         }
     }
 
-    /// A request of at most 4,161 bytes came whole under a tag, in order behind this round: as `JudgedEnds::asks`
-    /// tells. It leaves the marks.
+    /// A request of at most 4,161 bytes came whole under a tag, in order after this round: as `JudgedEnds::asks` tells.
+    /// It leaves the marks.
     pub fn asks(
         &mut self,
         table: &mut SessionTable,
@@ -113,7 +113,7 @@ impl MarkedEnds {
     }
 
     // An answer came: it goes on, or why it is refused. Where the requester asks for a chunk upon an answer that goes
-    // whole, no walk goes on with it; and none is a part of a large answer that is left.
+    // whole, no walk goes on with it; and none is a part of a large response that is left.
     fn judges(
         &mut self,
         table: &mut SessionTable,
@@ -144,7 +144,7 @@ impl MarkedEnds {
 
     // An answer to a message in the clear came where no large message is under way: a fetch may begin late by it. It
     // stands apart, since a function clears the places of its values when it is entered, and what is held of a large
-    // answer is large.
+    // response is large.
     fn begins_in_clear(
         &mut self,
         table: &mut SessionTable,
@@ -224,10 +224,10 @@ impl MarkedEnds {
         connection.repeats_last(behind_type(body))
     }
 
-    /// An answer of at most 4,161 bytes came whole, in order behind this round: it goes on, and the table of sessions
-    /// with it; or no walk goes on with it, and then why, and nothing is said of what is kept then, and of the
-    /// table. An `Err` comes only where PSK_EXCHANGE_RSP began a session, whole or with its last chunk, and there is
-    /// no memory for its entry, and says nothing of what is kept.
+    /// An answer of at most 4,161 bytes came whole, in order after this round: it goes on, and the table of sessions
+    /// with it; or no walk goes on with it, and then why, and nothing is said of what is kept then, and of the table.
+    /// An `Err` comes only where PSK_EXCHANGE_RSP began a session, whole or with its last chunk, and there is no memory
+    /// for its entry, and says nothing of what is kept.
     pub fn replies(
         &mut self,
         table: &mut SessionTable,

@@ -21,7 +21,7 @@ use responder_core::{Connection, record_id};
 use session_keys::{behind_type, byte_at};
 use spdm_grammar::names::message_type::SPDM;
 
-// Whether a message in the clear is a repeat while this large answer is fetched.
+// Whether a message in the clear is a repeat while this large response is fetched.
 fn repeats_fetched(large: &Fetch, connection: &Connection, tag: u8, message: &[u8]) -> bool
     ensures clear { (held : Held) → large.now ≡ fetch.InClear held
         → result ≡ is_repeat held.newest tag message.now }
@@ -48,7 +48,7 @@ pub(crate) fn repeats_clear(ends: &JudgedEnds, tag: u8, message: &[u8]) -> bool
     }
 }
 
-// Whether a record is a repeat, where no large answer is fetched in the clear.
+// Whether a record is a repeat, where no large response is fetched in the clear.
 pub(crate) fn repeats_record(ends: &JudgedEnds, request: &[u8]) -> bool
     ensures { (w : Configuration) (q : ReqSetup) (older : List (List ℕ)) (rows : List Row)
         (d : Dialogue) → judged.StandsFor ends.now w q older rows → Walks w q older d
@@ -61,7 +61,7 @@ pub(crate) fn repeats_record(ends: &JudgedEnds, request: &[u8]) -> bool
     ended || last
 }
 
-// Whether the session of a record is live, where no large answer is fetched in the clear.
+// Whether the session of a record is live, where no large response is fetched in the clear.
 pub(crate) fn is_live_in(ends: &JudgedEnds, request: &[u8]) -> bool
     ensures { (w : Configuration) (q : ReqSetup) (older : List (List ℕ)) (rows : List Row)
         (d : Dialogue) → judged.StandsFor ends.now w q older rows → Walks w q older d

@@ -6,7 +6,7 @@ ghost use Rattle.responder_machine.specs.History.{History};
 use check_late_laws::Marks;
 
 /// The marks as an answer moves them, if it does: one to a message in the clear clears all, and one to a record sets
-/// that of the session of this RspSessionID.
+/// that of the session with this RspSessionID.
 pub(crate) fn move_marks(marks: &mut Marks, clear: bool, moves: bool, id: u16)
     ensures { (h g : History) → ((i : ℕ) → touched i g ≡ (if clear then (if moves then false else touched i h)
         else ((id == i && moves) || touched i h))) → StandsFor marks.old h → StandsFor marks.new g }

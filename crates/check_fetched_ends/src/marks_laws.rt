@@ -6,7 +6,7 @@ ghost use Rattle.check_fetched_ends.specs.MarkedEnds.{AwaitingMarkedStay, OtherM
 
 use crate::{awaiting_ends_stay, other_ends_stay};
 
-/// What an answer makes of them is told from the responder's history before it and behind it.
+/// What an answer makes of them is determined by the responder's history before it and after it.
 pub fn answer_moves_marks()
     ensures { AnswerMovesMarks }
 {}
@@ -18,7 +18,7 @@ pub fn other_marked_stay()
     other_ends_stay();
 }
 
-/// A packet behind which more of a body is awaited leaves it.
+/// A packet after which more of a body is awaited leaves it.
 pub fn awaiting_marked_stay()
     ensures { AwaitingMarkedStay }
 {

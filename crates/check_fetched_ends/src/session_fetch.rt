@@ -1,4 +1,4 @@
-//! A large answer that is fetched in a session.
+//! A large response that is fetched in a session.
 
 pub mod again_begins;
 pub mod chunk_judged;

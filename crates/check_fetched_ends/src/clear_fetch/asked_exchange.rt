@@ -15,7 +15,7 @@ use spdm_codec::read_request;
 use spdm_grammar::names::request_code::PSK_EXCHANGE;
 use spdm_grammar::{ChunkView, Request};
 
-// The chunk of a large request that a message is, where a hash has so many bytes; none where it is no chunk.
+// The chunk of a large request that a message is, where a hash has so many bytes; `None` where it is no chunk.
 fn chunk_of(message: &[u8], hash_len: usize) -> Option<ChunkView<'_>>
     ensures { option_map chunk_message result ≡ chunk_in (request_in hash_len message.now) }
 {

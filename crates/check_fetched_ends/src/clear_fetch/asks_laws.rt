@@ -1,5 +1,5 @@
-//! Upon which answers the requester asks for a chunk while a large answer is fetched, each law as the contract of
-//! a function that does nothing.
+//! Upon which answers the requester asks for a chunk while a large response is fetched, each law as the contract of a
+//! function that does nothing.
 
 ghost use Rattle.check_fetched_ends.specs.AsksUpon.{AnswersTellAsking, ClearAsksOn, PlainEndsFetching, SessionAsksOn, VersionAsksNone};
 
@@ -18,7 +18,7 @@ pub fn session_asks_on()
     ensures { SessionAsksOn }
 {}
 
-/// Where it is fetched on, or another one begins, and not where nothing is fetched behind the answer.
+/// Where it is fetched on, or another one begins, and not where nothing is fetched after the answer.
 pub fn answers_tell_asking()
     ensures { AnswersTellAsking }
 {}

@@ -18,10 +18,10 @@ use spdm_codec::write_response;
 use spdm_grammar::{ChunkView, Response};
 use spdm_grammar::names::message_type::SPDM;
 
-/// A large answer that is fetched in the clear: its request, with its tag, and the LargeResponse that it got; the
-/// lengths that go by chunks, and the requester's transfer size; what came of it; the newest request in the clear,
-/// with its reply; and, where the fetch began late, by a repeat of the request, the marks of the sessions that were
-/// touched between the two: then the tag is another than that of the request. It takes no memory.
+/// A large response that is fetched in the clear: its request, with its tag, and the LargeResponse that it got; the
+/// lengths that are sent in chunks, and the requester's transfer size; what came of it; the newest request in the
+/// clear, with its reply; and, where the fetch began late, by a repeat of the request, the marks of the sessions that
+/// were touched between the two: then the tag is another than that of the request. Never allocates.
 #[derive(Drop)]
 pub struct Held {
     pub(crate) tag: u8,
@@ -70,8 +70,8 @@ impl Held {
     ghost use Rattle.check_fetched_ends.specs.Held.{AreHeldFitting, CanBeCut, IsShownChunk, IsShownHeld, filled_with, repeats_held};
     ghost use Rattle.check_fetched_ends.specs.InSession.{filled};
 
-    // The bytes so far, those of the CHUNK_RESPONSE that comes next, and zeros up to the told length; none where
-    // that is no length that goes by chunks, and where they are longer.
+    // The bytes so far, those of the CHUNK_RESPONSE that comes next, and zeros up to the told length; `None` where that
+    // is no length that is sent in chunks, and where they are longer.
     pub(crate) fn filled(&self, message: &[u8]) -> Option<Frame>
         ensures { MatchOption result (AreHeldFitting self.now message.now → ⊥)
             (λ whole. AreHeldFitting self.now message.now × (whole ≡ filled self.now.answer.number

@@ -32,7 +32,7 @@ use spdm_grammar::names::request_code::PSK_EXCHANGE;
 use spdm_grammar::names::response_code::CHUNK_SEND_ACK;
 use spdm_grammar::names::message_type::SPDM;
 
-/// What is told of an answer in the clear while nothing is fetched.
+/// What is reported of an answer in the clear while nothing is fetched.
 #[derive(Drop)]
 pub enum BegunHeld {
     /// It is no LargeResponse to a request in the clear by what it shows: nothing was done.
@@ -40,7 +40,7 @@ pub enum BegunHeld {
     /// It is LargeResponse, and the requester asks for no chunk upon it: it goes on, and its answer is never seen.
     /// The request is GET_MEASUREMENTS or PSK_EXCHANGE, whole in one message.
     Passed,
-    /// A large answer is fetched from then on.
+    /// A large response is fetched from then on.
     Fetching(Held),
 }
 
@@ -65,7 +65,7 @@ fn bytes_round(reply: &[u8]) -> usize
     }
 }
 
-// What is held behind LargeResponse to a message with this tag.
+// What is held after LargeResponse to a message with this tag.
 fn held_from(connection: &Connection, tag: u8, message: &[u8], reply: &[u8]) -> Held
     ensures { (r : RspSetup) (h : History) → StandsFor connection.now r h
         → length message.now ≤ 4096 → length reply.now ≤ 4096
@@ -89,7 +89,7 @@ fn held_from(connection: &Connection, tag: u8, message: &[u8], reply: &[u8]) -> 
     }
 }
 
-/// An answer of at most 4,161 bytes came whole, in order behind this round, while nothing is fetched and no large
+/// An answer of at most 4,161 bytes came whole, in order after this round, while nothing is fetched and no large
 /// request is under way: it is told whether it is LargeResponse in the clear, by which a fetch begins or does not.
 pub fn begins_held(
     party: &mut Party,

@@ -15,7 +15,7 @@ use spdm_basis::Frame;
 use spdm_codec::write_request;
 use spdm_grammar::Request;
 
-// CHUNK_GET came with a tag: the chunk that answers it is written in place of what `out` holds.
+// CHUNK_GET came with a tag: the chunk that answers it overwrites `out`.
 fn ask_chunk(
     connection: &mut Connection,
     setup: &Setup<'_>,
@@ -39,7 +39,7 @@ fn ask_chunk(
     let _ = connection.on_clear(setup, tag, message.as_slice(), &values, out);
 }
 
-// The next chunk of a large answer is asked for, with this number, and its bytes are put behind these; whether it is
+// The next chunk of a large response is asked for, with this number, and its bytes are put after these; whether it is
 // the last one.
 fn give_next(
     connection: &mut Connection,
@@ -68,8 +68,8 @@ fn give_next(
     byte_at(out.as_slice(), 2) == 1
 }
 
-/// The chunks of a large answer that is pending in the clear are asked for, from the first one to the one with this
-/// number at most, and their bytes are put behind what `bytes` holds; whether there are no more.
+/// The chunks of a large response that is pending in the clear are asked for, from the first one to the one with this
+/// number at most, and their bytes are put after what `bytes` holds; whether there are no more.
 pub(crate) fn give_all(
     connection: &mut Connection,
     setup: &Setup<'_>,

@@ -41,7 +41,7 @@ use session_keys::{behind_type, byte_at};
 use spdm_basis::OutOfMemory;
 use spdm_grammar::Why;
 
-// Whether the request of the large answer is PSK_EXCHANGE.
+// Whether the request of the large response is PSK_EXCHANGE.
 fn holds_exchange(answerer: &Answerer, held: &Held) -> bool
     ensures { (r : RspSetup) (h : History) (keys : AnswerKeys)
         (b : StandsBefore answerer.now keys held.now r h) → result ≡ takes PSK_EXCHANGE b.turn }
@@ -62,7 +62,7 @@ fn begun_by(exchange: bool, whole: &[u8]) -> Option<u16>
     Some(rsp_id_in(whole))
 }
 
-// Whether the session of this RspSessionID from 1 to 4 was touched.
+// Whether the session with this RspSessionID from 1 to 4 was touched.
 fn is_touched_at(marks: &Marks, id: u16) -> bool
     ensures { (h : History) → StandsFor marks.now h → result ≡ is_touched_at id h }
 {
@@ -87,7 +87,7 @@ fn begins_touched(held: &Held, exchange: bool, whole: &[u8]) -> bool
     is_touched_at(marks, rsp_id_in(whole))
 }
 
-/// An answer of at most 4,161 bytes came whole, in order behind this round, which is the last chunk of a large answer
+/// An answer of at most 4,161 bytes came whole, in order after this round, which is the last chunk of a large response
 /// that is held: it ends the fetch; or why it is refused.
 pub(crate) fn ends_by_chunk(
     party: &mut Party,

@@ -22,9 +22,8 @@ use crate::clear_fetch::led::Led;
 use check_responder::Answerer;
 use responder_core::Setup;
 
-// As `leads_to`, of a request that passed before: the last record of the session that ended is put back. It is
-// handed in as the newest request, and PSK_EXCHANGE then forgets that record; at its place it came before
-// END_SESSION.
+// As `leads_to`, of a request that passed before: the last record of the session that ended is put back. It is handed
+// in as the newest request, and PSK_EXCHANGE then forgets that record; at its place it came before END_SESSION.
 fn leads_late(
     answerer: &mut Answerer,
     held: &Held,
@@ -56,8 +55,8 @@ fn leads_late(
     led
 }
 
-/// As `leads_to`, of a request that came last, or of one that passed before. Where the fetch began late, the
-/// connection has the last record of the session that ended as it was.
+/// As `leads_to`, of a request that came last, or of one that passed before. Where the fetch began late, the connection
+/// has the last record of the session that ended as it was.
 pub(crate) fn leads_there(
     answerer: &mut Answerer,
     held: &Held,

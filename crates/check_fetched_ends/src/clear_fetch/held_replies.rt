@@ -40,7 +40,7 @@ fn asks_version(body: &[u8]) -> bool
     VERSION_BODY.as_slice() == body
 }
 
-/// An answer of at most 4,161 bytes came whole, in order behind this round, while a large answer is fetched in the
+/// An answer of at most 4,161 bytes came whole, in order after this round, while a large response is fetched in the
 /// clear: it goes on, and the table of sessions with it; or why it is refused.
 pub fn replies_held(
     party: &mut Party,

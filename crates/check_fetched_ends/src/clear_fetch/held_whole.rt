@@ -35,7 +35,7 @@ pub(crate) fn rsp_id_in(response: &[u8]) -> u16
     LittleEndian::read_u16(&id)
 }
 
-// The session of this RspSessionID is gone, where it may have been dropped unseen.
+// The session with this RspSessionID is gone, where it may have been dropped unseen.
 fn drop_timed(connection: &mut Connection, id: u16)
     ensures { (r : RspSetup) (h : History) → connected.StandsFor connection.old r h
         → connected.StandsFor connection.new r (with_dropped h (dropped_for h (Some id))) }
@@ -66,7 +66,7 @@ fn is_apart(size: usize, one: &[u8], other: &[u8]) -> bool
     same_bytes(front(one, size), front(other, size))
 }
 
-// What is told of these bytes, where the request leads to those that are given. Verify data have so many bytes.
+// What is reported of these bytes, where the request leads to those that are given. Verify data have so many bytes.
 fn led_by(size: usize, given: &[u8], whole: &[u8]) -> Led
     ensures { result ≡ led_by size given.now whole.now }
 {
@@ -92,9 +92,9 @@ fn drop_shown(connection: &mut Connection, exchange: bool, whole: &[u8])
     }
 }
 
-/// These bytes came as the large answer that is held, under CHUNK_GETs with this handle, of which the last one has
-/// this tag: what its request, PSK_EXCHANGE or not, leads to at the values that they show. Where it leads to them,
-/// the connection stands for what is behind all chunks.
+/// These bytes came as the large response that is held, under CHUNK_GETs with this handle, of which the last one has
+/// this tag: what its request, PSK_EXCHANGE or not, leads to at the values that they show. Where it leads to them, the
+/// connection stands for what is after all chunks.
 pub(crate) fn leads_to(
     answerer: &mut Answerer,
     held: &Held,

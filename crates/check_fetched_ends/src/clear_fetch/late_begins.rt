@@ -97,7 +97,7 @@ fn frame_of(bytes: &[u8]) -> Frame
     frame
 }
 
-// What is held behind LargeResponse again to a message with this tag, while these marks are set.
+// What is held after LargeResponse again to a message with this tag, while these marks are set.
 fn held_again(connection: &Connection, marks: &Marks, tag: u8, message: &[u8], reply: &[u8]) -> Held
     ensures { (r : RspSetup) (h : History) → StandsFor connection.now r h
         → length message.now ≤ 4096 → length reply.now ≤ 4096
@@ -121,10 +121,10 @@ fn held_again(connection: &Connection, marks: &Marks, tag: u8, message: &[u8], r
     }
 }
 
-/// An answer of at most 4,161 bytes came whole, in order behind this round, while nothing is fetched and no large
-/// request is under way: it is told whether it is LargeResponse again to GET_MEASUREMENTS or PSK_EXCHANGE in the
-/// clear, by which a fetch begins late or does not. These are the marks of the sessions that were touched since.
-/// Any other answer is left as it is: then nothing was done.
+/// An answer of at most 4,161 bytes came whole, in order after this round, while nothing is fetched and no large
+/// request is under way: it is told whether it is LargeResponse again to GET_MEASUREMENTS or PSK_EXCHANGE in the clear,
+/// by which a fetch begins late or does not. These are the marks of the sessions that were touched since. Any other
+/// answer is left as it is: then nothing was done.
 pub fn begins_late(
     party: &mut Party,
     table: &mut SessionTable,

@@ -4,19 +4,19 @@ ghost use Rattle.check_fetched_ends.specs.LateApart.{LateApart};
 ghost use Rattle.check_fetched_ends.specs.LateBefore.{LateBefore};
 ghost use Rattle.check_fetched_ends.specs.LateLed.{LateIsLed};
 
-/// The verify data of its last chunk are alone wrong exactly where its request may lead, in front, to bytes from
-/// which those of the chunks are apart, and no mark is set of the session that they begin.
+/// The verify data of its last chunk are alone wrong exactly when its request may lead, in front, to bytes from which
+/// those of the chunks are apart, and no mark is set of the session that they begin.
 pub fn late_apart()
     ensures { LateApart }
 {}
 
-/// What stands of the request of a new LargeResponse stands of one that passed, in front of what came since.
+/// What stands of the request of a new LargeResponse stands of one that passed, before what came since.
 pub fn late_before()
     ensures { LateBefore }
 {}
 
-/// What its last chunk shows of its request is told in front of what came since, and no mark is set of the session
-/// that its whole answer begins.
+/// What its last chunk shows of its request is told before what came since, and no mark is set of the session that its
+/// whole answer begins.
 pub fn late_is_led()
     ensures { LateIsLed }
 {}

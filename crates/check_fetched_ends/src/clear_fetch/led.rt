@@ -1,4 +1,4 @@
-/// What the request of a large answer leads to in the clear, once all its bytes are there.
+/// What the request of a large response leads to in the clear, once all its bytes are there.
 #[derive(Clone, Copy, Debug, PartialEq, Eq)]
 pub(crate) enum Led {
     /// These bytes.

@@ -22,7 +22,7 @@ use session_keys::{behind_type, byte_at};
 use spdm_basis::OutOfMemory;
 use spdm_grammar::names::message_type::SPDM;
 
-/// What is told of an answer to a record while nothing is fetched.
+/// What is reported of an answer to a record while nothing is fetched.
 #[derive(Drop)]
 pub enum BegunAgain {
     /// It is not LargeResponse again: nothing was done.
@@ -33,9 +33,9 @@ pub enum BegunAgain {
     Fetching(InSession),
 }
 
-/// An answer of at most 4,161 bytes came whole, in order behind this round, while nothing is fetched and no large
-/// request is under way: it is told whether it is LargeResponse that comes again in a session, by which a fetch
-/// begins or does not.
+/// An answer of at most 4,161 bytes came whole, in order after this round, while nothing is fetched and no large
+/// request is under way: it is told whether it is LargeResponse that comes again in a session, by which a fetch begins
+/// or does not.
 pub fn begins_again(
     party: &mut Party,
     table: &mut SessionTable,

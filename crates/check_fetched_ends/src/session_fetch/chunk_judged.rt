@@ -25,8 +25,8 @@ use check_fetched_laws::forget_bytes;
 use session_keys::behind_type;
 use spdm_basis::OutOfMemory;
 
-/// An answer to a record is judged, whose text holds this CHUNK_RESPONSE: these bytes stand for the large
-/// answer, and the connection judges with them. None where it is not right.
+/// An answer to a record is judged, whose text holds this CHUNK_RESPONSE: these bytes stand for the large response, and
+/// the connection judges with them. None where it is not right.
 pub(crate) fn judges_chunk(
     party: &mut Party,
     fetched: &mut InSession,

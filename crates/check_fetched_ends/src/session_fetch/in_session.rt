@@ -10,12 +10,11 @@ use spdm_basis::Frame;
 // The most bytes of an SPDM message.
 pub(crate) const MOST_BYTES: usize = 4096;
 
-// As many zeros as a large answer may have.
+// As many zeros as a large response may have.
 const ZEROS: [u8; 4096] = [0; 4096];
 
-/// A large answer that is fetched in the session of a RspSessionID: what came of it, which lengths it may
-/// have, the operation that its request asks for, and whether a chunk of it is left to be given. It takes no
-/// memory.
+/// A large response that is fetched in the session of a RspSessionID: what came of it, which lengths it may have, the
+/// operation that its request asks for, and whether a chunk of it is left to be given. Never allocates.
 #[derive(Drop)]
 pub struct InSession {
     pub(crate) answer: LargeAnswer,
@@ -51,7 +50,7 @@ fn bytes_from(message: &[u8], at: usize) -> &[u8]
     }
 }
 
-// The bytes of a large answer in the CHUNK_RESPONSE of this number.
+// The bytes of a large response in the CHUNK_RESPONSE of this number.
 pub(crate) fn bytes_in(number: u16, message: &[u8]) -> &[u8]
     ensures { result.now ≡ bytes_in number message.now }
 {
@@ -75,8 +74,8 @@ impl InSession {
     ghost use Rattle.std.specs.Prelude.{◌≡◌, MatchOption};
     ghost use Rattle.check_fetched_ends.specs.InSession.{AreFitting, filled};
 
-    /// The bytes so far, those of the CHUNK_RESPONSE that comes next, and zeros up to the told length; none
-    /// where that is no length that goes by chunks, and where they are longer.
+    /// The bytes so far, those of the CHUNK_RESPONSE that comes next, and zeros up to the told length; `None` where
+    /// that is no length that is sent in chunks, and where they are longer.
     pub fn filled(&self, message: &[u8]) -> Option<Frame>
         ensures { MatchOption result (AreFitting self.now message.now → ⊥)
             (λ whole. AreFitting self.now message.now × (whole ≡ filled self.now.answer.number

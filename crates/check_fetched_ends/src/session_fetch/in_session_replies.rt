@@ -29,7 +29,7 @@ use spdm_basis::{OutOfMemory, RecordFrame};
 use spdm_grammar::Why;
 use spdm_grammar::names::message_type::SPDM;
 
-/// An answer of at most 4,161 bytes came whole, in order behind this round, while a large answer is fetched in a
+/// An answer of at most 4,161 bytes came whole, in order after this round, while a large response is fetched in a
 /// session: it goes on, and the table of sessions with it; or why it is refused.
 pub fn replies_in_session(
     party: &mut Party,

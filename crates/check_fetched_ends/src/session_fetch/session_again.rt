@@ -25,7 +25,7 @@ const CHUNK_FIELDS: u32 = 12;
 // Where the handle stands in an inner message that is LargeResponse.
 const HANDLE_AT: usize = 5;
 
-/// What is kept of a large answer that is fetched late in a session, and the handle under which it goes.
+/// What is kept of a large response that is fetched late in a session, and the handle under which it goes.
 #[derive(Drop)]
 pub(crate) struct Again {
     pub(crate) fetched: InSession,
@@ -49,8 +49,8 @@ fn asked_operation(message: &[u8], hash_len: usize) -> Option<u8>
     }
 }
 
-// What is kept of the large answer to a message in the session of this RspSessionID, where it is fetched from now
-// on; none where that is no GET_MEASUREMENTS whose answer may go by chunks.
+// What is kept of the large response to a message in the session with this RspSessionID, where it is fetched from now
+// on; `None` where that is no GET_MEASUREMENTS whose answer may be sent in chunks.
 fn kept_in(connection: &Connection, setup: &Setup<'_>, id: u16, message: &[u8]) -> Option<InSession>
     ensures kept { (r : RspSetup) (h : History) → IsSetUp setup.now r → StandsFor connection.now r h
         → IsKeptFor r (session_of id h) id message.now result }
@@ -81,8 +81,8 @@ fn kept_in(connection: &Connection, setup: &Setup<'_>, id: u16, message: &[u8]) 
     })
 }
 
-/// What is kept of a large answer that is fetched late in the session of a record, which is the last one that was
-/// taken there, and this its reply: that is LargeResponse to GET_MEASUREMENTS. None where it is not.
+/// What is kept of a large response that is fetched late in the session of a record, which is the last one that was
+/// taken there, and this its reply: that is LargeResponse to GET_MEASUREMENTS. `None` where it is not.
 pub(crate) fn prepared_again(
     connection: &Connection,
     setup: &Setup<'_>,

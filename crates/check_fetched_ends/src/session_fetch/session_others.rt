@@ -33,15 +33,15 @@ use session_keys::behind_type;
 use spdm_basis::OutOfMemory;
 use spdm_grammar::Why;
 
-// Whether a chunk is left to be given behind an answer that gives none.
+// Whether a chunk is left to be given after an answer that gives none.
 fn left_then(left: bool, live: bool, idle: bool, refuses: bool) -> bool
     ensures { result ≡ left_then left live idle refuses }
 {
     left && live && (idle || refuses)
 }
 
-// The large answer of the session was not seen: it is forgotten where a chunk of it is left to be given, and
-// else not counted by the session, if that is live.
+// The large response of the session was not seen: it is forgotten where a chunk of it is left to be given, and else not
+// counted by the session, if that is live.
 fn forgets(connection: &mut Connection, id: u16, left: bool, live: bool)
     ensures { (r : RspSetup) (h : History) (whole : List ℕ) → MayForget id h whole left live
         → JudgesFor connection.old r h (Some id) whole → StandsFor connection.new r h }
@@ -54,12 +54,12 @@ fn forgets(connection: &mut Connection, id: u16, left: bool, live: bool)
     }
 }
 
-/// An answer of at most 4,161 bytes came whole, in order behind a record, while a large answer is fetched in its
-/// session, and gives no chunk of it, whatever its bytes are: the connection judges it as it stands. A request
-/// that a right answer refuses in the session, or takes there, is told by `refuses`. Where the requester asks for
-/// no chunk upon it, nothing is fetched behind it, and the large answer stays unseen. Behind LargeResponse that
-/// stays unseen anyway; where the requester asks for a chunk upon it, the new large answer is fetched from then on,
-/// and else it stays unseen too.
+/// An answer of at most 4,161 bytes came whole, in order after a record, while a large response is fetched in its
+/// session, and gives no chunk of it, whatever its bytes are: the connection judges it as it stands. A request that a
+/// right answer refuses in the session, or takes there, is determined by `refuses`. Where the requester asks for no
+/// chunk upon it, nothing is fetched after it, and the large response stays unseen. After LargeResponse that stays
+/// unseen anyway; where the requester asks for a chunk upon it, the new large response is fetched from then on, and
+/// else it stays unseen too.
 pub(crate) fn judges_other(
     party: &mut Party,
     fetched: &mut InSession,

@@ -41,9 +41,9 @@ fn operation_in(message: &[u8], hash_len: usize) -> Option<u8>
     }
 }
 
-/// What is kept of a large answer that is about to be fetched in the session of a record, if that is
-/// GET_MEASUREMENTS and its answer may go by chunks; none where it is not, or its session does not open it: then no
-/// answer to it is LargeResponse.
+/// What is kept of a large response that is about to be fetched in the session of a record, if that is GET_MEASUREMENTS
+/// and its answer may be sent in chunks; `None` where it is not, or its session does not open it: then no answer to it
+/// is LargeResponse.
 pub(crate) fn prepared(
     connection: &Connection,
     setup: &Setup<'_>,

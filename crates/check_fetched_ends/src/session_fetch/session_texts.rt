@@ -23,8 +23,8 @@ const LEAST_RECORD: usize = 26;
 // The length of no text passes this.
 const MOST_TEXT: usize = 65535;
 
-/// What a record holds as the answer to one that its session takes, in place of what `text` holds. False where
-/// the session does not take that one. Fewer than 2^64 - 1 messages came.
+/// What a record holds as the answer to one that its session takes, overwriting `text`. False where the session does
+/// not take that one. Fewer than 2^64 - 1 messages came.
 pub(crate) fn reads_text(
     answerer: &mut Answerer,
     body: &[u8],
@@ -53,7 +53,7 @@ pub(crate) fn reads_text(
     }
 }
 
-/// The CHUNK_RESPONSE that a text holds, of fewer than 65,536 bytes; none where it holds something else.
+/// The CHUNK_RESPONSE that a text holds, of fewer than 65,536 bytes; `None` where it holds something else.
 pub(crate) fn chunk_in(text: &[u8]) -> Option<&[u8]>
     ensures { MatchOption result (length text.now < 65536 → (message : List ℕ)
         → Holds text.now message → is_chunk message ≡ true → ⊥) (λ message. Holds text.now message.now × (is_chunk message.now ≡ true)) }

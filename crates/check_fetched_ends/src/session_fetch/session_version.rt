@@ -23,9 +23,9 @@ use responder_core::Setup;
 use spdm_basis::OutOfMemory;
 use spdm_grammar::Why;
 
-/// An answer of at most 4,161 bytes came whole, in order behind a request in the clear, while a large answer is
-/// fetched in a session. That request is GET_VERSION: VERSION ends the fetch, and all sessions, and any other
-/// answer is refused.
+/// An answer of at most 4,161 bytes came whole, in order after a request in the clear, while a large response is
+/// fetched in a session. That request is GET_VERSION: VERSION ends the fetch, and all sessions, and any other answer is
+/// refused.
 pub(crate) fn replies_version(
     party: &mut Party,
     fetched: &InSession,

@@ -14,15 +14,15 @@ use spdm_grammar::names::MAX_OPAQUE_LEN;
 // The bytes of MEASUREMENTS before the blocks.
 const BEFORE_BLOCKS: usize = 8;
 
-// The bytes of the nonce, and of the length of the opaque data behind it.
+// The bytes of the nonce, and of the length of the opaque data after it.
 const NONCE_BYTES: usize = 32;
 
 const OPAQUE_SIZE_BYTES: usize = 2;
 
 const MOST_BYTES: u32 = 4096;
 
-/// Whether these bytes are MEASUREMENTS for an operation: the nonce and the opaque data are read off them, and
-/// the rest is compared.
+/// Whether these bytes are MEASUREMENTS for an operation: the nonce and the opaque data are read off them, and the rest
+/// is compared.
 pub(crate) fn is_measured(setup: &Setup<'_>, op: u8, whole: &[u8]) -> bool
     ensures yes { (r : RspSetup) → IsSetUp setup.now r → result ≡ true → IsMeasuredBy r op whole.now }
     ensures none { (r : RspSetup) → IsSetUp setup.now r → is_missing op (inventory_of r) ≡ false

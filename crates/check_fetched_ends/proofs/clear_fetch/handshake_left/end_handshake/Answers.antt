@@ -6,7 +6,7 @@ use Rattle.responder_machine.specs.History.Entry.{Dropped}
 use Rattle.responder_machine.specs.Session.{session_of}
 use Rattle.check_fetched_ends.proofs.clear_fetch.handshake_left.end_handshake.Goals as goal
 
--- What is told of the session in its handshake.
+-- What is reported of the session in its handshake.
 abbrev IsIn : History → Option ℕ → Type 0
 IsIn h o = MatchOption o ((id : ℕ) → id ≢ 0 → is_in_handshake (session_of id h) ≡ false) (λ (id : ℕ). is_in_handshake (session_of id h) ≡ true)
 
