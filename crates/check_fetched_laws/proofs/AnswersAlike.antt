@@ -1,4 +1,4 @@
--- An answer hangs on no more of the bytes of a large answer that is fetched than on those of its next chunk.
+-- An answer depends on no more of the bytes of a large response that is fetched than on those of its next chunk.
 use Rattle.std.proofs.Common.{◌≡◌, ◌≤◌, ◌==◌, ℕ, List, refl, sym, ap, ◌∙◌, subst, drop, length, Bool, true, false, Option, Some, None}
 use Rattle.std.specs.Prelude.{slice_index}
 use Rattle.chunking.specs.Cutting.{nth_chunk}

@@ -1,4 +1,4 @@
--- The round while a large answer is fetched: the requester awaits a chunk, or asked for GET_VERSION in place of it.
+-- The round while a large response is fetched: the requester awaits a chunk, or asked for GET_VERSION in place of it.
 use Rattle.std.proofs.Common.{◌≡◌, ◌∙◌, ◌⊎◌, ℕ, List, refl, sym, ap, subst, true, false, Option, Some, inl, inr}
 use Rattle.std.proofs.lemmas.Option.{same_Some}
 use Rattle.requester_machine.specs.History.{outstanding}
@@ -43,7 +43,7 @@ fetched_round w q older f own =
       ],
     )
 
--- So it is awaited exactly where the round is not GET_VERSION.
+-- So it is awaited exactly when the round is not GET_VERSION.
 pub awaited_in : (w : Configuration) (q : ReqSetup) (older : List (List ℕ)) (f : Fetching) (round : Round) → IsFetchingOf w q older f → f.kept.round ≡ Some round → IsAwaited f round
 awaited_in w q older f round own at =
     let found = fetched_round w q older f own in

@@ -1,4 +1,5 @@
--- Behind one more CHUNK_GET of its session a large answer is still the last one there, and as much is pending, whatever its bytes.
+-- After one more CHUNK_GET of its session a large response is still the last one there, and as much is pending,
+-- whatever its bytes.
 use Rattle.std.proofs.Common.{◌≡◌, ◌==◌, ◌∙◌, ◌+◌, ◌||◌, ℕ, List, [], ◌∷◌, refl, sym, ap, Bool, true, false, Option, Some, None, is_some, cond, length, eqb-true}
 use Rattle.std.specs.Int.{div_ceil}
 use Rattle.std.specs.Prelude.{nat_lt, not}

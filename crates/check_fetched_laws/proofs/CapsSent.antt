@@ -77,7 +77,7 @@ large_so known q h f c s a adds large asks = by_command c refl
 
 -- ---- What begins a round.
 
--- The capabilities count behind it as before, if any count.
+-- The capabilities count after it as before, if any count.
 abbrev pub Counts : (h next : History) → Type 0
 Counts h next = is_capable (phase_of next) ≡ true → (is_capable (phase_of h) ≡ true) × SameCaps (negotiation_of next) (negotiation_of h)
 
@@ -190,7 +190,7 @@ heard_tagged q h f tag answer entry adds = elim (heard q h false tag answer f no
   | inr o ↦ tag_by q h f tag answer entry o.1.sent adds o.1.waits
 ]
 
--- Behind an answer in a round.
+-- After an answer in a round.
 pub record IsTaken (h next : History) (round : Round) (answer : List ℕ) : Type 0 where
   pub all : AllAsk next
   pub new : (s : Sent) → outstanding next ≡ Some s → (s.tag == round.tag) ≡ true → outstanding h ≡ Some s

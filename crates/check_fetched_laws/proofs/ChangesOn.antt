@@ -1,4 +1,4 @@
--- What an answer changes of what rows of the table hang on, whether a large answer is fetched or not.
+-- What an answer changes of what rows of the table depend on, whether a large response is fetched or not.
 use Rattle.std.proofs.Common.{◌≡◌, ◌==◌, ℕ, List, refl, sym, ap, ◌∙◌, Bool, false, Option, Some, None, cond, eq-eqb}
 use Rattle.std.specs.Prelude.{not}
 use Rattle.check_requester.specs.HeardKept.{heard_kept}

@@ -1,4 +1,4 @@
--- An answer that gives a chunk of a large answer shows it.
+-- An answer that gives a chunk of a large response shows it.
 use Rattle.std.proofs.Common.{◌≡◌, ◌≤◌, ◌==◌, ℕ, List, [], ◌∷◌, refl, sym, ap, ◌∙◌, subst, drop, length, Bool, true, false, Option, Some, None, is_some, cond, inl, inr}
 use Rattle.std.specs.Prelude.{MatchBool, slice_index}
 use Rattle.std.proofs.lemmas.Bool.{false≢true}
@@ -97,7 +97,7 @@ get_no_data NoEffect gets = refl
 get_no_data (Took a m answer large) gets = refl
 get_no_data (TookData bytes answer) gets = absurd (false≢true gets)
 
--- The bytes that are pending are those that stand for the large answer.
+-- The bytes that are pending are those that stand for the large response.
 whole_is : (p : Place) (place : Option ℕ) (w : List ℕ) (h : History) (m : List ℕ) (t : Turn) (get : IsGet p m t) → Chunked p place w h → get.whole ≡ w
 whole_is p place w h m t get (Gone none) = absurd (none-some get.whole (sym none ∙ get.large))
 whole_is p place w h m t get (Given large given parts) = same_Some get.whole w (sym get.large ∙ large)

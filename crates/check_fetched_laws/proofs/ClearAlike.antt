@@ -1,5 +1,5 @@
--- In the clear: what an answer leads to with some bytes as the large answer that is fetched, it leads to with any others
--- that give the same chunk.
+-- In the clear: what an answer leads to with some bytes as the large response that is fetched, it leads to with any
+-- others that give the same chunk.
 use Rattle.std.proofs.Common.{◌≡◌, ◌<◌, ◌≤◌, ◌==◌, ◌&&◌, ◌⊎◌, ℕ, List, [], ◌∷◌, refl, sym, ap, ◌∙◌, subst, drop, length, Bool, true, false, Option, Some, None, is_some, cond, inl, inr, arith}
 use Rattle.std.specs.Prelude.{not, slice_index}
 use Rattle.std.proofs.lemmas.Bool.{false≢true}

@@ -1,4 +1,4 @@
--- While a large answer is fetched in the clear, the sessions are those that were left before its request.
+-- While a large response is fetched in the clear, the sessions are those that were left before its request.
 use Rattle.std.proofs.Common.{◌≡◌, ◌≢◌, ◌==◌, ℕ, suc, zero, arith, List, [], ◌∷◌, ◌++◌, refl, sym, ap, ◌∙◌, subst, Bool, true, false, Some, None, cond, inl, inr, eq-eqb, eqb-true}
 use Rattle.std.specs.Prelude.{MatchBool, not}
 use Rattle.std.proofs.lemmas.Bool.{false≢true, false_from_ne_true}
@@ -72,7 +72,7 @@ ended (e ∷ s) is = by_past (is_past_handshake (stage_of (e ∷ s))) refl
     by_past true past = absurd (false≢true (sym (ap not past) ∙ is))
     by_past false past = refl
 
--- PSK_EXCHANGE leaves the sessions that are past their handshake.
+-- PSK_EXCHANGE leaves the sessions that are established.
 exchange_leaves : (id : ℕ) (before left : History) → id ≢ 0 → IsWithoutHandshake before left → let s = session_of id before in cond (is_past_handshake (stage_of s)) s [] ≡ session_of id left
 unfolding session_of
 exchange_leaves id before left other (inl none) = settled (session_of id before) (none.0 id other) ∙ ap (session_of id) (sym none.1)

@@ -1,4 +1,4 @@
--- Which rounds in the clear a walk has while a large answer is fetched.
+-- Which rounds in the clear a walk has while a large response is fetched.
 use Rattle.std.proofs.Common.{◌≡◌, ◌≤◌, ◌⊎◌, ℕ, List, [], ◌∷◌, refl, sym, ap, ◌∙◌, subst, drop, Bool, true, false, Some, Result, Ok, Err, inl, inr, ◌+◌, None, arith}
 use Rattle.std.specs.Prelude.{MatchBool}
 use Rattle.std.proofs.lemmas.Bool.{false≢true}
@@ -52,7 +52,7 @@ room_fetches n h k whole rd stands fetches = by_ready fetches
     by_ready (Asks handle number m own body anew ready) = ready_room handle number ready
     by_ready (Has handle number m own body again reply ready) = ready_room handle (number + 1) ready
 
--- A chunk is asked for only while a large answer is fetched, and in the clear it is the next one.
+-- A chunk is asked for only while a large response is fetched, and in the clear it is the next one.
 pub record IsInStep (d : Dialogue) : Type 0 where
   pub known : IsKnown d
   pub so : FetchesSo d

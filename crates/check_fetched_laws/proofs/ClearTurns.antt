@@ -1,5 +1,5 @@
--- A message in the clear while a large answer is fetched: CHUNK_GET, GET_VERSION, or one that is no request. It leads to the
--- same turn whatever bytes stand for the large answer, where these give the same chunk.
+-- A message in the clear while a large response is fetched: CHUNK_GET, GET_VERSION, or one that is no request. It leads
+-- to the same turn whatever bytes stand for the large response, where these give the same chunk.
 use Rattle.std.proofs.Common.{◌≡◌, ◌≢◌, ◌==◌, ◌&&◌, ◌⊎◌, ℕ, List, [], ◌∷◌, refl, sym, ap, ◌∙◌, length, Bool, true, false, Option, Some, None, is_some, is_none, inl, inr, arith}
 use Rattle.std.specs.Prelude.{not}
 use Rattle.std.specs.Option.{option_or}

@@ -1,4 +1,5 @@
--- While a large answer is fetched in the clear, refused answers open, sessions are shown and keys stand as before its request.
+-- While a large response is fetched in the clear, refused answers open, sessions are shown and keys stand as before its
+-- request.
 use Rattle.std.proofs.Common.{◌≢◌, ◌==◌, ℕ, [], ◌∷◌, ◌++◌, ap, ◌∙◌, Bool, true, false, Option, cond, arith}
 use Rattle.spdm_grammar.specs.declared.names.request_code.TheConstants.{GET_VERSION, PSK_EXCHANGE}
 use Rattle.spdm_grammar.specs.declared.told.session_view.SessionView.{SessionView}

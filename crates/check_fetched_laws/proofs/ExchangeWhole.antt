@@ -1,4 +1,5 @@
--- A turn in the clear whose large answer is PSK_EXCHANGE_RSP, and what bytes show that differ from it in the verify data alone.
+-- A turn in the clear whose large response is PSK_EXCHANGE_RSP, and what bytes show that differ from it in the verify
+-- data alone.
 use Rattle.std.proofs.Common.{◌≡◌, ◌<◌, ◌≤◌, ◌==◌, ℕ, List, [], ◌∷◌, ◌++◌, refl, sym, ap, ◌∙◌, subst, length, Bool, true, false, Option, Some, None, cond, if◌then◌else◌, arith, length-append}
 use Rattle.std.specs.Prelude.{slice_index}
 use Rattle.std.proofs.lemmas.Bool.{false≢true}
@@ -54,7 +55,7 @@ pub record IsExchangeOf (r : RspSetup) (p : Place) (m : List ℕ) (f : Free) (wh
   pub asks : request_at p m ≡ Some (PskExchange exchange)
   pub answers : whole ≡ canonical_response (exchange_answer r p m f exchange)
 
--- It came whole, or by chunks.
+-- It came whole, or in chunks.
 pub data ExchangesBy (r : RspSetup) (p : Place) (m : List ℕ) (f : Free) (whole : List ℕ) (c : Option ChunkMessage) : Type 0 where
   Plainly : c ≡ None → IsExchangeOf r p m f whole → ExchangesBy r p m f whole c
   ByChunks : (chunk : ChunkMessage) → c ≡ Some chunk → IsExchangeOf r (inside p) (joined_with (under_way (chunks_of p.turns)) chunk) f whole → ExchangesBy r p m f whole c

@@ -1,4 +1,4 @@
--- What is told of a request while a large answer is fetched, in words of walks.
+-- What is reported of a request while a large response is fetched, in words of walks.
 use Rattle.std.proofs.Common.{◌≡◌, ◌∙◌, ℕ, List, ◌∷◌, refl, sym, subst, Some}
 use Rattle.mctp_framing.specs.Cutting.{RouteFields}
 use Rattle.mctp_framing.specs.Gathering.{Gathered}
@@ -25,7 +25,7 @@ module _ (w : Configuration) (q : ReqSetup) (older : List (List ℕ)) (packet : 
   pub walk_before : Walks w q older (dialogue_of f u)
   walk_before = own.all u own.stands.1
 
-  -- What it makes of what is kept, is kept behind it.
+  -- What it makes of what is kept, is kept after it.
   pub kept_behind : (next : Kept) → AsksKept f.kept (Whole route body) next → IsFetchingOf w q (packet ∷ older) (record f { kept = next })
   kept_behind next asks = fetching_asks w q older packet at.fields f (record f { kept = next }) at.parses at.comes own
       (next, subst (λ (g : Gathered). AsksKept f.kept g next) (sym at.whole) asks, refl)

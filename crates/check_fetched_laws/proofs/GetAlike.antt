@@ -1,5 +1,5 @@
--- CHUNK_GET at two places that differ in the bytes of the large answer that is pending there: it is refused alike, and
--- answered alike where the chunk is the same.
+-- CHUNK_GET at two places that differ in the bytes of the large response that is pending there: it is refused alike,
+-- and answered alike where the chunk is the same.
 use Rattle.std.proofs.Common.{◌≡◌, ◌≢◌, ◌≤◌, ◌+◌, ◌==◌, ◌&&◌, ◌||◌, ℕ, List, [], ◌∷◌, refl, sym, ap, ◌∙◌, subst, length, Bool, true, false, Option, Some, None, is_some, is_none, cond, arith}
 use Rattle.std.specs.Prelude.{not, nat_lt, slice_index, unwrap_or}
 use Rattle.std.specs.Int.{div_ceil}

@@ -1,5 +1,5 @@
--- While a large answer is fetched in the clear, an answer that goes whole leaves the requester asking for the chunk that the
--- responder gives next.
+-- While a large response is fetched in the clear, an answer that goes whole leaves the requester asking for the chunk
+-- that the responder gives next.
 use Rattle.std.proofs.Common.{◌≡◌, ◌<◌, ◌≤◌, ◌+◌, ◌^◌, ◌==◌, ◌&&◌, ◌⊎◌, ℕ, List, [], ◌∷◌, refl, sym, ap, ◌∙◌, subst, drop, length, Bool, true, false, Option, Some, None, is_some, cond, inl, inr, arith, eq-eqb}
 use Rattle.std.specs.Prelude.{IfSome, bytes_eq, not, nat_lt, slice_index}
 use Rattle.std.proofs.lemmas.Bool.{false≢true, not-true, ne_eqb}
@@ -121,7 +121,7 @@ module _ (r : RspSetup) (room : 6 ≤ r.transfer) (given : NextIsGiven) (d : Dia
   abbrev large : History
   large = with_large None whole k
 
-  -- Behind the chunk more are left.
+  -- After the chunk more are left.
   more_left : (tag handle number : ℕ) → IsReady k whole handle number → is_plain large (Adds (get_entry tag handle number (get_response k whole handle number))) ≡ true
       → nat_lt (number + 1) (chunk_count (common_at (clear_turns large)).to_requester.transfer whole) ≡ true
   more_left tag handle number ready plain =

@@ -1,4 +1,5 @@
--- In the clear a large answer begins to be fetched with its first chunk: by LargeResponse, and by LargeResponse again.
+-- In the clear a large response begins to be fetched with its first chunk: by LargeResponse, and by LargeResponse
+-- again.
 use Rattle.std.proofs.Common.{◌≡◌, ◌≤◌, ◌+◌, ◌==◌, ◌&&◌, ◌||◌, ℕ, List, [], ◌∷◌, refl, sym, ap, ◌∙◌, subst, drop, length, Bool, true, false, Option, Some, None, is_some, cond, inl, inr}
 use Rattle.std.specs.Prelude.{not, nat_lt, slice_index}
 use Rattle.std.proofs.lemmas.Bool.{false≢true, not-true}

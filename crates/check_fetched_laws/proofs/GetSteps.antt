@@ -1,5 +1,5 @@
--- While a large answer is fetched in the clear, the requester asks for the chunk that the responder gives next. Each step of a
--- dialogue keeps it.
+-- While a large response is fetched in the clear, the requester asks for the chunk that the responder gives next. Each
+-- step of a dialogue keeps it.
 use Rattle.std.proofs.Common.{◌≡◌, ◌≤◌, ◌+◌, ◌%◌, ◌==◌, ◌&&◌, ◌⊎◌, ℕ, List, [], ◌∷◌, refl, sym, ap, ◌∙◌, subst, drop, Bool, true, false, Option, Some, None, inl, inr, arith, eq-eqb, eqb-true}
 use Rattle.std.specs.Prelude.{bytes_eq, not, nat_lt, slice_index}
 use Rattle.std.proofs.lemmas.Bool.{false≢true, ne_eqb}

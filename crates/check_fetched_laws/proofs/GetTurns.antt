@@ -1,5 +1,5 @@
--- Each step of a dialogue leaves the requester asking for the chunk that the responder gives next, while a large answer is
--- fetched in the clear.
+-- Each step of a dialogue leaves the requester asking for the chunk that the responder gives next, while a large
+-- response is fetched in the clear.
 use Rattle.std.proofs.Common.{◌≡◌, ◌≤◌, ◌+◌, ◌-◌, ◌==◌, ℕ, List, refl, sym, ap, ◌∙◌, subst, true, false, Option, Some, None, is_some, inl, inr}
 use Rattle.std.specs.Prelude.{slice_index}
 use Rattle.std.proofs.lemmas.Bool.{false≢true, false_from_ne_true}

@@ -38,7 +38,7 @@ record_back : (b : Bool) (s : Events) (m : List ℕ) (t : Turn) (reply : List �
 record_back true s m t reply is = heard_back s m t reply (none_or (takes END_SESSION t) (when_live s (Heard m t reply)) is)
 record_back false s m t reply is = is
 
--- Behind PSK_EXCHANGE only the session that it begins is in its handshake.
+-- After PSK_EXCHANGE only the session that it begins is in its handshake.
 past_or : (b : Bool) (s : Events) → is_past_handshake (stage_of s) ≡ b → is_in_handshake (cond b s []) ≡ true → ⊥
 past_or true [] past is = false≢true is
 past_or true (e ∷ s) past is = false≢true (sym (ap not past) ∙ is)

@@ -1,4 +1,5 @@
--- What a requester hears, whether a large answer is fetched or not: what is kept behind it, and whether it asks for a chunk.
+-- What a requester hears, whether a large response is fetched or not: what is kept after it, and whether it asks for a
+-- chunk.
 use Rattle.std.proofs.Common.{◌≡◌, ℕ, List, refl, sym, ap, ◌∙◌, subst, false, Option, Some, None}
 use Rattle.check_requester.specs.Asker.{Carries}
 use Rattle.check_requester.specs.HeardKept.{asks_upon, heard_kept}
@@ -24,7 +25,7 @@ use Rattle.capture_machine.specs.LargeAnswers.{is_fetching}
 use Rattle.capture_machine.specs.Rounds.{Dialogue, Round, no_draw}
 use Rattle.world_machine.specs.Setup.{Configuration}
 
--- The requester heard an answer, and this is its history behind it.
+-- The requester heard an answer, and this is its history after it.
 pub record IsHeardOn (k : Kept) (d : Dialogue) (tag : ℕ) (round : Round) (answer : List ℕ) (behind : History) : Type 0 where
   pub history : requester_history.History
   pub hears : Hears d tag answer history

@@ -1,4 +1,4 @@
--- What both ends can do stays behind a message in the clear that is neither GET_VERSION nor GET_CAPABILITIES.
+-- What both ends can do stays after a message in the clear that is neither GET_VERSION nor GET_CAPABILITIES.
 use Rattle.std.proofs.Common.{◌≡◌, ◌++◌, ◌∷◌, ℕ, List, [], refl, sym, ap, ◌∙◌, subst, Bool, true, false, cond, eqb-true, inl, inr}
 use Rattle.std.specs.Prelude.{◌==◌, MatchBool}
 use Rattle.std.proofs.lemmas.Bool.{false≢true}
@@ -23,7 +23,7 @@ common_stays tag t d h version caps =
 get_no_caps : (t : Turn) → takes CHUNK_GET t ≡ true → takes GET_CAPABILITIES t ≡ false
 get_no_caps t gets = ap (λ (n : ℕ). n == GET_CAPABILITIES) (eqb-true (code_in t.effect) CHUNK_GET gets)
 
--- So it does behind CHUNK_GETs.
+-- So it does after CHUNK_GETs.
 pub gets_common : (gets : List Entry) (h : History) → AreGets gets → (place_terms (clear_place (gets ++ h))).common ≡ (place_terms (clear_place h)).common
 gets_common [] h are = refl
 gets_common (Clear tag t d ∷ gets) h are =
@@ -34,7 +34,7 @@ gets_common (Queued bytes ∷ gets) h are = absurd (false≢true are.0)
 gets_common (Ticked seconds ∷ gets) h are = absurd (false≢true are.0)
 gets_common (Dropped id ∷ gets) h are = absurd (false≢true are.0)
 
--- The entry behind them was not GET_CAPABILITIES, where its answer was not seen.
+-- The entry after them was not GET_CAPABILITIES, where its answer was not seen.
 pub settles_at : (gets : List Entry) (e : Entry) (h : History) → Settles (gets ++ e ∷ h) → SettlesEntry e
 settles_at [] e h settles = settles.0
 settles_at (x ∷ gets) e h settles = settles_at gets e h settles.1

@@ -1,4 +1,4 @@
--- A new LargeResponse hangs on no byte of the large answer that is fetched.
+-- A new LargeResponse depends on no byte of the large response that is fetched.
 use Rattle.std.proofs.Common.{◌≡◌, ◌≤◌, ◌==◌, ℕ, List, [], ◌∷◌, refl, sym, ap, ◌∙◌, subst, drop, length, Bool, true, false, Option, Some, None, cond}
 use Rattle.std.specs.Prelude.{slice_index}
 use Rattle.std.proofs.lemmas.Bool.{false≢true}
@@ -42,7 +42,7 @@ place_is r g ids tag body e type may =
     let led = adds_here r g ids tag body e (led_record r (with_dropped g ids) tag body (Adds e) type may) in
     ap (place_of g) (sym (record_added r led.free tag (drop 1 body) e g led.leads))
 
--- It goes by chunks in each session with these terms.
+-- It is sent in chunks in each session with these terms.
 large_by : (s u : Events) (whole : List ℕ) → EventsAlike s u → IsLargeAnswer (session_place s) whole → IsLargeAnswer (session_place u) whole
 large_by s u whole e large = subst (λ (n : Negotiation). IsLargeAnswer (record (session_place u) { negotiation = n }) whole) (negotiation_alike s u e) large
 

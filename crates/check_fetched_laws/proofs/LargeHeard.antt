@@ -133,7 +133,7 @@ module _ (q : ReqSetup) (h : History) (f : Free) where
   led_first (ForChunk x own number before) a c handle is other = absurd (false≢true (sym other))
   led_first (InSession id ask) a c handle is other = absurd (none-some a is)
 
-  -- If a chunk is asked for behind one that is not the last, it is the next one.
+  -- If a chunk is asked for after one that is not the last, it is the next one.
   abbrev AsksNext : RequestMessage → ChunkMessage → List ChunkMessage → Result Led ReqIgnored → Type 0
   AsksNext a c before (Ok led) = is_fetching led.next ≡ true → led.next ≡ Some (get_sent h a c.handle (c.number + 1) (c ∷ before))
   AsksNext a c before (Err cause) = Unit {0}

@@ -1,4 +1,4 @@
--- In a walk each request in the clear whose large answer was not seen was answered by LargeResponse.
+-- In a walk each request in the clear whose large response was not seen was answered by LargeResponse.
 use Rattle.std.proofs.Common.{◌≡◌, ℕ, List, [], ◌∷◌, sym, ap, ◌∙◌, subst, Bool, true, false, Option, Result, Ok, Err, cond, inl, inr}
 use Rattle.std.specs.Prelude.{MatchBool}
 use Rattle.std.proofs.lemmas.Bool.{false≢true}

@@ -1,4 +1,4 @@
--- Whether the verify data of the last chunk of a large answer are alone wrong is told from what is shown.
+-- Whether the verify data of the last chunk of a large response are alone wrong is determined by what is shown.
 use Rattle.std.proofs.Common.{◌≡◌, ◌<◌, ◌≤◌, ◌==◌, ◌&&◌, ◌||◌, ℕ, List, [], ◌∷◌, ◌++◌, refl, sym, ap, ◌∙◌, subst, length, Bool, true, false, Option, Some, None, is_some, cond, inl, inr, eq-eqb, eqb-true}
 use Rattle.std.specs.Prelude.{MatchBool, not, slice_index}
 use Rattle.std.proofs.lemmas.Bool.{false≢true}
@@ -126,7 +126,7 @@ module _ (r : RspSetup) (byte : r.beat < 256) (before : History) (tag : ℕ) (t 
   abbrev with_bytes : List ℕ → Entry
   with_bytes w = Clear tag (seen_turn w t) dr
 
-  -- The request leads to the other bytes, behind some drops and at some values.
+  -- The request leads to the other bytes, after some drops and at some values.
   module _ (ids : List ℕ) (v : Free) (leads : LeadsAt r (with_dropped before ids) tag (clear_body t.message) (Adds (with_bytes other)) v) where
     abbrev g : History
     g = with_dropped before ids

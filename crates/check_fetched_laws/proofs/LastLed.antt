@@ -1,4 +1,5 @@
--- Behind CHUNK_GETs in the clear: what the newest large answer that was not seen is judged by, and the history with its bytes.
+-- After CHUNK_GETs in the clear: what the newest large response that was not seen is judged by, and the history with
+-- its bytes.
 use Rattle.std.proofs.Common.{◌≡◌, ◌==◌, ◌&&◌, ◌||◌, ◌++◌, ◌∙◌, ℕ, List, [], ◌∷◌, refl, sym, ap, subst, Bool, true, false, Option, Some, None, cond, is_some}
 use Rattle.std.specs.Prelude.{MatchBool, not}
 use Rattle.std.proofs.lemmas.Bool.{false≢true}
@@ -45,7 +46,7 @@ module _ (v : List ℕ) (e : Entry) (before : History) (unseen : IsUnseenRequest
   drops_are (Ticked seconds ∷ gets) are = absurd (false≢true are.0)
   drops_are (Dropped id ∷ gets) are = absurd (false≢true are.0)
 
-  -- Its request leads to these bytes exactly where it does behind no CHUNK_GET.
+  -- Its request leads to these bytes exactly when it does after no CHUNK_GET.
   pub shown_entry : (r : RspSetup) (gets : List Entry) → AreGets gets → IsShownWhole r None v (gets ++ e ∷ before) → IsShownEntry r before (seen v e)
   shown_entry r [] are is = subst (λ (b : Bool). MatchBool b (IsShownEntry r before (seen v e)) (IsShownWhole r None v before)) (unseen_clear e unseen) is
   shown_entry r (Clear tag t d ∷ gets) are is =

@@ -1,4 +1,4 @@
--- Whether an answer is the last chunk of a large one is told from what both show.
+-- Whether an answer is the last chunk of a large one is determined by what both show.
 use Rattle.std.proofs.Common.{◌≡◌, ◌<◌, ℕ, List, ◌∷◌, refl, sym, ap, ◌∙◌, subst, true, Option}
 use Rattle.std.proofs.lemmas.Bool.{false≢true}
 use Rattle.std.proofs.lemmas.Option.{same_Some}
@@ -58,7 +58,7 @@ last_is_shown r d round answer whole next byte fetching = (shown_from_last, last
     judged : judging d.fetching round.body d.responder ≡ g
     judged = ap (λ (o : Option (List ℕ)). judging o round.body d.responder) fetching
 
-    -- The history behind it, by what it leads to.
+    -- The history after it, by what it leads to.
     behind : Outcome → History
     behind o = after (with_large place whole (dropped_before_large place drops h)) o
 

@@ -1,4 +1,4 @@
--- What a request in the clear is answered with while a large answer is fetched there.
+-- What a request in the clear is answered with while a large response is fetched there.
 use Rattle.std.proofs.Common.{◌≡◌, ◌+◌, ◌∙◌, ℕ, List, [], ◌∷◌, refl, sym, ap, subst, Bool, true, false, Option, Some, None, is_some}
 use Rattle.std.proofs.lemmas.Bool.{false≢true}
 use Rattle.std.proofs.lemmas.Option.{same_Some}
@@ -24,7 +24,7 @@ use Rattle.capture_machine.specs.CapturedAnswers.{AnswersLarge, AnswersPlainly, 
 use Rattle.capture_machine.specs.LargeAnswers.{begun_with, dropped_before_large, gives_last, is_large, is_untouched, judging, place_named, with_large}
 use Rattle.capture_machine.specs.Rounds.{Dialogue, Round}
 
--- An answer that goes whole to a message in the clear, with these bytes as the large answer.
+-- An answer that goes whole to a message in the clear, with these bytes as the large response.
 abbrev pub Plainly : RspSetup → History → (whole : List ℕ) → (tag : ℕ) → (m answer : List ℕ) → (next : History) → Type 0
 Plainly r h whole tag m answer next =
     (dropped : List ℕ) × (outcome : Outcome)

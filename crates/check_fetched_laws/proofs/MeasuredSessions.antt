@@ -1,4 +1,4 @@
--- In a session only MEASUREMENTS go by LargeResponse, so each large answer there is one, in each walk.
+-- In a session only MEASUREMENTS go by LargeResponse, so each large response there is one, in each walk.
 use Rattle.std.proofs.Common.{◌≡◌, ◌≤◌, ◌+◌, ◌==◌, ◌&&◌, ◌||◌, ℕ, List, [], ◌∷◌, refl, sym, ap, ◌∙◌, subst, drop, length, Bool, true, false, Option, Some, None, Result, Ok, Err, is_some, cond, inl, inr, arith}
 use Rattle.std.specs.Prelude.{MatchBool, nat_lt, slice_index, not}
 use Rattle.std.proofs.Math.Bool.{and-false, or-true}
@@ -51,7 +51,7 @@ use Rattle.world_machine.specs.Setup.{Configuration, known_of}
 
 -- ---- What goes by LargeResponse in a session.
 
--- A turn with a large answer, seen or not.
+-- A turn with a large response, seen or not.
 abbrev pub goes_by_chunks : Turn → Bool
 goes_by_chunks t = is_unseen_effect t.effect || is_some (handle_in t.effect)
 

@@ -1,4 +1,4 @@
--- The MEASUREMENTS that are fetched in a session are as pending behind a request that is refused there.
+-- The MEASUREMENTS that are fetched in a session are as pending after a request that is refused there.
 use Rattle.std.proofs.Common.{◌≡◌, ◌+◌, ◌||◌, ℕ, List, ◌∷◌, refl, ap, ◌∙◌, Bool, true, false, Option, Some, None, is_none, is_some, cond}
 use Rattle.std.specs.Prelude.{not}
 use Rattle.std.proofs.lemmas.Bool.{false≢true}

@@ -59,7 +59,8 @@ IsTurnOf t led =
     ((t ≡ led) × (is_some (handle_in led.effect) ≡ false))
     ⊎ ((t ≡ turn_with [] None led) × (is_some (handle_in led.effect) ≡ true))
 
--- A record was led to this turn and this reply from a session that was as it is in this history, but for a large answer.
+-- A record was led to this turn and this reply from a session that was as it is in this history, but for a large
+-- response.
 pub record LedHere (r : RspSetup) (before : History) (m : List ℕ) (t : Turn) (reply : List ℕ) (d : Draw) : Type 0 where
   pub s : Events
   pub alike : SeenAlike s (session_of (id_in_record m) before)
@@ -216,7 +217,7 @@ dropped_alike n (x ∷ ids) g h a =
     (subst (λ (s : Events). SeenAlike s (session_of n (Dropped x ∷ h))) (sym (session_dropped x n g))
     (subst (SeenAlike (cond (x == n) [] (session_of n g))) (sym (session_dropped x n h)) (drop_alike (x == n) (session_of n g) (session_of n h) a)))
 
--- A session that is live behind drops is as before them.
+-- A session that is live after drops is as before them.
 kept_alike : (n : ℕ) (ids : List ℕ) (g h : History) → is_live (session_of n (with_dropped g ids)) ≡ true → SeenAlike (session_of n g) (session_of n h) → SeenAlike (session_of n (with_dropped g ids)) (session_of n h)
 kept_alike n ids g h live a = elim (dropped_session n g ids) [
   | inl same ↦ subst (λ (s : Events). SeenAlike s (session_of n h)) (sym same) a

@@ -1,4 +1,5 @@
--- A repeat may always be answered with what it got; and while a large answer is fetched in the clear, no other one begins.
+-- A repeat may always be answered with what it got; and while a large response is fetched in the clear, no other one
+-- begins.
 use Rattle.std.proofs.Common.{◌≡◌, ◌≤◌, ◌∙◌, ℕ, List, [], refl, sym, ap, subst, length, Bool, true, Option, Some, None, cond, drop, eqb-true, inl, inr, arith}
 use Rattle.std.proofs.lemmas.Option.{none-some, same_Some}
 use Rattle.std.specs.Prelude.{slice_index}

@@ -1,4 +1,4 @@
--- While a large answer is fetched no answer in the clear carries PSK_EXCHANGE_RSP.
+-- While a large response is fetched no answer in the clear carries PSK_EXCHANGE_RSP.
 use Rattle.std.proofs.Common.{◌≡◌, ◌==◌, ℕ, List, [], ◌∷◌, refl, sym, ap, ◌∙◌, subst, drop, Bool, true, false, Option, Some, None, cond, inl, inr}
 use Rattle.std.specs.Prelude.{MatchBool, slice_index}
 use Rattle.std.proofs.lemmas.Bool.{false≢true}
@@ -141,7 +141,7 @@ quiet_stands h whole tag body type stand large carry (inr fetch) = by_how fetch.
     by_how (Seals sealed within) = absurd (false≢true (sym sealed ∙ type))
 
 module _ (r : RspSetup) (k : History) (whole : List ℕ) (tag : ℕ) (body : List ℕ) (type : (slice_index body 0 == 5) ≡ true) (quiet : IsQuietRequest k tag (drop 1 body)) where
-  -- Neither drops nor the bytes of the large answer change what is kept.
+  -- Neither drops nor the bytes of the large response change what is kept.
   kept_is : (ids : List ℕ) → kept_of (with_dropped (with_large (place_named body) whole k) ids) ≡ kept_of k
   kept_is ids = kept_same ids (with_large (place_named body) whole k) ∙ kept_large (place_named body) whole k
 

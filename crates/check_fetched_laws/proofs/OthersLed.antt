@@ -61,7 +61,7 @@ no_large (Took a m answer None) small = refl
 no_large (Took a m answer (Some handle)) small = absurd (false≢true (sym small))
 no_large (TookData bytes answer) small = refl
 
--- A request that is refused leaves it; any other one that is no CHUNK_GET, and has no large answer, ends it.
+-- A request that is refused leaves it; any other one that is no CHUNK_GET, and has no large response, ends it.
 pub pending_behind : (s : Events) (m : List ℕ) (t : Turn) (reply : List ℕ) → takes CHUNK_GET t ≡ false → is_some (handle_in t.effect) ≡ false → has_pending (session_place (Heard m t reply ∷ s)) ≡ (is_some t.refused && has_pending (session_place s))
 pending_behind s m t reply none small = by_refused t.refused refl
   where

@@ -1,4 +1,4 @@
--- Other bytes as the large answer that is fetched in a session: the history of the definitions with them.
+-- Other bytes as the large response that is fetched in a session: the history of the definitions with them.
 use Rattle.std.proofs.Common.{◌≡◌, ◌≢◌, ◌==◌, ◌&&◌, ◌||◌, ℕ, List, [], ◌∷◌, refl, sym, ap, ◌∙◌, subst, Bool, true, false, Some, None, cond}
 use Rattle.std.specs.Prelude.{bytes_eq, not}
 use Rattle.std.proofs.lemmas.Bool.{false≢true}
@@ -23,7 +23,7 @@ use Rattle.capture_machine.specs.LargeAnswers.{effect_with, handle_shown, is_uns
 
 -- ---- What is pending in a session, without its newest entry.
 
--- These bytes are the large answer of the session.
+-- These bytes are the large response of the session.
 abbrev pub IsLargeOf : (id : ℕ) → History → List ℕ → Type 0
 IsLargeOf id g w = large_of (turns_of (session_of id g)) ≡ Some w
 
@@ -82,7 +82,7 @@ own_behind id tag m t reply d g w own is =
     let here : HasLarge (after_record (session_of id g) m t reply) w = subst (λ (b : Bool). HasLarge (cond b (after_record (session_of id g) m t reply) (session_of id g)) w) own is in
     live_large (session_of id g) m t reply w (cond_large (takes END_SESSION t) (when_live (session_of id g) (Heard m t reply)) w here)
 
--- What it is behind a turn.
+-- What it is after a turn.
 passed_large : (t : Turn) (ts : List Turn) (w : List ℕ) → passes t ≡ true → large_of (t ∷ ts) ≡ Some w → large_of ts ≡ Some w
 passed_large t ts w is large = sym (ap (λ (b : Bool). cond b (large_of ts) (large_in t.effect)) is) ∙ large
 
@@ -115,7 +115,7 @@ same_put id w (Sealed tag m t reply d ∷ g) is = same_by id tag m t reply d w g
 
 -- ---- Other bytes.
 
--- Both are the large answer of the session, each in its history; so it is the one that was not seen.
+-- Both are the large response of the session, each in its history; so it is the one that was not seen.
 abbrev AreBoth : (id : ℕ) → (w v : List ℕ) → History → Type 0
 AreBoth id w v h = IsLargeOf id (with_large (Some id) w h) w × IsLargeOf id (with_large (Some id) v h) v
 

@@ -1,4 +1,4 @@
--- In the clear a large answer is ready to be given chunk by chunk: from LargeResponse on, and behind each chunk.
+-- In the clear a large response is ready to be given chunk by chunk: from LargeResponse on, and after each chunk.
 use Rattle.std.proofs.Common.{◌≡◌, ◌<◌, ◌≤◌, ◌+◌, ◌-◌, ◌*◌, ◌^◌, ℕ, zero, suc, List, [], ◌∷◌, refl, sym, ap, ◌∙◌, length, Bool, true, false, Option, Some, None, is_some, cond, arith}
 use Rattle.std.specs.Prelude.{nat_lt, not, slice_index, unwrap_or}
 use Rattle.std.proofs.lemmas.Bool.{false≢true, lt-ltb}
@@ -63,7 +63,7 @@ common_same t ts us same = by_caps (takes GET_CAPABILITIES t) refl
     by_caps true is = both (takes GET_VERSION t) (takes GET_CAPABILITIES t) (takes NEGOTIATE_ALGORITHMS t) is
     by_caps false is = common_next t ts is ∙ ap (cond (takes GET_VERSION t) (terms_of no_negotiation).common) same ∙ sym (common_next t us is)
 
--- The bytes of a large answer are not among it.
+-- The bytes of a large response are not among it.
 pub common_given : (whole : List ℕ) (h : History) → Settles h → common_at (clear_turns (with_large None whole h)) ≡ common_at (clear_turns h)
 common_given whole [] settles = refl
 common_given whole (Clear tag t d ∷ h) settles = by_unseen (is_unseen_effect t.effect) refl (common_given whole h settles.1)
@@ -105,7 +105,7 @@ ready_few h whole handle number ready =
     let more = ready.more in
     count_small (terms_of n).common.to_requester.transfer number whole (chunk_sized n ready.chunks) ready.short (grind (arith, nat_tests))
 
--- Behind a chunk that is not the last one.
+-- After a chunk that is not the last one.
 pub ready_next : (h : History) (whole : List ℕ) (tag handle number : ℕ) → IsReady h whole handle number
     → nat_lt (number + 1) (chunk_count (common_at (clear_turns (with_large None whole h))).to_requester.transfer whole) ≡ true
     → IsReady (get_entry tag handle number (get_response h whole handle number) ∷ h) whole handle (number + 1)

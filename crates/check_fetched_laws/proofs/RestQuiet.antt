@@ -1,4 +1,4 @@
--- In a walk no large answer is pending in the clear: what was not seen is not, and what was seen was given whole.
+-- In a walk no large response is pending in the clear: what was not seen is not, and what was seen was given whole.
 use Rattle.std.proofs.Common.{◌≡◌, ◌+◌, ◌==◌, ◌&&◌, ◌||◌, ℕ, List, [], ◌∷◌, refl, sym, ap, ◌∙◌, subst, drop, Bool, true, false, Option, Some, None, Result, Ok, Err, cond, inl, inr, eqb-true, is_some, arith}
 use Rattle.std.proofs.lemmas.Bool.{false≢true, not-true}
 use Rattle.std.proofs.lemmas.Bool.Decides.{nat_tests}
@@ -193,7 +193,7 @@ large_same place w ids (e ∷ h) = by_is (is_unseen_in place e) refl (large_same
         ap (λ (b : Bool). clear_turns (cond b (seen w e ∷ dropped_before_large place ids h) (e ∷ with_large place w (dropped_before_large place ids h)))) is
         ∙ same_next e (with_large place w (dropped_before_large place ids h)) (with_large place w h) rest
 
--- The large answer of a session is in no turn of the clear part.
+-- The large response of a session is in no turn of the clear part.
 turns_fetched : (id : ℕ) (w : List ℕ) (h : History) → clear_turns (with_large (Some id) w h) ≡ clear_turns h
 turns_fetched id w [] = refl
 turns_fetched id w (Clear tag t d ∷ h) = ap (λ (ts : List Turn). t ∷ ts) (turns_fetched id w h)

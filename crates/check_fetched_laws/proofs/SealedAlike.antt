@@ -1,5 +1,5 @@
--- In a session: what an answer to a record leads to with some bytes as the large answer that is fetched, it leads to with any
--- others that give the same chunk.
+-- In a session: what an answer to a record leads to with some bytes as the large response that is fetched, it leads to
+-- with any others that give the same chunk.
 use Rattle.std.proofs.Common.{◌≡◌, ◌≤◌, ◌==◌, ◌&&◌, ◌||◌, ℕ, List, [], ◌∷◌, refl, sym, ap, ◌∙◌, subst, drop, length, Bool, true, false, Option, Some, None, is_none, cond, inl, inr}
 use Rattle.std.specs.Prelude.{not, slice_index}
 use Rattle.std.proofs.lemmas.Bool.{false≢true}
@@ -189,7 +189,7 @@ turns_within id w (e ∷ h) = turns_by id w e h (is_unseen_in (Some id) e) refl 
 
 -- ---- The session.
 
--- The large answer that is fetched is one of the session that the record names.
+-- The large response that is fetched is one of the session that the record names.
 module _ (h : History) (w : List ℕ) (tag : ℕ) (body : List ℕ) (type : (slice_index body 0 == 5) ≡ false) where
   stand : Getting h tag body → UnseenStand h
   stand (Asks handle number is since) = absurd (false≢true (sym type ∙ asks_type handle number body is))
@@ -257,7 +257,7 @@ module _ (r : RspSetup) (few : (h : History) (p : Place) (m : List ℕ) → leng
         (ap (λ (n : Negotiation). request_in (hash_len (terms_of n)) text) (negotiation_alike s u (all id))) (chunked w one) (chunked v other) (session_turn r s (opened r.psk s m) f)
         (session_get r s (opened r.psk s m) f gets) same.0 same.1
 
-    -- Where the request may lead to an outcome behind some drops, by histories that are alike.
+    -- Where the request may lead to an outcome after some drops, by histories that are alike.
     leads_by : (g k : History) (x : Outcome) → ended_of g ≡ ended_of k → phase_of (clear_turns g) ≡ phase_of (clear_turns k) → (alike : (i : ℕ) → EventsAlike (session_of i g) (session_of i k))
         → (waits : has_pending (session_place (session_of id g)) ≡ has_pending (session_place (session_of id k)))
         → ((f : Free) → gives_chunk x ≡ true → SameGet r tag m f (session_of id g) (session_of id k) (alike id) waits) → MayLeadTo r g tag body x → MayLeadTo r k tag body x
@@ -339,7 +339,7 @@ module _ (r : RspSetup) (few : (h : History) (p : Place) (m : List ℕ) → leng
   plain_too (Unopened b) may might plain = plain
   plain_too (Adds e) may might plain = ap (λ (b : Bool). not (is_large e) && not b) (sym (lasts e may might)) ∙ plain
 
-  -- The same is led to, behind the same drops.
+  -- The same is led to, after the same drops.
   pub sealed_alike : (pending : has_pending (session_place (events w)) ≡ has_pending (session_place (events v))) (ids : List ℕ) (x : Outcome) → (gives_chunk x ≡ true → SameChunk) → MayLeadAfter r (large w) ids tag body x → AreShown r (large w) body x ids → is_plain (large w) x ≡ true
       → MayLeadAfter r (large v) ids tag body x × AreShown r (large v) body x ids × (is_plain (large v) x ≡ true)
   sealed_alike pending [] x same may shown plain =

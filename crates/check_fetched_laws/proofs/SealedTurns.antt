@@ -1,5 +1,5 @@
--- A record of a session in which a large answer is fetched: its inner message leads to the same turn whatever bytes stand for
--- the large answer, where these give the same chunk.
+-- A record of a session in which a large response is fetched: its inner message leads to the same turn whatever bytes
+-- stand for the large response, where these give the same chunk.
 use Rattle.std.proofs.Common.{◌≡◌, ◌≢◌, ◌≤◌, ◌==◌, ◌&&◌, ◌||◌, ℕ, List, [], ◌∷◌, refl, sym, ap, ◌∙◌, subst, length, drop, Bool, true, false, Option, Some, None, is_some, cond}
 use Rattle.std.specs.Prelude.{bytes_eq, not, nat_lt, slice_index}
 use Rattle.std.specs.Option.{option_or}

@@ -1,5 +1,5 @@
--- A connection that judges with some bytes in the place of a large answer of a session, which is gone by now, stands for the
--- history without them.
+-- A connection that judges with some bytes in the place of a large response of a session, which is gone by now, stands
+-- for the history without them.
 use Rattle.std.proofs.Common.{◌≡◌, ◌≢◌, ◌==◌, ◌&&◌, ℕ, List, [], ◌∷◌, refl, sym, ap, ◌∙◌, subst, Bool, true, false, Some, cond, eq-eqb, eqb-true, ne_eqb}
 use Rattle.std.proofs.lemmas.Bool.{false≢true}
 use Rattle.spdm_basis.proofs.Bools.{and_first}

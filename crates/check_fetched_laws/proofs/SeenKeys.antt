@@ -1,5 +1,5 @@
--- The keys of answers that are kept of a history are those of it with some bytes as a large answer that was not seen in a
--- session; and its sessions are shown alike.
+-- The keys of answers that are kept of a history are those of it with some bytes as a large response that was not seen
+-- in a session; and its sessions are shown alike.
 use Rattle.std.proofs.Common.{◌≡◌, ℕ, List, [], ◌∷◌, refl, sym, ap, subst, Bool, true, false, Option, Some, None, cond}
 use Rattle.std.specs.Prelude.{MatchBool}
 use Rattle.key_schedule.specs.Purpose.{Purpose}

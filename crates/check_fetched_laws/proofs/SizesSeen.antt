@@ -1,4 +1,4 @@
--- The sizes of messages, and the data that wait, hang on no byte of a large answer that was not seen.
+-- The sizes of messages, and the data that wait, depend on no byte of a large response that was not seen.
 use Rattle.std.proofs.Common.{◌≡◌, ◌==◌, ◌&&◌, ℕ, List, [], ◌∷◌, ◌++◌, drop, refl, sym, ap, ◌∙◌, subst, Bool, true, false, Option, Some, None, cond}
 use Rattle.std.proofs.lemmas.Bool.{false≢true}
 use Rattle.responder_core.specs.Connected.{HasSizesAt}
@@ -47,7 +47,7 @@ turn_behind t l k same = record {
   caps = settled_same t t (negotiation_of l) (negotiation_of k) (takes GET_VERSION t) (takes GET_CAPABILITIES t) (takes NEGOTIATE_ALGORITHMS t) (λ is. refl) same.caps;
 }
 
--- Its large answer may be any but CAPABILITIES.
+-- Its large response may be any but CAPABILITIES.
 turn_seen : (t : Turn) (x : Effect) (n : ℕ) (v : List ℕ) (l : List Turn) → is_unseen_effect x ≡ true → (code_in x == GET_CAPABILITIES) ≡ false → SameSizes (record t { effect = effect_with v (Some n) x } ∷ l) (record t { effect = x } ∷ l)
 turn_seen t NoEffect n v l is caps = absurd (false≢true is)
 turn_seen t (TookData bytes answer) n v l is caps = absurd (false≢true is)

@@ -1,4 +1,4 @@
--- What an answer to a record holds hangs on no byte of the large answer that is fetched in its session.
+-- What an answer to a record holds depends on no byte of the large response that is fetched in its session.
 use Rattle.std.proofs.Common.{◌≡◌, ◌==◌, ◌+◌, ℕ, List, [], refl, sym, ap, ◌∙◌, drop, Bool, true, false, None, cond}
 use Rattle.std.specs.Prelude.{slice_index}
 use Rattle.std.proofs.lemmas.Bool.{false≢true}

@@ -1,4 +1,4 @@
--- Turns that differ in the bytes of one large answer at most: what CHUNK_GET goes by is the same.
+-- Turns that differ in the bytes of one large response at most: what CHUNK_GET goes by is the same.
 use Rattle.std.proofs.Common.{◌≡◌, ◌+◌, ℕ, List, [], ◌∷◌, refl, sym, ap, ◌∙◌, Bool, true, false, Option, Some, None, cond}
 use Rattle.std.specs.Prelude.{not, unwrap_or}
 use Rattle.std.proofs.lemmas.Bool.{false≢true}

@@ -1,5 +1,6 @@
--- Behind another request that a session takes, the large answer that was fetched there is one that went by LargeResponse, and of
--- which no chunk is left: that is all by which it differs from the session in which that answer was never seen.
+-- After another request that a session takes, the large response that was fetched there is one that went by
+-- LargeResponse, and of which no chunk is left: that is all by which it differs from the session in which that answer
+-- was never seen.
 use Rattle.std.proofs.Common.{◌≡◌, ◌≢◌, ◌+◌, ◌||◌, ℕ, List, [], ◌∷◌, refl, sym, ap, ◌∙◌, drop, Bool, true, false, Option, Some, None, is_some, cond}
 use Rattle.std.specs.Prelude.{not, unwrap_or}
 use Rattle.std.proofs.lemmas.Bool.{false≢true}
@@ -92,7 +93,7 @@ uncounted_more m t reply s u none small is = record {
     by_taken true taken = left_taken transfer t none small (turns_of s) taken ∙ sym (left_taken transfer t none small (turns_of u) taken)
     by_taken false refused = left_refused transfer t none small (turns_of s) refused ∙ is.large.left ∙ sym (left_refused transfer t none small (turns_of u) refused)
 
--- The large answer was pending, and the record was taken.
+-- The large response was pending, and the record was taken.
 pub uncounted_first : (m : List ℕ) (t : Turn) (reply : List ℕ) (s : Events) → is_some (large_of (turns_of s)) ≡ true → last_takes GET_MEASUREMENTS (turns_of s) ≡ true → is_taken t ≡ true → takes CHUNK_GET t ≡ false
     → is_some (handle_in t.effect) ≡ false → IsUncounted (Heard m t reply ∷ s) (Heard m t reply ∷ events_unseen s)
 uncounted_first m t reply s some measured taken none small =
@@ -130,7 +131,7 @@ left_new transfer t ts us taken none large =
 larges_new : (t : Turn) (ts : List Turn) → is_some (handle_in t.effect) ≡ true → larges_of (t ∷ ts) ≡ larges_of ts + 1
 larges_new t ts large = ap (λ (b : Bool). cond b (larges_of ts + 1) (larges_of ts)) large
 
--- Behind it the sessions differ by the answer before it alone.
+-- After it the sessions differ by the answer before it alone.
 pub uncounted_turned : (m : List ℕ) (t : Turn) (reply : List ℕ) (s u : Events) → is_taken t ≡ true → takes CHUNK_GET t ≡ false → is_some (handle_in t.effect) ≡ true → IsAlike s u → larges_of (turns_of s) ≡ larges_of (turns_of u) + 1
     → IsUncounted (Heard m t reply ∷ s) (Heard m t reply ∷ u)
 uncounted_turned m t reply s u taken none large alike more = record {
@@ -141,7 +142,7 @@ uncounted_turned m t reply s u taken none large alike more = record {
   };
 }
 
--- Where a large answer is pending, it counts.
+-- Where a large response is pending, it counts.
 pub pending_counts : (s : Events) → is_some (large_of (turns_of s)) ≡ true → larges_of (turns_of s) ≡ larges_of (turns_of (events_unseen s)) + 1
 pending_counts s some = (forgotten (turns_of s) some).larges ∙ sym (ap (λ (l : List Turn). larges_of l + 1) (turns_forgotten s))
 

@@ -237,7 +237,7 @@ sized_not n tag (Queued bytes ∷ h) stands stand known = absurd stand.0
 sized_not n tag (Ticked seconds ∷ h) stands stand known = absurd stand.0
 sized_not n tag (Dropped id ∷ h) stands stand known = sized_not n tag h stands.1 stand.1 known
 
--- Nor is it while a large answer is fetched.
+-- Nor is it while a large response is fetched.
 gets_not : (n tag : ℕ) (gets : List Entry) (h : History) → AreGets gets → FormStand n (gets ++ h) → UnseenStand (gets ++ h) → is_repeat (kept_of h) tag (canonical_request GetVersion) ≡ false → is_repeat (kept_of (gets ++ h)) tag (canonical_request GetVersion) ≡ false
 gets_not n tag [] h are stands stand rest = rest
 gets_not n tag (Clear other t d ∷ gets) h are stands stand rest = by_taken (is_taken t) refl (gets_not n tag gets h are.1 stands.1 stand.1 rest)

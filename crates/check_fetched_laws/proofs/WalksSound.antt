@@ -28,7 +28,7 @@ unfolding StepsTo
 walks_sound w q [] d walk = subst IsSound (sym walk) (begins_sound q)
 walks_sound w q (packet ∷ older) d walk = step_sound w q.eid older walk.0 d (parsed packet) (walks_sound w q older walk.0 walk.1) walk.2
 
--- Of the large answer that is fetched.
+-- Of the large response that is fetched.
 pub walk_stands : (c : Configuration) (q : ReqSetup) (older : List (List ℕ)) (d : Dialogue) (w : List ℕ) (round : Round) → Walks c q older d → d.fetching ≡ Some w → d.round ≡ Some round → Stands d.responder w round.tag round.body
 walk_stands c q older d w round walk fetching at =
     let old = (walks_sound c q older d walk).fetched w fetching in

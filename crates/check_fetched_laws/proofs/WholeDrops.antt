@@ -1,4 +1,4 @@
--- Which session was dropped before the request of a large answer, the whole answer shows.
+-- Which session was dropped before the request of a large response, the whole answer shows.
 use Rattle.std.proofs.Common.{◌≡◌, ◌<◌, ◌==◌, ◌&&◌, ℕ, List, [], ◌∷◌, refl, sym, ap, ◌∙◌, subst, Bool, true, false, Option, Some, None, cond, inl, inr, eqb-true, eq-eqb}
 use Rattle.std.specs.Prelude.{MatchBool}
 use Rattle.std.proofs.lemmas.Bool.{false≢true}

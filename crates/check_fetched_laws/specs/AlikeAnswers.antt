@@ -1,5 +1,5 @@
--- While a large answer is fetched, an answer hangs on no more of its bytes than on those of the chunk that it gives. This
--- project's own.
+-- While a large response is fetched, an answer depends on no more of its bytes than on those of the chunk that it
+-- gives. This project's own.
 use Rattle.std.specs.Prelude.{◌≡◌, ◌≤◌, ◌==◌, ℕ, List, ◌∷◌, drop, length, slice_index, Bool, true, false, Some, MatchBool}
 use Rattle.chunking.specs.Cutting.{nth_chunk}
 use Rattle.requester_machine.specs.Setup.{ReqSetup}
@@ -25,12 +25,12 @@ use Rattle.capture_machine.specs.Opening.{turn_in}
 use Rattle.capture_machine.specs.Rounds.{Dialogue, Round}
 use Rattle.world_machine.specs.Setup.{Configuration, known_of}
 
--- The outcome gives a chunk of a large answer.
+-- The outcome gives a chunk of a large response.
 abbrev pub gives_chunk : Outcome → Bool
 gives_chunk (Adds entry) = takes_get entry
 gives_chunk _ = false
 
--- An answer that goes whole, or is a chunk but for the last one, behind these drops and by this outcome.
+-- An answer that goes whole, or is a chunk but for the last one, after these drops and by this outcome.
 abbrev pub AnswersBy : RspSetup → Dialogue → Round → (answer : List ℕ) → History → (dropped : List ℕ) → Outcome → Type 0
 AnswersBy r d round answer next dropped outcome =
     let h = judging d.fetching round.body d.responder in
@@ -40,7 +40,7 @@ AnswersBy r d round answer next dropped outcome =
     × (body_of outcome ≡ answer)
     × (next ≡ after (with_dropped d.responder dropped) outcome)
 
--- The place to which a body goes, with these bytes as the large answer there.
+-- The place to which a body goes, with these bytes as the large response there.
 abbrev pub place_with : History → (body whole : List ℕ) → Place
 place_with h body whole = place_for (with_large (place_named body) whole h) body
 
@@ -68,7 +68,7 @@ AnswersAreAlike = (c : Configuration) (q : ReqSetup) (older : List (List ℕ)) (
     → AnswersBy (towards c.responder (known_of d.setup)) d round answer next dropped outcome
     → AnswersBy (towards c.responder (known_of d.setup)) (record d { fetching = Some v }) round answer next dropped outcome
 
--- A new LargeResponse hangs on none of them. No measurements have more than 4,054 bytes.
+-- A new LargeResponse depends on none of them. No measurements have more than 4,054 bytes.
 abbrev pub LargeIsAlike : Type 0
 LargeIsAlike = (c : Configuration) (q : ReqSetup) (older : List (List ℕ)) (d : Dialogue) (w v : List ℕ) (round : Round) (answer : List ℕ) (next : History) (whole : List ℕ)
     → HasFewBlocks (towards c.responder (known_of d.setup))
@@ -85,7 +85,7 @@ chunk_given h body whole handle =
     let p = place_with h body whole in
     canonical_response (ChunkResponse (nth_chunk (place_terms p).common.to_requester.transfer handle whole (given_of p.turns)))
 
--- What a record holds as the answer to the record in a body, with these bytes as the large answer of its session.
+-- What a record holds as the answer to the record in a body, with these bytes as the large response of its session.
 abbrev pub text_with : RspSetup → History → (body whole sealed : List ℕ) → List ℕ
 text_with r h body whole sealed =
     let s = session_of (id_in_record (drop 1 body)) (with_large (place_named body) whole h) in answered_text r s (turn_in r s (drop 1 body)) sealed
@@ -112,7 +112,7 @@ LastShowsChunk = (c : Configuration) (q : ReqSetup) (older : List (List ℕ)) (d
     → Completes (towards c.responder (known_of d.setup)) d round answer next
     → ShowsChunk (towards c.responder (known_of d.setup)) d.responder round.body answer whole
 
--- What an answer to a record holds hangs on no byte of them: it is opened alike, whatever it is.
+-- What an answer to a record holds depends on no byte of them: it is opened alike, whatever it is.
 abbrev pub TextIsAlike : Type 0
 TextIsAlike = (c : Configuration) (q : ReqSetup) (older : List (List ℕ)) (d : Dialogue) (w v : List ℕ) (round : Round) (sealed : List ℕ)
     → Walks c q older d → d.fetching ≡ Some w → d.round ≡ Some round → (slice_index round.body 0 == 5) ≡ false

@@ -1,5 +1,5 @@
--- What the text of a record holds, and whether it can be read, while a large answer is fetched in its session. This project's
--- own.
+-- What the text of a record holds, and whether it can be read, while a large response is fetched in its session. This
+-- project's own.
 use Rattle.std.specs.Prelude.{◌≡◌, ◌<◌, ◌-◌, ◌∷◌, ◌^◌, ℕ, List, Bool, true, length}
 use Rattle.responder_core.specs.OwnAnswers.{opens_in}
 use Rattle.responder_core.specs.declared.connected.Connection.{Connection}
@@ -21,7 +21,7 @@ Holds text message = (pad : List ℕ) × (text ≡ plain_text (5 ∷ message) pa
 abbrev pub HoldsNone : (text : List ℕ) → Type 0
 HoldsNone text = (message pad : List ℕ) → length message < 65535 → text ≡ plain_text (5 ∷ message) pad → ⊥
 
--- The history with these bytes as the large answer of the session that a record names.
+-- The history with these bytes as the large response of the session that a record names.
 abbrev pub history_for : History → (request whole : List ℕ) → History
 history_for h request whole = with_large (place_named (record_body request)) whole h
 

@@ -1,4 +1,5 @@
--- CHUNK_GET in the clear while a large answer is fetched: what it leads to is known from a few numbers. This project's own.
+-- CHUNK_GET in the clear while a large response is fetched: what it leads to is known from a few numbers. This
+-- project's own.
 use Rattle.std.specs.Prelude.{◌≡◌, ◌<◌, ◌≤◌, ◌^◌, ◌↔◌, nat_lt, ℕ, List, true, false, Some, None}
 use Rattle.chunking.specs.Cutting.{chunk_count, nth_chunk}
 use Rattle.responder_machine.specs.History.{Entry, History, kept_of}
@@ -18,7 +19,7 @@ use Rattle.capture_machine.specs.CapturedAnswers.{MayLeadTo}
 use Rattle.capture_machine.specs.LargeAnswers.{with_large}
 use Rattle.capture_machine.specs.Rounds.{no_draw}
 
--- The clear part of a connection, with these bytes as the large answer there.
+-- The clear part of a connection, with these bytes as the large response there.
 abbrev pub clear_with : History → (whole : List ℕ) → Place
 clear_with h whole = clear_place (with_large None whole h)
 
@@ -59,7 +60,7 @@ NextIsGiven = (r : RspSetup) (h : History) (whole : List ℕ) (tag handle number
     → MayLeadTo r (with_large None whole h) tag (clear_body (get_message handle number)) outcome
     ↔ (outcome ≡ Adds (get_entry tag handle number (get_response h whole handle number)))
 
--- A repeat in the clear gets what it got, whatever bytes stand for the large answer.
+-- A repeat in the clear gets what it got, whatever bytes stand for the large response.
 abbrev pub RepeatIsSame : Type 0
 RepeatIsSame = (r : RspSetup) (h : History) (whole : List ℕ) (tag : ℕ) (message : List ℕ) (outcome : Outcome) → is_repeat (kept_of h) tag message ≡ true
     → MayLeadTo r (with_large None whole h) tag (clear_body message) outcome → outcome ≡ Same (clear_body (kept_reply (kept_of h)))

@@ -48,7 +48,7 @@ RepeatMayGo = (r : RspSetup) (d : Dialogue) (whole : List ℕ) (round : Round) (
     → d.fetching ≡ Some whole → round.body ≡ clear_body m → is_repeat (kept_of d.responder) round.tag m ≡ true
     → AnswersPlainly r d round (clear_body (kept_reply (kept_of d.responder))) d.responder
 
--- A repeat begins no other large answer, and is no last chunk.
+-- A repeat begins no other large response, and is no last chunk.
 abbrev pub RepeatBeginsNone : Type 0
 RepeatBeginsNone = (r : RspSetup) (d : Dialogue) (whole : List ℕ) (round : Round) (m answer : List ℕ) (next : History) (other : List ℕ)
     → d.fetching ≡ Some whole → round.body ≡ clear_body m → is_repeat (kept_of d.responder) round.tag m ≡ true
@@ -60,8 +60,8 @@ GetBeginsNone = (r : RspSetup) (d : Dialogue) (whole : List ℕ) (round : Round)
     → d.fetching ≡ Some whole → round.body ≡ clear_body (get_message handle number) → IsNextGet r d.responder whole round.tag handle number
     → AnswersLarge r d round answer next other → ⊥
 
--- CHUNK_GET for the last chunk of these bytes is answered with that, where the request of the large answer may have led to
--- them.
+-- CHUNK_GET for the last chunk of these bytes is answered with that, where the request of the large response may have
+-- led to them.
 abbrev pub GetCompletes : Type 0
 GetCompletes = (r : RspSetup) (d : Dialogue) (whole : List ℕ) (round : Round) (handle number : ℕ) (answer : List ℕ) (next : History)
     → d.fetching ≡ Some whole → round.body ≡ clear_body (get_message handle number) → IsNextGet r d.responder whole round.tag handle number
@@ -80,21 +80,21 @@ VersionGoes = (r : RspSetup) (d : Dialogue) (whole : List ℕ) (round : Round) (
     → AnswersPlainly r d round answer next
     ↔ ((answer ≡ clear_body (canonical_response version_answer)) × (next ≡ version_entry round.tag ∷ d.responder))
 
--- It begins no other large answer, and is no last chunk.
+-- It begins no other large response, and is no last chunk.
 abbrev pub VersionBeginsNone : Type 0
 VersionBeginsNone = (r : RspSetup) (d : Dialogue) (whole : List ℕ) (round : Round) (answer : List ℕ) (next : History) (other : List ℕ)
     → d.fetching ≡ Some whole → round.body ≡ clear_body (canonical_request GetVersion) → IsAnew r (with_large None whole d.responder) round.tag
     → (AnswersLarge r d round answer next other → ⊥) × (Completes r d round answer next → ⊥)
 
--- So, while a large answer is fetched in the clear, no answer to another request than GET_VERSION begins another one. The
--- responder takes messages of six bytes.
+-- So, while a large response is fetched in the clear, no answer to another request than GET_VERSION begins another one.
+-- The responder takes messages of six bytes.
 abbrev pub NoneTurnsInClear : Type 0
 NoneTurnsInClear = (w : Configuration) (q : ReqSetup) (older : List (List ℕ)) (f next : Fetching) (round : Round) (route : RouteFields) (answer : List ℕ)
     → 6 ≤ (responder_for w f.kept).transfer → IsFetchingOf w q older f → f.kept.round ≡ Some round
     → (slice_index round.body 0 == 5) ≡ true → round.body ≢ clear_body (canonical_request GetVersion)
     → TurnsFetching w f (Whole route answer) next → ⊥
 
--- In a walk no large answer is pending in the clear, as what is kept of the responder says it: while one is fetched there, its
--- request has no bytes as its answer.
+-- In a walk no large response is pending in the clear, as what is kept of the responder says it: while one is fetched
+-- there, its request has no bytes as its answer.
 abbrev pub NonePendsInClear : Type 0
 NonePendsInClear = (w : Configuration) (q : ReqSetup) (older : List (List ℕ)) (d : Dialogue) → Walks w q older d → has_pending (clear_place d.responder) ≡ false

@@ -1,4 +1,4 @@
--- Which rounds are possible while a large answer is fetched. This project's own.
+-- Which rounds are possible while a large response is fetched. This project's own.
 use Rattle.std.specs.Prelude.{◌≡◌, ◌==◌, ◌⊎◌, ℕ, List, drop, slice_index, true, Some}
 use Rattle.requester_machine.specs.Setup.{ReqSetup}
 use Rattle.responder_machine.specs.History.{History, kept_of}
@@ -27,7 +27,8 @@ GetIsNext = (c : Configuration) (q : ReqSetup) (older : List (List ℕ)) (d : Di
     → Walks c q older d → d.fetching ≡ Some whole → d.round ≡ Some round → (slice_index round.body 0 == 5) ≡ true
     → IsClearRound (towards c.responder (known_of d.setup)) d.responder whole round
 
--- While a large answer is fetched there is a round, which is GET_VERSION, or went to the place where the answer is fetched.
+-- While a large response is fetched there is a round, which is GET_VERSION, or went to the place where the answer is
+-- fetched.
 abbrev pub RoundIsThere : Type 0
 RoundIsThere = (w : Configuration) (q : ReqSetup) (older : List (List ℕ)) (f : Fetching) → IsFetchingOf w q older f
     → (round : Round) × (f.kept.round ≡ Some round)

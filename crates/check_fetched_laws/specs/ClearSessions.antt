@@ -1,4 +1,4 @@
--- What a large answer that is fetched in the clear leaves of the sessions. This project's own.
+-- What a large response that is fetched in the clear leaves of the sessions. This project's own.
 use Rattle.std.specs.Prelude.{◌≡◌, ◌≢◌, ◌==◌, ◌&&◌, ◌||◌, ◌⊎◌, not, is_some, ℕ, List, [], ◌∷◌, ◌++◌, slice_index, Bool, true, false, MatchBool}
 use Rattle.check_responder.specs.AnswerKeys as answer_keys
 use Rattle.check_responder.specs.declared.answer_keys.AnswerKeys.{AnswerKeys}
@@ -37,7 +37,7 @@ abbrev pub AreClear : List Entry → Type 0
 AreClear [] = Unit {0}
 AreClear (e ∷ es) = IsClearOrDropped e × AreClear es
 
--- The entry is a request in the clear whose large answer was not seen, and not GET_VERSION.
+-- The entry is a request in the clear whose large response was not seen, and not GET_VERSION.
 abbrev pub IsUnseenRequest : Entry → Type 0
 IsUnseenRequest (Clear tag t d) = (is_unseen_effect t.effect ≡ true) × (takes GET_VERSION t ≡ false)
 IsUnseenRequest _ = ⊥
@@ -70,12 +70,12 @@ IsLeftBy _ before left = ⊥
 
 -- ---- The laws.
 
--- While a large answer is fetched in the clear, the sessions are those that were left before its request.
+-- While a large response is fetched in the clear, the sessions are those that were left before its request.
 abbrev pub SessionsAreLeft : Type 0
 SessionsAreLeft = (gets : List Entry) (entry : Entry) (before left : History) → AreGets gets → IsUnseenRequest entry → IsLeftBy entry before left
     → (id : ℕ) → session_of id (gets ++ entry ∷ before) ≡ session_of id left
 
--- So a refused answer to a request in the clear opens as it does without the large answer.
+-- So a refused answer to a request in the clear opens as it does without the large response.
 abbrev pub ClearWhyIsBefore : Type 0
 ClearWhyIsBefore = (r : RspSetup) (gets : List Entry) (entry : Entry) (before left : History) (m sealed : List ℕ) → AreGets gets → IsUnseenRequest entry → IsLeftBy entry before left
     → opens_answering r (gets ++ entry ∷ before) true m sealed ≡ opens_answering r left true m sealed
@@ -85,7 +85,7 @@ abbrev pub ViewsAreLeft : Type 0
 ViewsAreLeft = (gets : List Entry) (entry : Entry) (before left : History) → AreGets gets → IsUnseenRequest entry → IsLeftBy entry before left
     → views_in (gets ++ entry ∷ before) ≡ views_in left
 
--- The keys of the answers that were given in sessions stand for what is kept behind any messages in the clear.
+-- The keys of the answers that were given in sessions stand for what is kept after any messages in the clear.
 abbrev pub KeysStandOn : Type 0
 KeysStandOn = (seen : AnswerKeys) (r : RspSetup) (newer : List Entry) (before : History) → AreClear newer
     → answer_keys.StandFor seen r before → answer_keys.StandFor seen r (newer ++ before)

@@ -1,5 +1,5 @@
--- A connection that judges while a large answer is fetched: it stands for the responder's history with some bytes as that
--- answer. This project's own.
+-- A connection that judges while a large response is fetched: it stands for the responder's history with some bytes as
+-- that answer. This project's own.
 use Rattle.std.specs.Prelude.{◌≡◌, ◌≢◌, ◌<◌, ◌+◌, ◌==◌, ◌∷◌, drop, slice_index, ℕ, List, true, false, Option, Some}
 use Rattle.responder_core.specs.Connected as connected
 use Rattle.responder_core.specs.declared.connected.Connection.{Connection}
@@ -24,11 +24,11 @@ use Rattle.capture_machine.specs.LargeAnswers.{is_large, place_named, unseen, wi
 use Rattle.capture_machine.specs.Rounds.{Dialogue, Round}
 use Rattle.world_machine.specs.Setup.{Configuration}
 
--- It stands for this history, in which a large answer of the place was not seen, with these bytes as that answer.
+-- It stands for this history, in which a large response of the place was not seen, with these bytes as that answer.
 abbrev pub JudgesFor : Connection → RspSetup → History → (place : Option ℕ) → (whole : List ℕ) → Type 0
 JudgesFor seen r h place whole = connected.StandsFor seen r (with_large place whole h)
 
--- The session of an id, with these bytes as its large answer.
+-- The session of an id, with these bytes as its large response.
 abbrev pub session_with : (id : ℕ) → History → (whole : List ℕ) → Events
 session_with id h whole = session_of id (with_large (Some id) whole h)
 
@@ -60,8 +60,8 @@ PendingIsMeasured = (c : Configuration) (q : ReqSetup) (older : List (List ℕ))
 
 -- ---- How it begins.
 
--- The history behind LargeResponse, with its whole answer: so what stands for the history that LargeResponse led to judges
--- for the one in which that answer was not seen.
+-- The history after LargeResponse, with its whole answer: so what stands for the history that LargeResponse led to
+-- judges for the one in which that answer was not seen.
 abbrev pub BeginsJudging : Type 0
 BeginsJudging = (r : RspSetup) (g h : History) (tag : ℕ) (body : List ℕ) (entry : Entry) → MayLeadTo r g tag body (Adds entry) → is_large entry ≡ true
     → with_large (place_named body) (whole_of entry) (unseen entry ∷ h) ≡ entry ∷ h

@@ -73,8 +73,8 @@ abbrev pub LargeIsSized : Type 0
 LargeIsSized = (r : RspSetup) (h : History) (tag : ℕ) (body : List ℕ) (entry : Entry) → (slice_index body 0 == 5) ≡ true
     → MayLeadTo r h tag body (Adds entry) → is_large entry ≡ true → sizes_are_known (phase_of (clear_turns h)) ≡ true
 
--- In a walk in which a large answer is fetched in the clear, the responder takes messages of four bytes, and GET_VERSION is no
--- repeat, neither there nor by what was left before the request. Sizes were known before it.
+-- In a walk in which a large response is fetched in the clear, the responder takes messages of four bytes, and
+-- GET_VERSION is no repeat, neither there nor by what was left before the request. Sizes were known before it.
 abbrev pub VersionIsAnew : Type 0
 VersionIsAnew = (w : Configuration) (q : ReqSetup) (older : List (List ℕ)) (d : Dialogue) (gets : List Entry) (entry : Entry) (before left : History) (tag : ℕ)
     → Walks w q older d → d.responder ≡ gets ++ entry ∷ before → AreGets gets → IsUnseenRequest entry → IsLeftBy entry before left
@@ -83,14 +83,14 @@ VersionIsAnew = (w : Configuration) (q : ReqSetup) (older : List (List ℕ)) (d 
     × (is_repeat (kept_of d.responder) tag (canonical_request GetVersion) ≡ false)
     × (is_repeat (kept_of left) tag (canonical_request GetVersion) ≡ false)
 
--- Behind it nothing of what was before counts but the data that wait, and how many answers in the clear went by
+-- After it nothing of what was before counts but the data that wait, and how many answers in the clear went by
 -- LargeResponse.
 abbrev pub VersionEndsAll : Type 0
 VersionEndsAll = (seen : Connection) (r : RspSetup) (tag : ℕ) (h g : History)
     → queue_of h ≡ queue_of g → next_handle (clear_turns h) ≡ next_handle (clear_turns g)
     → connected.StandsFor seen r (version_entry tag ∷ h) → connected.StandsFor seen r (version_entry tag ∷ g)
 
--- So it is behind a large answer that was not seen.
+-- So it is after a large response that was not seen.
 abbrev pub VersionEndsFetch : Type 0
 VersionEndsFetch = (seen : Connection) (r : RspSetup) (tag : ℕ) (gets : List Entry) (entry : Entry) (before left : History)
     → AreGets gets → IsUnseenRequest entry → IsLeftBy entry before left

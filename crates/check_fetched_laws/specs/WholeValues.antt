@@ -1,4 +1,4 @@
--- A large answer shows, once it is whole, the values that the responder chose for it. This project's own.
+-- A large response shows, once it is whole, the values that the responder chose for it. This project's own.
 use Rattle.std.specs.Prelude.{◌≡◌, ◌<◌, ◌↔◌, ◌==◌, ℕ, List, drop, slice_index, if◌then◌else◌, true}
 use Rattle.responder_machine.specs.Answer.{Free, request_at}
 use Rattle.responder_machine.specs.Handling.{chunk_in}
@@ -27,8 +27,8 @@ body_whole r h body f whole =
 unfoldable pub values_with_whole : RspSetup → History → ℕ → (body answer whole : List ℕ) → Free
 values_with_whole r h tag body answer whole = body_whole r h body (values_shown_by r h tag body answer) whole
 
--- A body may lead to an entry whose answer goes by LargeResponse exactly where it leads to it at the values that this and
--- the whole answer show. The heartbeat period is a byte.
+-- A body may lead to an entry whose answer goes by LargeResponse exactly when it leads to it at the values that this
+-- and the whole answer show. The heartbeat period is a byte.
 abbrev pub WholeIsShown : Type 0
 WholeIsShown = (r : RspSetup) (h : History) (tag : ℕ) (body : List ℕ) (entry : Entry) → r.beat < 256 → is_large entry ≡ true
     → MayLeadTo r h tag body (Adds entry) ↔ LeadsAt r h tag body (Adds entry) (values_with_whole r h tag body (sent_by entry) (whole_of entry))

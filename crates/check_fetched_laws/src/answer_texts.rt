@@ -6,10 +6,10 @@ use responder_core::Connection;
 use session_keys::{SPDM_MESSAGE, behind_type, byte_at};
 use spdm_basis::RecordFrame;
 
-// The bytes of the length in front of an inner message.
+// The bytes of the length before an inner message.
 const SIZE_BYTES: usize = 2;
 
-/// The SPDM message that the text of a record holds; none where it holds something else.
+/// The SPDM message that the text of a record holds; `None` where it holds something else.
 pub fn message_in(text: &[u8]) -> Option<&[u8]>
     ensures { MatchOption result (HoldsNone text.now) (λ message. Holds text.now message.now) }
 {
@@ -24,10 +24,10 @@ pub fn message_in(text: &[u8]) -> Option<&[u8]>
     Some(behind_type(inner))
 }
 
-/// What a record holds as the answer to one, in place of what `text` holds: the length of its inner message as
-/// two bytes, the lowest first, that message, and the padding. False where the session does not open the record
-/// that is answered. The connection may judge with any bytes as the large answer that is fetched. Whether the
-/// answer is authentic is not tested.
+/// What a record holds as the answer to one, overwriting `text`: the length of its inner message as two bytes,
+/// little-endian, that message, and the padding. False where the session does not open the record that is answered. The
+/// connection may judge with any bytes as the large response that is fetched. Whether the answer is authentic is not
+/// tested.
 pub fn read_answer(
     connection: &Connection,
     request: &[u8],

@@ -1,5 +1,4 @@
-//! What holds while a large answer is fetched in the clear, each law as the contract of a function that does
-//! nothing.
+//! What holds while a large response is fetched in the clear, each law as the contract of a function that does nothing.
 
 ghost use Rattle.check_fetched_laws.specs.ClearApart.{LastApartIsShown, RepliesAreNotApart};
 ghost use Rattle.check_fetched_laws.specs.ClearRounds.{GetIsNext, RoundIsThere};
@@ -31,7 +30,7 @@ pub fn sessions_are_left()
     ensures { SessionsAreLeft }
 {}
 
-/// A refused answer opens as it does without the large answer.
+/// A refused answer opens as it does without the large response.
 pub fn clear_why_is_before()
     ensures { ClearWhyIsBefore }
 {}
@@ -46,7 +45,7 @@ pub fn keys_stand_on()
     ensures { KeysStandOn }
 {}
 
-/// Whether the verify data of the last chunk are alone wrong is told from what is shown.
+/// Whether the verify data of the last chunk are alone wrong is determined by what is shown.
 pub fn last_apart_is_shown()
     ensures { LastApartIsShown }
 {}
@@ -76,17 +75,17 @@ pub fn large_is_sized()
     ensures { LargeIsSized }
 {}
 
-/// GET_VERSION is no repeat while a large answer is fetched.
+/// GET_VERSION is no repeat while a large response is fetched.
 pub fn version_is_anew()
     ensures { VersionIsAnew }
 {}
 
-/// Behind it little counts of what was before.
+/// After it little counts of what was before.
 pub fn version_ends_all()
     ensures { VersionEndsAll }
 {}
 
-/// A large answer that was not seen does not count.
+/// A large response that was not seen does not count.
 pub fn version_ends_fetch()
     ensures { VersionEndsFetch }
 {}

@@ -1,5 +1,5 @@
-//! Which answers a responder may give while its large answer is fetched, each law as the contract of a
-//! function that does nothing.
+//! Which answers a responder may give while its large response is fetched, each law as the contract of a function that
+//! does nothing.
 
 ghost use Rattle.check_fetched_laws.specs.AlikeAnswers.{AnswersAreAlike, ChunkIsShown, LargeIsAlike, LastShowsChunk, TextIsAlike};
 ghost use Rattle.check_fetched_laws.specs.ClearChunks.{NextIsGiven, RepeatIsSame};
@@ -17,22 +17,22 @@ pub fn whole_has_led()
     ensures { WholeHasLed }
 {}
 
-/// Whether an answer is the last chunk of these bytes is told from what both show.
+/// Whether an answer is the last chunk of these bytes is determined by what both show.
 pub fn last_is_shown()
     ensures { LastIsShown }
 {}
 
-/// An answer hangs on no more of the bytes of a large one than on those of its next chunk.
+/// An answer depends on no more of the bytes of a large one than on those of its next chunk.
 pub fn answers_are_alike()
     ensures { AnswersAreAlike }
 {}
 
-/// A new LargeResponse hangs on none of them.
+/// A new LargeResponse depends on none of them.
 pub fn large_is_alike()
     ensures { LargeIsAlike }
 {}
 
-/// What an answer to a record holds hangs on none of them either.
+/// What an answer to a record holds depends on none of them either.
 pub fn text_is_alike()
     ensures { TextIsAlike }
 {}
@@ -57,7 +57,7 @@ pub fn repeat_is_same()
     ensures { RepeatIsSame }
 {}
 
-/// The history behind LargeResponse is the one in which its answer was not seen, with that answer.
+/// The history after LargeResponse is the one in which its answer was not seen, with that answer.
 pub fn begins_judging()
     ensures { BeginsJudging }
 {}

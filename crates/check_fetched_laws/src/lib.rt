@@ -1,6 +1,6 @@
-//! Captures, while a large answer is fetched: which answers the responder may give meanwhile, though no byte of
-//! it is known but those of the chunks that came. The laws of it over walks, and the bytes that stand for the
-//! answer in a connection that judges.
+//! Captures, while a large response is fetched: which answers the responder may give meanwhile, though no byte of it is
+//! known but those of the chunks that came. The laws of it over walks, and the bytes that stand for the answer in a
+//! connection that judges.
 //!
 //! Read first: `AnswersAreAlike` in `specs/AlikeAnswers.antt`. The calls: `read_answer`, `message_in`, `put_bytes`.
 #![tactic(auto)]

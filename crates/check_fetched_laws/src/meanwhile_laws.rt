@@ -1,5 +1,5 @@
-//! Which answers a request in the clear may get while a large answer is fetched there, each law as the contract
-//! of a function that does nothing.
+//! Which answers a request in the clear may get while a large response is fetched there, each law as the contract of a
+//! function that does nothing.
 
 ghost use Rattle.check_fetched_laws.specs.ClearMeanwhile.{GetBeginsNone, GetCompletes, GetGoesOn, NonePendsInClear, NoneTurnsInClear, RepeatBeginsNone, RepeatGoesSame, RepeatMayGo, VersionBeginsNone, VersionGoes};
 
@@ -13,7 +13,7 @@ pub fn repeat_may_go()
     ensures { RepeatMayGo }
 {}
 
-/// It begins no other large answer, and is no last chunk.
+/// It begins no other large response, and is no last chunk.
 pub fn repeat_begins_none()
     ensures { RepeatBeginsNone }
 {}
@@ -23,7 +23,7 @@ pub fn get_goes_on()
     ensures { GetGoesOn }
 {}
 
-/// It begins no other large answer.
+/// It begins no other large response.
 pub fn get_begins_none()
     ensures { GetBeginsNone }
 {}
@@ -38,17 +38,17 @@ pub fn version_goes()
     ensures { VersionGoes }
 {}
 
-/// It begins no other large answer, and is no last chunk.
+/// It begins no other large response, and is no last chunk.
 pub fn version_begins_none()
     ensures { VersionBeginsNone }
 {}
 
-/// No answer to another request than GET_VERSION begins another large answer.
+/// No answer to another request than GET_VERSION begins another large response.
 pub fn none_turns_in_clear()
     ensures { NoneTurnsInClear }
 {}
 
-/// In a walk no large answer is pending in the clear, as the responder is kept.
+/// In a walk no large response is pending in the clear, as the responder is kept.
 pub fn none_pends_in_clear()
     ensures { NonePendsInClear }
 {}

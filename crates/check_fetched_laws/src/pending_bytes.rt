@@ -7,9 +7,8 @@ ghost use Rattle.check_fetched_laws.specs.JudgedFor.{IsLong, IsMeasured, JudgesF
 
 use responder_core::Connection;
 
-/// A connection judges while MEASUREMENTS are fetched in the session of this RspSessionID, and these bytes
-/// stand for them from now on, whatever stood for them before. They go by chunks, of which as many were
-/// given as of those.
+/// A connection judges while MEASUREMENTS are fetched in the session with this RspSessionID, and these bytes stand for
+/// them from now on, whatever stood for them before. They are sent in chunks, of which as many were given as of those.
 pub fn put_bytes(connection: &mut Connection, id: u16, bytes: &[u8])
     requires { length bytes.now ≤ MAX_MESSAGE_SIZE }
     ensures { (r : RspSetup) (h : History) (whole : List ℕ) → IsMeasured id h whole
@@ -20,7 +19,7 @@ pub fn put_bytes(connection: &mut Connection, id: u16, bytes: &[u8])
     connection.put_pending(id, bytes);
 }
 
-/// A connection judges while MEASUREMENTS are fetched in the session of this RspSessionID: they were never seen
+/// A connection judges while MEASUREMENTS are fetched in the session with this RspSessionID: they were never seen
 /// whole, and it stands for the history without them from now on. These bytes stand for them, and others might.
 pub fn forget_bytes(connection: &mut Connection, id: u16)
     ensures { (r : RspSetup) (h : History) (whole other : List ℕ) → whole ≢ other
