@@ -1,4 +1,4 @@
--- A request while a large answer is fetched.
+-- A request while a large response is fetched.
 use Rattle.std.proofs.Common.{◌≡◌, ℕ, List, ◌∷◌, refl, sym, ap, ◌∙◌, subst, length, take, true, false, Option, Some, None, Ok, inl, inr}
 use Rattle.std.proofs.lemmas.Bool.{false≢true}
 use Rattle.std.proofs.lemmas.Option.{none-some, same_Some}
@@ -152,7 +152,7 @@ pub there_same : (at : Option ℕ) (d e : Dialogue) → Alike d e → There at d
 there_same at d e a there gets =
     ap (λ (o : Option Round). place_named (body_in o)) (sym a.round) ∙ there (fetching_alike d.round d.requester e.requester d.sending e.sending a.askers ∙ gets)
 
--- What a walk to a large answer is like.
+-- What a walk to a large response is like.
 pub record FetchedWalk (w : Configuration) (q : ReqSetup) (older : List (List ℕ)) (f : Fetching) (d : Dialogue) : Type 0 where
   pub whole : List ℕ
   pub stands : MayStand f whole

@@ -1,4 +1,4 @@
--- How a large answer comes to be fetched, and what is there beside it.
+-- How a large response comes to be fetched, and what is there beside it.
 use Rattle.std.proofs.Common.{◌≡◌, ◌+◌, ℕ, List, ◌∷◌, refl, sym, ap, ◌∙◌, subst, length, arith, true, Option, Some, None, inl, inr}
 use Rattle.std.proofs.lemmas.Option.{none-some, same_Some}
 use Rattle.responder_machine.specs.History.{Entry, History}
@@ -47,7 +47,7 @@ pub from_largely : (r : RspSetup) (d : Dialogue) (round : Round) (answer : List 
 from_largely r d round answer h v (First large) = (place_in (judging d.fetching round.body d.responder) h, inl ((v, large), refl))
 from_largely r d round answer h v (Again again) = (place_again (place_named round.body) h h, inr ((v, again), refl))
 
--- It may go on with any bytes of a length that goes by chunks there.
+-- It may go on with any bytes of a length that is sent in chunks there.
 pub any_large : (r : RspSetup) (d : Dialogue) (round : Round) (answer : List ℕ) (h : History) (place : Place) (v : List ℕ) → AnswersFrom r d round answer h place → IsLargeAnswer place v → Largely r d round answer h v
 any_large r d round answer h place v (inl ((x, c), is)) fits =
     let at : place ≡ place_of (judging d.fetching round.body d.responder) c.1 = is ∙ ap (place_in (judging d.fetching round.body d.responder)) c.6 ∙ place_unseen (judging d.fetching round.body d.responder) c.1 in

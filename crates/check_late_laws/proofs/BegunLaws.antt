@@ -1,4 +1,4 @@
--- How a large answer comes to be fetched, and how it comes to be so no more.
+-- How a large response comes to be fetched, and how it comes to be so no more.
 use Rattle.std.proofs.Common.{◌≡◌, ℕ, List, ◌∷◌, refl, sym, ap, ◌∙◌, subst, Some, None}
 use Rattle.std.proofs.lemmas.Option.{none-some}
 use Rattle.mctp_framing.specs.Gathering.{Gathered}

@@ -1,4 +1,4 @@
--- The walks behind LargeResponse, and what is there beside a large answer that is fetched.
+-- The walks after LargeResponse, and what is there beside a large response that is fetched.
 use Rattle.std.proofs.Common.{◌≡◌, ◌<◌, ◌||◌, ℕ, List, ◌∷◌, refl, sym, ap, ◌∙◌, subst, length, take, Bool, true, false, Option, Some, None, Ok, cond, inl, inr}
 use Rattle.std.specs.Prelude.{not}
 use Rattle.std.proofs.lemmas.Option.{none-some, same_Some}
@@ -51,7 +51,7 @@ both_fetched _ _ x (BothFetched w v) is = (v, refl)
 
 -- ---- An answer behind which these bytes stand.
 
--- What is between the two ends behind it.
+-- What is between the two ends after it.
 abbrev pub behind : Dialogue → Round → requester_history.History → History → List ℕ → Dialogue
 behind d round g h v = record d { requester = g; responder = h; fetching = Some v; round = Some (answered round) }
 
@@ -69,7 +69,7 @@ module _ (w : Configuration) (q : ReqSetup) (older : List (List ℕ)) (packet : 
   abbrev r : RspSetup
   r = towards w.responder (known_of d.setup)
 
-  -- Behind it any bytes of a length that goes by chunks may stand.
+  -- After it any bytes of a length that is sent in chunks may stand.
   module _ (tag : ℕ) (round : Round) (answer : List ℕ) (h : History) (place : Place) (l : requester_history.History) (made : (n : Dialogue) → Replies w d tag answer n → RepliesBy w d g n) (at : d.round ≡ Some round) (own : round.tag ≡ tag) (waits : 0 < round.waiting) (from : AnswersFrom r d round answer h place) (hears : Hears d tag answer l) (gets : is_fetching (outstanding l) ≡ true) where
     abbrev next : Fetching
     next = record { kept = kept_of (record d { requester = l; responder = h; round = Some (answered round) }); at = place_named round.body; place = place }

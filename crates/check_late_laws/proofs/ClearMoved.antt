@@ -1,5 +1,5 @@
--- An answer in the clear that goes whole, while a large answer is fetched there, may be given with any bytes that stand
--- for that behind it.
+-- An answer in the clear that goes whole, while a large response is fetched there, may be given with any bytes that
+-- stand for that after it.
 use Rattle.std.proofs.Common.{◌≡◌, ◌≤◌, ◌==◌, ◌&&◌, ◌||◌, ℕ, List, [], refl, sym, ap, ◌∙◌, subst, drop, take, length, Bool, true, false, Option, Some, None, cond}
 use Rattle.std.specs.Prelude.{not, slice_index}
 use Rattle.std.proofs.lemmas.Bool.{false≢true}

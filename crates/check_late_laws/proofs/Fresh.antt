@@ -1,4 +1,4 @@
--- Behind LargeResponse no chunk was given yet.
+-- After LargeResponse no chunk was given yet.
 use Rattle.std.proofs.Common.{◌≡◌, ◌+◌, ◌==◌, ◌&&◌, ◌++◌, ℕ, [], ◌∷◌, refl, sym, ap, ◌∙◌, Bool, true, false, Option, Some, None, cond}
 use Rattle.std.proofs.lemmas.Bool.{false≢true}
 use Rattle.responder_machine.specs.History.{Entry, History}

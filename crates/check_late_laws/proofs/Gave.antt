@@ -1,4 +1,4 @@
--- A chunk that was given of a large answer: which bytes it holds, and what the chunks then tell together.
+-- A chunk that was given of a large response: which bytes it holds, and what the chunks then tell together.
 use Rattle.std.proofs.Common.{◌≡◌, ◌+◌, ◌-◌, ◌*◌, ◌<◌, ◌≤◌, ◌==◌, ◌&&◌, ◌++◌, ℕ, zero, suc, List, [], ◌∷◌, refl, sym, ap, ◌∙◌, subst, drop, take, length, arith, Bool, true, false, Option, Some, None, cond, inl, inr}
 use Rattle.std.specs.Prelude.{slice_index, nat_lt}
 use Rattle.std.proofs.lemmas.Bool.{eq-eqb}
@@ -172,7 +172,7 @@ module _ (at : Option ℕ) (h : History) (v : List ℕ) (p : Place) (e : Entry) 
       ap (λ (b : Bool). cond b None (cond (gives_in at e && number_given at h == 0) (Some (size_in (answer_by e))) (size_told at h))) g.seen
       ∙ ap (λ (b : Bool). cond (b && number_given at h == 0) (Some (size_in (answer_by e))) (size_told at h)) g.here
 
-  -- The length is told by the first, and stays.
+  -- The length is determined by the first, and stays.
   pub sized : length v ≤ MAX_MESSAGE_SIZE → HasSize (size_told at h) v → HasSize (size_told at (e ∷ h)) v
   sized few has = by_first (number_given at h == 0) refl
     where

@@ -1,4 +1,4 @@
--- What is kept behind an answer with which the large answer is fetched on.
+-- What is kept after an answer with which the large response is fetched on.
 use Rattle.std.proofs.Common.{◌≡◌, ◌<◌, ℕ, List, ◌∷◌, refl, sym, ap, ◌∙◌, subst, true, Option, Some, Ok, inl, inr}
 use Rattle.std.proofs.lemmas.Option.{none-some, same_Some}
 use Rattle.mctp_framing.specs.Gathering.{Gathered}
@@ -40,7 +40,7 @@ use Rattle.check_late_laws.proofs.Stood.{StandsAt, plain_stands}
 
 -- ---- What is fetched.
 
--- Where the requester asks for a chunk behind an answer, it did before it, and the responder's history stands so.
+-- Where the requester asks for a chunk after an answer, it did before it, and the responder's history stands so.
 pub record FetchesOn (d : Dialogue) (v : List ℕ) (round : Round) : Type 0 where
   pub gets : is_fetching (outstanding d.requester) ≡ true
   pub fetch : Fetch d.responder v round.tag round.body
@@ -99,7 +99,7 @@ module _ (w : Configuration) (q : ReqSetup) (older : List (List ℕ)) (f : Fetch
   abbrev o : Outcome
   o = plain.1
 
-  -- These bytes stand behind it.
+  -- These bytes follow it.
   pub stands_on : MayStand next v
   stands_on = there v (subst (λ (x : History). StandsAt f.place (place_named round.body) x v) (sym plain.6) (plain_stands r k v round.tag round.body f.place plain.0 plain.1 (on_of v stand).fetch plain.2 plain.3 (here v stand)))
 
@@ -111,7 +111,7 @@ module _ (w : Configuration) (q : ReqSetup) (older : List (List ℕ)) (f : Fetch
   pub stood_of : (u : List ℕ) → MayStand next u → MayStand f u
   stood_of u may = subst (λ (x : Option ℕ). StandsAt f.place x k u) place_is (before u may).stood
 
-  -- It may be given with any that stand behind it.
+  -- It may be given with any that follow it.
   pub plain_of : (u : List ℕ) → MayStand next u → AnswersPlainly r (dialogue_of f u) round answer h
   plain_of u may =
       let b = before u may in

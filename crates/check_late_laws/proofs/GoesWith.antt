@@ -1,4 +1,4 @@
--- With which bytes an answer that goes whole may be given: those that stand behind it.
+-- With which bytes an answer that goes whole may be given: those that follow it.
 use Rattle.std.proofs.Common.{◌≡◌, ◌+◌, ◌-◌, ◌*◌, ◌==◌, ◌&&◌, ℕ, zero, suc, List, [], ◌∷◌, refl, sym, ap, ◌∙◌, subst, take, length, arith, Bool, true, false, Option, Some, None, cond, eqb-true}
 use Rattle.std.proofs.lemmas.Bool.{false≢true, ne_eqb}
 use Rattle.chunking.specs.Cutting.{chunk_end, unit_of}
@@ -95,7 +95,7 @@ module _ (at : Option ℕ) (h : History) (v w : List ℕ) (p : Place) (e : Entry
 
 -- ---- An answer.
 
--- What stands behind it stood before it, and it may be given with that.
+-- What follows it stood before it, and it may be given with that.
 pub record Stood (place : Place) (o : Outcome) (p : Place) (at : Option ℕ) (h : History) (v w : List ℕ) : Type 0 where
   pub stood : StandsAt place at h w
   pub goes : GoesWith o (transfer_of p) (number_given at h) v w

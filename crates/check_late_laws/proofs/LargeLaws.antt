@@ -61,7 +61,7 @@ use Rattle.check_late_laws.proofs.VersionMoved.IsVersionOnly.{Unread as NoVersio
 
 -- ---- What goes large.
 
--- A turn with a large answer, of a message that is no chunk.
+-- A turn with a large response, of a message that is no chunk.
 pub record GoesSo (r : RspSetup) (p : Place) (m : List ℕ) (f : Free) : Type 0 where
   pub asked : RequestMessage
   pub is : request_at p m ≡ Some asked
@@ -90,7 +90,7 @@ second_true false true is = refl
 second_true false false is = absurd (false≢true (sym is))
 second_true true b is = absurd (false≢true (sym is))
 
--- Where it goes large, it goes by chunks, and is longer than the least transfer size.
+-- Where it goes large, it is sent in chunks, and is longer than the least transfer size.
 long_answer : (r : RspSetup) (p : Place) (m : List ℕ) (f : Free) → bytes_round p.at ≡ 0 → refusal r p m f ≡ None → goes_large p (answer_bytes r p m f) ≡ true → 42 < length (answer_bytes r p m f)
 long_answer r p m f round none large =
     let known : sizes_are_known p.phase ≡ true = and_first (sizes_are_known p.phase) _ large in

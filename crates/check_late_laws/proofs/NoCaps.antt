@@ -1,4 +1,4 @@
--- No large answer that was not seen is CAPABILITIES: before these no sizes are known.
+-- No large response that was not seen is CAPABILITIES: before these no sizes are known.
 use Rattle.std.proofs.Common.{◌≡◌, ◌==◌, ◌⊎◌, ℕ, List, [], ◌∷◌, refl, sym, ap, ◌∙◌, subst, drop, Bool, true, false, Option, Some, None, cond, is_some, eqb-true, inl, inr, Result, Ok, Err}
 use Rattle.std.specs.Prelude.{MatchBool, slice_index}
 use Rattle.std.proofs.lemmas.Bool.{false≢true, not-false}

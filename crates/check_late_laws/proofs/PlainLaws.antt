@@ -76,7 +76,7 @@ module _ (w : Configuration) (q : ReqSetup) (older : List (List ℕ)) (f : Fetch
       ]
 
   module _ (answer : List ℕ) (v : List ℕ) (h : History) (stand : MayStand f v) (plain : AnswersPlainly (towards w.responder (known_of f.kept.setup)) (dialogue_of f v) round answer h) where
-    -- What stands behind it.
+    -- What follows it.
     abbrev Behind : List ℕ → Type 0
     Behind u = StandsAt f.place f.at h u
 

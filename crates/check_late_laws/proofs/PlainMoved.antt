@@ -1,4 +1,5 @@
--- An answer that goes whole, while a large answer is fetched, may be given with any bytes that stand for that behind it.
+-- An answer that goes whole, while a large response is fetched, may be given with any bytes that stand for that after
+-- it.
 use Rattle.std.proofs.Common.{◌≡◌, ◌==◌, ℕ, List, sym, ap, ◌∙◌, subst, drop, length, take, true, Option}
 use Rattle.std.specs.Prelude.{slice_index}
 use Rattle.responder_machine.specs.History.{Entry, History, clear_turns}

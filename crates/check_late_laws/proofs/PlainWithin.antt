@@ -1,5 +1,5 @@
--- An answer that goes whole to a record, while a large answer of its session is fetched, may be given with any bytes that
--- stand for that behind it.
+-- An answer that goes whole to a record, while a large response of its session is fetched, may be given with any bytes
+-- that stand for that after it.
 use Rattle.std.proofs.Common.{◌≡◌, ◌==◌, ◌&&◌, ◌||◌, ℕ, List, [], ◌∷◌, refl, sym, ap, ◌∙◌, subst, drop, take, length, Bool, true, false, Option, Some, cond, is_none}
 use Rattle.std.specs.Prelude.{not, slice_index}
 use Rattle.std.proofs.lemmas.Bool.{false≢true}

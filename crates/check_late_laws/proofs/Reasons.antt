@@ -1,4 +1,4 @@
--- Why a packet is refused while a large answer is fetched.
+-- Why a packet is refused while a large response is fetched.
 use Rattle.std.proofs.Common.{◌≡◌, ℕ, List, refl, sym, ◌∙◌, subst, Option}
 use Rattle.std.proofs.lemmas.Option.{same_Some}
 use Rattle.mctp_framing.specs.Gathering.{Gathered}
@@ -47,7 +47,7 @@ apart_bare f whole (Whole route body) c = c
 apart_bare f whole More c = c
 apart_bare f whole (Dropped cause) c = c
 
--- Those of an answer hang on the round, the responder's history and the bytes.
+-- Those of an answer depend on the round, the responder's history and the bytes.
 goes_moved : (r : RspSetup) (d e : Dialogue) (g : Gathered) → Alike d e → d.fetching ≡ e.fetching → GoesApart r d g → GoesApart r e g
 unfolding Answers
 goes_moved r d e (Whole route body) a fetch c =

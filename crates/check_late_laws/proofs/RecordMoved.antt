@@ -1,4 +1,4 @@
--- What a record leads to in two sessions that differ only in the bytes of the large answer that is pending there.
+-- What a record leads to in two sessions that differ only in the bytes of the large response that is pending there.
 use Rattle.std.proofs.Common.{◌≡◌, ◌≢◌, ◌==◌, ◌&&◌, ◌||◌, ℕ, List, [], ◌∷◌, refl, sym, ap, ◌∙◌, drop, length, Bool, true, false, Option, Some, None, cond}
 use Rattle.std.specs.Prelude.{not, nat_lt, slice_index}
 use Rattle.std.proofs.lemmas.Bool.{false≢true}
@@ -51,7 +51,7 @@ module _ (r : RspSetup) (s u : Events) (a : EventsAlike s u) (pending : has_pend
   abbrev o : Place
   o = session_place u
 
-  -- Nothing is sent by chunks there.
+  -- Nothing is sent in chunks there.
   none_sent : (d : ChunkMessage) → refusal r (session_place s) m f ≡ None → chunk_in (request_at (session_place s) m) ≡ Some d → ⊥
   none_sent d none is =
       let code : code_of m ≡ CHUNK_SEND = sym (asked-code (session_place s) m (ChunkSend d) (chunk_is (request_at (session_place s) m) d is)) in

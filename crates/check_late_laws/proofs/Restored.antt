@@ -16,7 +16,7 @@ use Rattle.capture_machine.specs.CapturedRequests.{is_later, owes}
 use Rattle.capture_machine.specs.Rounds.{Dialogue}
 use Rattle.world_machine.specs.Setup.{Configuration}
 
--- What is kept of a dialogue, with the bytes that stand for its large answer.
+-- What is kept of a dialogue, with the bytes that stand for its large response.
 abbrev pub bare_of : Dialogue → Dialogue
 bare_of d = record (restored (kept_of d)) { fetching = d.fetching }
 

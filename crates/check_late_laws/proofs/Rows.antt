@@ -1,4 +1,4 @@
--- The rows that packets show, by what is kept while a large answer is fetched.
+-- The rows that packets show, by what is kept while a large response is fetched.
 use Rattle.std.proofs.Common.{◌≡◌, ◌⊎◌, ◌==◌, ◌∙◌, ℕ, List, ◌∷◌, Bool, true, false, Option, Some, None, Result, Ok, refl, ap, sym, subst, inl, inr}
 use Rattle.std.specs.Prelude.{MatchBool}
 use Rattle.mctp_framing.specs.Packet.{PacketFields, parsed}

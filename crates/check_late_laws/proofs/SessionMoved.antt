@@ -1,4 +1,4 @@
--- A record in two sessions that differ only in the bytes of the large answer that is pending there.
+-- A record in two sessions that differ only in the bytes of the large response that is pending there.
 use Rattle.std.proofs.Common.{◌≡◌, ◌+◌, ◌==◌, ◌||◌, ℕ, List, [], ◌∷◌, refl, sym, ap, ◌∙◌, take, length, Bool, true, false, Option, Some, None, cond, is_some, eqb-true}
 use Rattle.std.specs.Prelude.{not, nat_lt, unwrap_or}
 use Rattle.std.proofs.lemmas.Bool.{false≢true, not-false}

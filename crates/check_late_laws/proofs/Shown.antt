@@ -31,7 +31,7 @@ use Rattle.check_late_laws.proofs.Stood.Came.{Other, Chunk}
 
 -- ---- With an answer that goes whole.
 
--- What the history shows behind it.
+-- What the history shows after it.
 data Shows (at : Option ℕ) (h : History) (v : List ℕ) (answer : List ℕ) (next : History) : Type 0 where
   Nothing : IsSame at next h → Shows at h v answer next
   Next : (e : Entry) → (p : Place) → next ≡ e ∷ h → sent_by e ≡ answer → Gave at h v p e → Shows at h v answer next

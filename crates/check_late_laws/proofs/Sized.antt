@@ -1,4 +1,4 @@
--- No chunk passes the longest message, and whether one is pending hangs on a length.
+-- No chunk passes the longest message, and whether one is pending depends on a length.
 use Rattle.std.proofs.Common.{◌≡◌, ◌≤◌, ◌+◌, ◌-◌, ◌*◌, ◌==◌, ◌∙◌, ◌<◌, ℕ, zero, suc, sym, List, cond, drop, length-drop, refl, ap, length, Bool, true, false, Option, Some, None, Ok, Err, arith, eqb-true}
 use Rattle.std.proofs.lemmas.Bool.Decides.{nat_tests}
 use Rattle.std.proofs.lemmas.List.{length-take}

@@ -1,4 +1,4 @@
--- What stood for the answer before an answer that goes whole, stands for it behind that.
+-- What stood for the answer before an answer that goes whole, stands for it after that.
 use Rattle.std.proofs.Common.{◌≡◌, ◌==◌, ◌&&◌, ℕ, List, [], ◌∷◌, refl, sym, ap, ◌∙◌, subst, drop, take, length, Bool, true, false, Option}
 use Rattle.std.specs.Prelude.{slice_index}
 use Rattle.std.proofs.Math.Bool.{and-false}

@@ -58,7 +58,7 @@ number_few f next answer s =
     each_some zero unit some = omega arith
     each_some (suc n) unit some = let more = suc_units n unit in let before = each_some n unit some in omega (arith, more, before, some)
 
--- It stands behind the chunk.
+-- It follows the chunk.
 pub taken : (old new : LargeAnswer) (f next : Fetching) (answer message : List ℕ) (s : ShowsChunk f next answer) → answer_by s.entry ≡ message → StandsFor old f
     → new.bytes ≡ old.bytes ++ drop (cond (old.number == 0) 16 12) message → new.size ≡ cond (old.number == 0) (Some (size_in message)) old.size → new.number ≡ old.number + 1 → StandsFor new next
 taken old new f next answer message s is stands bytes size number = record {

@@ -1,4 +1,4 @@
--- The clear turns of a history with some bytes as its large answer, and with others.
+-- The clear turns of a history with some bytes as its large response, and with others.
 use Rattle.std.proofs.Common.{◌≡◌, ◌+◌, ◌==◌, ◌||◌, ℕ, List, [], ◌∷◌, refl, sym, ap, ◌∙◌, Bool, true, false, Option, Some, None, cond, is_some}
 use Rattle.std.specs.Prelude.{not, unwrap_or}
 use Rattle.std.specs.Option.{option_map}
@@ -20,7 +20,7 @@ use Rattle.capture_machine.proofs.EventsAlike.{answered}
 use Rattle.capture_machine.specs.LargeAnswers.{effect_with, handle_shown, is_unseen_effect, is_unseen_in, seen, with_large}
 use Rattle.check_late_laws.proofs.NoCaps.{EntryCaps, NoCaps}
 
--- Turns that differ in one large answer at most, which is not CAPABILITIES.
+-- Turns that differ in one large response at most, which is not CAPABILITIES.
 pub data Turns : List Turn → List Turn → Type 0 where
   NoTurn : Turns [] []
   Behind : (t : Turn) → (l k : List Turn) → Turns l k → Turns (t ∷ l) (t ∷ k)

@@ -1,4 +1,4 @@
--- What is kept behind another LargeResponse, upon which the requester asks for a chunk.
+-- What is kept after another LargeResponse, upon which the requester asks for a chunk.
 use Rattle.std.proofs.Common.{◌≡◌, ◌<◌, ◌+◌, ◌==◌, ◌&&◌, ◌||◌, ℕ, List, ◌∷◌, refl, sym, ap, ◌∙◌, subst, drop, length, Bool, true, false, Option, Some, Ok, inl, inr, cond, is_some}
 use Rattle.std.specs.Prelude.{not, nat_lt, slice_index}
 use Rattle.std.proofs.lemmas.Option.{none-some, same_Some}
@@ -56,7 +56,7 @@ use Rattle.check_late_laws.proofs.TurnsBeside.{Turns, clear_beside, common_besid
 
 -- ---- Sizes.
 
--- Whether a length goes by chunks hangs on the phase, on what both ends can do, and on where it is.
+-- Whether a length is sent in chunks depends on the phase, on what both ends can do, and on where it is.
 fits_moved : (p o : Place) (u : List ℕ) → p.phase ≡ o.phase → (place_terms p).common ≡ (place_terms o).common → p.at ≡ o.at → IsLargeAnswer p u → IsLargeAnswer o u
 fits_moved p o u phase common at fits =
     let large : Phase → Common → Where → Bool = λ x c a. sizes_are_known x && nat_lt c.to_requester.transfer (bytes_round a + length u) in

@@ -1,5 +1,5 @@
--- A message at two places that differ only in the bytes of the large answer that is pending: its turn is the same, where
--- it asks for no chunk, or for one that is the same.
+-- A message at two places that differ only in the bytes of the large response that is pending: its turn is the same,
+-- where it asks for no chunk, or for one that is the same.
 use Rattle.std.proofs.Common.{◌≡◌, ◌≢◌, ◌==◌, ◌&&◌, ℕ, List, [], ◌∷◌, refl, sym, ap, ◌∙◌, length, Bool, true, false, Option, Some, None, cond, is_some, is_none}
 use Rattle.std.specs.Option.{option_or}
 use Rattle.std.specs.Prelude.{not, nat_lt, slice_index}

@@ -1,4 +1,4 @@
--- The turn of a message at two places that differ only in the bytes of the large answer that is pending.
+-- The turn of a message at two places that differ only in the bytes of the large response that is pending.
 use Rattle.std.proofs.Common.{◌≡◌, ◌≢◌, ◌+◌, ◌≤◌, ◌&&◌, ◌||◌, ℕ, List, [], refl, sym, ap, ◌∙◌, length, arith, Bool, true, false, Option, Some, None, cond, le-ltb}
 use Rattle.std.specs.Prelude.{not, nat_lt, unwrap_or}
 use Rattle.std.specs.Result.{result_ok}

@@ -1,4 +1,4 @@
--- A record that is answered so with some bytes of a large answer of its session is answered so with others.
+-- A record that is answered so with some bytes of a large response of its session is answered so with others.
 use Rattle.std.proofs.Common.{◌≡◌, ◌+◌, ◌≤◌, ◌==◌, ◌&&◌, ◌||◌, ℕ, zero, suc, List, [], refl, sym, ap, ◌∙◌, subst, drop, length, arith, Bool, true, false, Option, Some, None, cond, is_some}
 use Rattle.std.specs.Prelude.{not, nat_lt, slice_index, unwrap_or}
 use Rattle.std.specs.Option.{option_map}

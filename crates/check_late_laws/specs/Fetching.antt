@@ -1,5 +1,5 @@
--- What is kept of one requester and the responder while a large answer is fetched by chunks, from its LargeResponse to
--- its last chunk. This project's own.
+-- What is kept of one requester and the responder while a large response is fetched in chunks, from its LargeResponse
+-- to its last chunk. This project's own.
 use Rattle.std.specs.Prelude.{⊤, ◌≡◌, ◌+◌, ◌*◌, ◌==◌, ◌&&◌, ℕ, List, [], ◌∷◌, ◌++◌, drop, length, slice_index, take, true, if◌then◌else◌, Bool, Option, Some, None}
 use Rattle.requester_machine.specs.History.{outstanding}
 use Rattle.requester_machine.specs.Setup.{ReqSetup}
@@ -20,7 +20,7 @@ use Rattle.world_machine.specs.Setup.{Configuration}
 abbrev pub gives_in : Option ℕ → Entry → Bool
 gives_in at entry = is_kept_in at entry && takes_get entry
 
--- The answer of an entry; no bytes where it is no message.
+-- The answer of an entry; empty where it is no message.
 abbrev pub answer_by : Entry → List ℕ
 answer_by (Clear tag t d) = answer_in t.effect
 answer_by (Sealed tag sealed t reply d) = answer_in t.effect
@@ -34,7 +34,8 @@ number_given at (entry ∷ older) =
     else (if gives_in at entry then number_given at older + 1
     else number_given at older)
 
--- The bytes of the large answer in CHUNK_RESPONSE of this number. In the first one the length of all stands before them.
+-- The bytes of the large response in CHUNK_RESPONSE of this number. In the first one the length of all stands before
+-- them.
 abbrev pub bytes_in : (number : ℕ) → List ℕ → List ℕ
 bytes_in number answer = drop (if number == 0 then 16 else 12) answer
 
@@ -60,8 +61,8 @@ size_told at (entry ∷ older) =
 
 -- ---- What is kept.
 
--- What is kept of the two ends, with the answer not seen in the responder's history; where it is fetched, the clear part
--- or the session of an id; and the place by whose sizes it went by chunks.
+-- What is kept of the two ends, with the answer not seen in the responder's history; where it is fetched, the clear
+-- part or the session of an id; and the place by whose sizes it went in chunks.
 pub record Fetching : Type 0 where
   pub kept : Kept
   pub at : Option ℕ
@@ -82,8 +83,8 @@ abbrev pub HasSize : Option ℕ → List ℕ → Type 0
 HasSize None whole = ⊤
 HasSize (Some size) whole = length whole ≡ size
 
--- Any bytes of a length that goes by chunks, of the told one once that is told, that begin with those of the chunks may
--- stand for the answer.
+-- Any bytes of a length that is sent in chunks, of the told one once that is told, that begin with those of the chunks
+-- may stand for the answer.
 abbrev pub MayStand : Fetching → (whole : List ℕ) → Type 0
 MayStand f whole = IsLargeAnswer f.place whole × HasSize (size_of f) whole × (take (length (bytes_of f)) whole ≡ bytes_of f)
 
@@ -96,7 +97,7 @@ dialogue_of f whole = record (restored f.kept) { fetching = Some whole }
 abbrev pub GoesThere : Fetching → Type 0
 GoesThere f = is_fetching (outstanding (restored f.kept).requester) ≡ true → place_named (body_in f.kept.round) ≡ f.at
 
--- This is kept of the packets, the newest first: a large answer is fetched behind them; they lead to it with any bytes
+-- This is kept of the packets, the newest first: a large response is fetched after them; they lead to it with any bytes
 -- that may stand for it, and each walk over them leads to it with some.
 pub record IsFetchingOf (w : Configuration) (q : ReqSetup) (older : List (List ℕ)) (f : Fetching) : Type 0 where
   pub kept : kept_of (restored f.kept) ≡ f.kept

@@ -1,4 +1,4 @@
--- Which requests and answers go on while a large answer is fetched by chunks. This project's own.
+-- Which requests and answers go on while a large response is fetched in chunks. This project's own.
 use Rattle.std.specs.Prelude.{◌≡◌, ◌⊎◌, ◌↔◌, ℕ, List, [], ◌∷◌, true, false, Some, None, Ok}
 use Rattle.mctp_framing.specs.Gathering.{Gathered}
 use Rattle.mctp_framing.specs.Gathering.Gathered.{Whole, More, Dropped}
@@ -34,7 +34,7 @@ AnswersFrom r d round answer h place =
     (((whole : List ℕ) × AnswersLarge r d round answer h whole) × (place ≡ place_in (judging d.fetching round.body d.responder) h))
     ⊎ (((whole : List ℕ) × AnswersAgain r d round answer h whole) × (place ≡ place_again (place_named round.body) h h))
 
--- What is kept of the two ends behind an answer, with these histories.
+-- What is kept of the two ends after an answer, with these histories.
 abbrev pub kept_behind : Kept → Round → requester_history.History → History → Kept
 kept_behind k round g h = kept_of (record (restored k) { requester = g; responder = h; round = Some (answered round) })
 
@@ -49,20 +49,20 @@ BeginsFetching w k (Whole route answer) next =
     × (next ≡ record { kept = kept_behind k round g h; at = place_named round.body; place = place }))))
 BeginsFetching w k _ next = ⊥
 
--- It is kept behind it, and no chunk came yet.
+-- It is kept after it, and no chunk came yet.
 abbrev pub FetchingBegins : Type 0
 FetchingBegins = (w : Configuration) (q : ReqSetup) (older : List (List ℕ)) (packet : List ℕ) (p : PacketFields) (k : Kept) (next : Fetching)
     → parsed packet ≡ Ok p → is_request w.responder.eid q.eid p ≡ false → is_answer w.responder.eid q.eid p ≡ true
     → Keeps w q older k → BeginsFetching w k (gathered_from q.eid w.responder.eid older p) next → IsFetchingOf w q (packet ∷ older) next × (number_of next ≡ 0)
 
--- Where some walk goes on with a packet and a large answer is fetched behind it, it begins one from what is kept.
+-- Where some walk goes on with a packet and a large response is fetched after it, it begins one from what is kept.
 abbrev pub BegunIsFetching : Type 0
 BegunIsFetching = (w : Configuration) (q : ReqSetup) (older : List (List ℕ)) (packet : List ℕ) (p : PacketFields) (k : Kept) (d : Dialogue) (whole : List ℕ)
     → parsed packet ≡ Ok p → is_request w.responder.eid q.eid p ≡ false → is_answer w.responder.eid q.eid p ≡ true
     → Keeps w q older k → Walks w q (packet ∷ older) d → d.fetching ≡ Some whole
     → (next : Fetching) × BeginsFetching w k (gathered_from q.eid w.responder.eid older p) next
 
--- Behind no packets both a large answer is fetched and none is. Nor is a large request under way meanwhile.
+-- After no packets both a large response is fetched and none is. Nor is a large request under way meanwhile.
 abbrev pub FetchingIsAlone : Type 0
 FetchingIsAlone = (w : Configuration) (q : ReqSetup) (older : List (List ℕ)) (f : Fetching) → IsFetchingOf w q older f
     → ((k : Kept) → Keeps w q older k → ⊥) × ((d : Dialogue) → Walks w q older d → d.sending ≡ None)
@@ -74,7 +74,7 @@ FetchingIsAlone = (w : Configuration) (q : ReqSetup) (older : List (List ℕ)) (
 abbrev pub AsksFetching : Fetching → Gathered → Fetching → Type 0
 AsksFetching f g next = (k : Kept) × AsksKept f.kept g k × (next ≡ record f { kept = k })
 
--- It is kept behind it.
+-- It is kept after it.
 abbrev pub FetchingAsks : Type 0
 FetchingAsks = (w : Configuration) (q : ReqSetup) (older : List (List ℕ)) (packet : List ℕ) (p : PacketFields) (f next : Fetching)
     → parsed packet ≡ Ok p → is_request w.responder.eid q.eid p ≡ true
@@ -89,8 +89,9 @@ FetchingIsAsked = (w : Configuration) (q : ReqSetup) (older : List (List ℕ)) (
 
 -- ---- An answer.
 
--- What an answer makes of what is kept, behind which the same large answer is fetched: a chunk, but for the last one, or
--- an answer that is none, upon which the requester awaits the chunk still. It may be given with some bytes that may stand.
+-- What an answer makes of what is kept, after which the same large response is fetched: a chunk, but for the last one,
+-- or an answer that is none, upon which the requester awaits the chunk still. It may be given with some bytes that may
+-- stand.
 abbrev pub GoesFetching : Configuration → Fetching → Gathered → Fetching → Type 0
 GoesFetching w f (Whole route answer) next =
     IsBody answer × (route.owner ≡ false)
@@ -113,8 +114,8 @@ TurnsFetching w f (Whole route answer) next =
     × (next ≡ record { kept = kept_behind f.kept round g h; at = place_named round.body; place = place }))))
 TurnsFetching w f _ next = ⊥
 
--- An answer that goes whole may be given with each bytes that may stand behind it, where it may be given with some,
--- whatever the requester does upon it: so it is told by any of them. They stood before it too.
+-- An answer that goes whole may be given with each bytes that may follow it, where it may be given with some, whatever
+-- the requester does upon it: so it is determined by any of them. They stood before it too.
 abbrev pub PlainIsOfAll : Type 0
 PlainIsOfAll = (w : Configuration) (q : ReqSetup) (older : List (List ℕ)) (f : Fetching) (round : Round) (answer whole other : List ℕ) (h : History)
     → IsFetchingOf w q older f → f.kept.round ≡ Some round
@@ -130,13 +131,13 @@ LargeIsOfAll = (w : Configuration) (q : ReqSetup) (older : List (List ℕ)) (f :
     → AnswersLarge (responder_for w f.kept) (dialogue_of f whole) round answer h begun
     → AnswersLarge (responder_for w f.kept) (dialogue_of f other) round answer h begun
 
--- An answer behind which nothing is fetched: the last chunk, with which all bytes are judged; or another one, behind which
--- the answer stays unseen.
+-- An answer after which nothing is fetched: the last chunk, with which all bytes are judged; or another one, after
+-- which the answer stays unseen.
 abbrev pub EndsFetching : Configuration → Fetching → Gathered → Kept → Type 0
 EndsFetching w f g next =
     (whole : List ℕ) × (d : Dialogue) × MayStand f whole × RepliesBy w (dialogue_of f whole) g d × (d.fetching ≡ None) × (next ≡ kept_of d)
 
--- It is kept behind it, in each of these cases. Behind another LargeResponse no chunk came yet.
+-- It is kept after it, in each of these cases. After another LargeResponse no chunk came yet.
 abbrev pub FetchingGoes : Type 0
 FetchingGoes = (w : Configuration) (q : ReqSetup) (older : List (List ℕ)) (packet : List ℕ) (p : PacketFields) (f next : Fetching)
     → parsed packet ≡ Ok p → is_request w.responder.eid q.eid p ≡ false → is_answer w.responder.eid q.eid p ≡ true
@@ -168,15 +169,15 @@ FetchingStays = (w : Configuration) (q : ReqSetup) (older : List (List ℕ)) (pa
 
 -- ---- Reasons.
 
--- Each walk gives a refused request, and a refused answer, the reason that it has without the large answer.
+-- Each walk gives a refused request, and a refused answer, the reason that it has without the large response.
 abbrev pub FetchingTellsWhy : Type 0
 FetchingTellsWhy = (w : Configuration) (q : ReqSetup) (older : List (List ℕ)) (f : Fetching) (d : Dialogue) (g : Gathered)
     → IsFetchingOf w q older f → Walks w q older d
     → (comes_why d g ≡ comes_why (restored f.kept) g)
     × (goes_why (towards w.responder (known_of q)) d g ≡ goes_why (towards w.responder (known_of q)) (restored f.kept) g)
 
--- The verify data of a request are alone wrong in each walk where they are without it, and in no other. Those of an answer
--- are in a walk where they are by what is kept, with the bytes that stand for the large answer there.
+-- The verify data of a request are alone wrong in each walk where they are without it, and in no other. Those of an
+-- answer are in a walk where they are by what is kept, with the bytes that stand for the large response there.
 abbrev pub FetchingTellsApart : Type 0
 FetchingTellsApart = (w : Configuration) (q : ReqSetup) (older : List (List ℕ)) (f : Fetching) (d : Dialogue) (g : Gathered)
     → IsFetchingOf w q older f → Walks w q older d

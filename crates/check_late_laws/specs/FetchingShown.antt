@@ -1,4 +1,4 @@
--- What the chunks of a large answer show of it. This project's own.
+-- What the chunks of a large response show of it. This project's own.
 use Rattle.std.specs.Prelude.{◌≡◌, ◌<◌, ◌+◌, ◌==◌, ◌⊎◌, nat_lt, if◌then◌else◌, ℕ, List, ◌∷◌, ◌++◌, length, take, true, Some}
 use Rattle.chunking.specs.Cutting.{chunk_count, chunk_end, nth_chunk}
 use Rattle.mctp_framing.specs.Cutting.{RouteFields}

@@ -1,8 +1,7 @@
 use crate::messages::{chunk_in, size_with};
 use spdm_basis::Frame;
 
-/// A large answer that is fetched by chunks: its told length, how many chunks came, and their bytes.
-/// It takes no memory.
+/// A large response that is fetched in chunks: its told length, how many chunks came, and their bytes. Never allocates.
 #[derive(Drop)]
 pub struct LargeAnswer {
     pub(crate) size: Option<usize>,

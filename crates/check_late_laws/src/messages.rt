@@ -1,7 +1,7 @@
 ghost use Rattle.std.specs.Prelude.{◌≡◌, drop, slice_index, if◌then◌else◌, Some};
 ghost use Rattle.check_late_laws.specs.Fetching.{size_in};
 
-// A byte of a message, and 0 behind its end.
+// A byte of a message, and 0 after its end.
 fn byte_at(message: &[u8], at: usize) -> u8
     ensures { result ≡ slice_index message.now at }
 {
@@ -28,7 +28,7 @@ fn bytes_from(message: &[u8], at: usize) -> &[u8]
     }
 }
 
-// The bytes of a large answer in CHUNK_RESPONSE: in the first one its length stands before them.
+// The bytes of a large response in CHUNK_RESPONSE: in the first one its length stands before them.
 pub(crate) fn chunk_in(first: bool, message: &[u8]) -> &[u8]
     ensures { result.now ≡ drop (if first then 16 else 12) message.now }
 {
@@ -38,7 +38,7 @@ pub(crate) fn chunk_in(first: bool, message: &[u8]) -> &[u8]
     bytes_from(message, 12)
 }
 
-// The told length behind CHUNK_RESPONSE: the first one tells it.
+// The told length after CHUNK_RESPONSE: the first one tells it.
 pub(crate) fn size_with(first: bool, message: &[u8], size: Option<usize>) -> Option<usize>
     ensures { result ≡ if first then Some (size_in message.now) else size }
 {

@@ -1,4 +1,5 @@
--- A response that is read as CHUNK_SEND_ACK shows that by its second byte, and what it carries stands behind its first six bytes.
+-- A response that is read as CHUNK_SEND_ACK shows that by its second byte, and what it carries follows its first six
+-- bytes.
 use Rattle.std.proofs.Common.{◌≡◌, ◌+◌, ◌++◌, ◌==◌, ◌∙◌, ℕ, List, [], ◌∷◌, refl, sym, ap, subst, drop, length, arith, Bool, true, false, Option, Some, None, cond, eqb-true}
 use Rattle.std.specs.Prelude.{Ok, slice_index}
 use Rattle.byteorder.specs.Endian.{little_number}
@@ -91,7 +92,7 @@ ack_body : (len : ℕ) (summary : Bool) (said : ℕ) → response_body len summa
 unfolding response_body
 ack_body len summary said = refl
 
--- The bytes behind some fields.
+-- The bytes after some fields.
 behind_one : (m f rest : List ℕ) → m ≡ f ++ rest → length f ≡ 1 → drop 1 m ≡ rest
 behind_one m [] rest e n = absurd (omega (arith, n))
 behind_one m (x ∷ y ∷ f) rest e n = absurd (omega (arith, n))

@@ -37,7 +37,7 @@ use Rattle.capture_machine.specs.LargeAnswers.{is_fetching, is_for_chunk}
 use Rattle.capture_machine.specs.Rounds.{no_draw}
 use Rattle.capture_machine.specs.SessionTable.{accepted_in}
 
--- A chunk is asked for behind an outcome, and by it no PSK_EXCHANGE_RSP is taken.
+-- A chunk is asked for after an outcome, and by it no PSK_EXCHANGE_RSP is taken.
 abbrev pub AsksOn : History → Outcome → Type 0
 AsksOn h o = (is_fetching (outstanding (shown.after h o)) ≡ true) × (accepted_by o ≡ None)
 

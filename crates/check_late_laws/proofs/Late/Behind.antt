@@ -1,5 +1,5 @@
--- Where the request stands whose large answer passed unseen, that a repeat of it gets its reply, and which ids were touched
--- since.
+-- Where the request stands whose large response passed unseen, that a repeat of it gets its reply, and which ids were
+-- touched since.
 use Rattle.std.proofs.Common.{◌≡◌, ◌==◌, ◌&&◌, ◌||◌, ◌++◌, ℕ, List, [], ◌∷◌, refl, sym, ap, ◌∙◌, Bool, true, false, Option, Some, None, cond, eqb-true}
 use Rattle.std.specs.Prelude.{bytes_eq, not}
 use Rattle.std.proofs.lemmas.Bool.{false≢true}

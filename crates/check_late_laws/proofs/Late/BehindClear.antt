@@ -1,5 +1,5 @@
--- What stands in the clear behind a request whose large answer passed unseen, and that its request and its drops are those
--- of the fetch.
+-- What stands in the clear after a request whose large response passed unseen, and that its request and its drops are
+-- those of the fetch.
 use Rattle.std.proofs.Common.{◌≡◌, ◌==◌, ◌&&◌, ◌⊎◌, ◌++◌, ◌∙◌, ℕ, List, [], ◌∷◌, refl, sym, ap, subst, Bool, true, false, Option, Some, None, cond, inl, inr}
 use Rattle.std.specs.Prelude.{MatchBool, not}
 use Rattle.check_late_laws.specs.Late.Passed.{AreBehind, StandsBack}
@@ -119,7 +119,7 @@ none_untouched (e ∷ h) = by_unseen (is_unseen_in None e) (none_untouched h)
 
 -- ---- The clear part.
 
--- What an idle turn leaves is the same behind all of them.
+-- What an idle turn leaves is the same after all of them.
 pub behind_same : {A : Type 0} (F : List Turn → A) → ((u : Turn) (ts : List Turn) → is_taken u ≡ false → u.effect ≡ NoEffect → F (u ∷ ts) ≡ F ts) → (es : List Entry) (h : History) → AreBehind es
     → F (clear_turns (es ++ h)) ≡ F (clear_turns h)
 behind_same F idle [] h are = refl

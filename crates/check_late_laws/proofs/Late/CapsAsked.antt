@@ -43,7 +43,8 @@ use Rattle.capture_machine.specs.Rounds.{no_draw}
 
 -- ---- What is outstanding.
 
--- GET_VERSION and GET_CAPABILITIES are sent whole, the first while no negotiation counts; NEGOTIATE_ALGORITHMS behind CAPABILITIES.
+-- GET_VERSION and GET_CAPABILITIES are sent whole, the first while no negotiation counts; NEGOTIATE_ALGORITHMS after
+-- CAPABILITIES.
 abbrev pub AsksOf : (known plain : Bool) → RequestMessage → Type 0
 AsksOf known plain GetVersion = (known ≡ false) × (plain ≡ true)
 AsksOf known plain (GetCapabilities caps) = plain ≡ true
@@ -157,7 +158,7 @@ refused_phase : (b : Bool) (p : Phase) → is_capable (cond b Fresh p) ≡ true 
 refused_phase true p is = absurd (false≢true is)
 refused_phase false p is = is
 
--- Algorithms come behind CAPABILITIES.
+-- Algorithms come after CAPABILITIES.
 asks_choice : (known : Bool) (a : RequestMessage) (aim : Aim) → asked_in aim ≡ Some a → AsksIn known aim → (plain : Bool) × AsksOf known plain a
 asks_choice known a (Plain x) is asks = (true, subst (AsksOf known true) (same_Some x a is) asks)
 asks_choice known a (ByChunks x handle number) is asks = (false, subst (AsksOf known false) (same_Some x a is) asks)

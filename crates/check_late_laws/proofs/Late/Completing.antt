@@ -1,5 +1,5 @@
--- The last chunk of a large answer whose fetch began late completes it exactly where its request may lead to the bytes in
--- front.
+-- The last chunk of a large response whose fetch began late completes it exactly when its request may lead to the bytes
+-- in front.
 use Rattle.std.proofs.Common.{◌≡◌, ◌≢◌, ◌++◌, ◌∙◌, ℕ, List, ◌∷◌, refl, sym, ap, subst, Option, Some, None}
 use Rattle.std.proofs.lemmas.Option.{same_Some}
 use Rattle.check_late_laws.proofs.Late.BehindClear.{last_stays_back}
@@ -18,7 +18,7 @@ module _ (r : RspSetup) (d : Dialogue) (round : Round) (answer : List ℕ) (next
   abbrev g : History
   g = since ++ h
 
-  -- The history behind it, by the place, the bytes, the drops and the history before it.
+  -- The history after it, by the place, the bytes, the drops and the history before it.
   abbrev then_by : Option ℕ → (w ids : List ℕ) → History → History
   then_by o w ids l = with_large o w (dropped_before_large o ids l)
 

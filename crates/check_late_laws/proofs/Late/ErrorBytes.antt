@@ -45,7 +45,7 @@ either_given P false l m x y = y
 
 -- ---- The bodies of the responses.
 
--- An ERROR has this code, and stands behind this byte.
+-- An ERROR has this code, and follows this byte.
 abbrev TellsError : (byte code : ℕ) → ResponseMessage → Type 0
 TellsError byte code (Error version said detail extended) = (byte ≡ ERROR) × (code ≡ said)
 TellsError byte code _ = Unit {0}
@@ -121,7 +121,7 @@ module _ (byte code : ℕ) where
       (either_given P (said == CHUNK_SEND_ACK) _ _ chunk_send
       chunk_response))))))))
 
-  -- The extended data of an ERROR with this code, behind its detail.
+  -- The extended data of an ERROR with this code, after its detail.
   abbrev extended_layout : (version : ℕ) → Layout ResponseMessage
   extended_layout version =
       Number 1 any (λ detail.

@@ -178,7 +178,7 @@ module _ (r : RspSetup) (h : History) (s : StandsBack h) (whole dropped : List �
     | inr is ↦ ap (λ (n : ℕ). n == CHUNK_GET) is
   ]
 
-  -- What hangs on the clear part alone.
+  -- What depends on the clear part alone.
   by_turns : {A : Type 0} (F : List Turn → A) → ((u : Turn) (ts : List Turn) → is_taken u ≡ false → u.effect ≡ NoEffect → F (u ∷ ts) ≡ F ts) → F (now ∷ clear_turns g) ≡ F (now ∷ clear_turns k)
       → F (clear_turns (front ∷ g)) ≡ F (clear_turns (s.behind ++ back ∷ k))
   by_turns F idle same = same ∙ sym (behind_same F idle s.behind (back ∷ k) s.are)

@@ -1,4 +1,4 @@
--- The request of a fetch that began late may have led to its bytes at its place exactly where it may lead to them as the
+-- The request of a fetch that began late may have led to its bytes at its place exactly when it may lead to them as the
 -- newest one, under another tag.
 use Rattle.std.proofs.Common.{◌≡◌, ◌≢◌, ◌==◌, ◌&&◌, ◌++◌, ◌∙◌, ℕ, List, [], ◌∷◌, refl, sym, ap, subst, Bool, true, false, Option, Some, None, cond, eq-eqb, eqb-true, ne_eqb}
 use Rattle.std.specs.Prelude.{MatchBool, bytes_eq, not}
@@ -79,7 +79,7 @@ module _ (r : RspSetup) (h : History) (s : StandsBack h) (whole dropped : List �
   touched_of None is = refl
   touched_of (Some i) is = not-true (touched i h) (sym (touch_is_told h s i) ∙ is)
 
-  -- Behind these drops its id is in use at both, or at neither.
+  -- After these drops its id is in use at both, or at neither.
   held_drops : (ids : List ℕ) → AreShown r h (request_in front) (Adds front) ids → touched_by (id_begun front) h ≡ false → takes PSK_EXCHANGE now ≡ true
       → is_held (with_dropped h ids) id ≡ is_held (with_dropped s.before ids) id
   held_drops [] shown none psk = (untouched_is_told h s id (psk_was psk) (touched_id psk none)).0
@@ -106,7 +106,7 @@ module _ (r : RspSetup) (h : History) (s : StandsBack h) (whole dropped : List �
       may_drop h i (told.1 ∙ dropped_may s.before i may)
   drops_back (i ∷ j ∷ ids) shown none may = absurd shown
 
-  -- What is shown hangs on no history and on no tag.
+  -- What is shown depends on no history and on no tag.
   shown_back : (ids : List ℕ) → AreShown r h (request_in front) (Adds front) ids → AreShown r s.before (request_in back) (Adds back) ids
   shown_back [] shown = tt
   shown_back (i ∷ []) shown = shown

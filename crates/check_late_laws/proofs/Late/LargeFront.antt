@@ -1,4 +1,5 @@
--- A request whose large answer passed unseen may lead to LargeResponse elsewhere too, behind the drops of all sessions.
+-- A request whose large response passed unseen may lead to LargeResponse elsewhere too, after the drops of all
+-- sessions.
 use Rattle.std.proofs.Common.{◌≡◌, ◌≤◌, ◌&&◌, ◌++◌, ◌∙◌, ℕ, zero, suc, List, [], ◌∷◌, refl, sym, ap, subst, arith, true, false, Option, None, inl, inr}
 use Rattle.check_late_laws.proofs.Late.Behind.{kept_passed}
 use Rattle.check_late_laws.proofs.Late.BehindClear.{IsFreeCode, code_with, phase_before, terms_before}
@@ -141,7 +142,7 @@ head_is e f l m is = cc
 tail_is : (e f : Entry) (l m : List Entry) → e ∷ l ≡ f ∷ m → l ≡ m
 tail_is e f l m is = cc
 
--- The newest entry is the request, or one behind it.
+-- The newest entry is the request, or one after it.
 module _ (r : RspSetup) (e : Entry) (h : History) (now : (tag : ℕ) (t : Turn) (d : Draw) → e ≡ Clear tag t d → IsPassed t → IsFree t → IsLedLargely r h e) (before : IsBehind e → WasLed r h) where
   by_behind : (es : List Entry) (tag : ℕ) (t : Turn) (d : Draw) (g : History) → e ∷ h ≡ es ++ Clear tag t d ∷ g → AreBehind es → IsPassed t → IsFree t → IsLedLargely r g (Clear tag t d)
   by_behind [] tag t d g is are passed free =

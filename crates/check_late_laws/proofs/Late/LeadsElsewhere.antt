@@ -1,5 +1,5 @@
--- A request for measurements or for a session may lead to the same behind two histories, where the negotiation is the same,
--- it is no repeat, and the session that it begins has an id that is in use in both or in neither.
+-- A request for measurements or for a session may lead to the same after two histories, where the negotiation is the
+-- same, it is no repeat, and the session that it begins has an id that is in use in both or in neither.
 use Rattle.std.proofs.Common.{◌≡◌, ◌≤◌, ◌==◌, ◌&&◌, ◌∙◌, ℕ, suc, zero, List, refl, sym, ap, subst, arith, length, Bool, true, false, Option, Some, None, cond, inl, inr}
 use Rattle.std.proofs.lemmas.Bool.{eqb-false}
 use Rattle.check_late_laws.proofs.Late.TurnElsewhere.{Asks, IsFreeRequest, asks, bytes_same, no_chunk, place_by, taken_none, turn_moved, with_id}
@@ -63,7 +63,7 @@ module _ (r : RspSetup) (g k : History) (m : List ℕ) (f : Free) (reached : pha
   abbrev p : Place
   p = clear_place g
 
-  -- The place behind the other history, by what both have.
+  -- The place after the other history, by what both have.
   abbrev o : Place
   o = place_by (phase_of (clear_turns g)) (negotiation_of (clear_turns g)) (clear_turns k) (held_of k)
 

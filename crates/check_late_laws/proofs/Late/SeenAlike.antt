@@ -1,5 +1,5 @@
--- A session whose large answer was not seen, and the same with some bytes as that answer: all that is read off it is the
--- same, but for those.
+-- A session whose large response was not seen, and the same with some bytes as that answer: all that is read off it is
+-- the same, but for those.
 use Rattle.std.proofs.Common.{◌≡◌, ◌+◌, ◌==◌, ◌||◌, ℕ, List, [], ◌∷◌, refl, sym, ap, ◌∙◌, Bool, false, Option, cond}
 use Rattle.spdm_grammar.specs.Message.{RequestMessage}
 use Rattle.spdm_grammar.specs.Codes.{code_for}

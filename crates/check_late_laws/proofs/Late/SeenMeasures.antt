@@ -1,5 +1,5 @@
--- GET_MEASUREMENTS in a session: where its answer goes by LargeResponse, it goes so too where a large answer before it was not
--- seen.
+-- GET_MEASUREMENTS in a session: where its answer goes by LargeResponse, it goes so too where a large response before
+-- it was not seen.
 use Rattle.std.proofs.Common.{◌≡◌, ℕ, List, refl, sym, ap, ◌∙◌, subst, drop, Bool, Some}
 use Rattle.check_late_laws.proofs.TurnsMoved.{Near, refusal_moved}
 use Rattle.responder_machine.proofs.Codes.{asked-code}
@@ -22,7 +22,7 @@ use Rattle.capture_machine.specs.LargeAnswers.{IsLargeAnswer}
 use Rattle.check_late_laws.proofs.Late.MeasuredTurns.{GoesLarge, answer_at, bytes_are, goes_turn, large_turn}
 use Rattle.check_late_laws.proofs.Late.SeenAlike.{SeenAlike, answer_alike, exchange_alike, finish_alike, finish_answer_alike, negotiation_alike, opened_alike, response_epoch_alike, response_number_alike, stage_alike}
 
--- Whether a stage allows it hangs on nothing that is pending.
+-- Whether a stage allows it depends on nothing that is pending.
 stage_by : (stage : Stage) (a b : Bool) → stage_allows stage a GET_MEASUREMENTS ≡ stage_allows stage b GET_MEASUREMENTS
 stage_by Handshake a b = refl
 stage_by Open a b = refl
@@ -42,7 +42,7 @@ reply_alike psk s u t text pad a =
     let finished = finish_answer_alike s u a in
     cc
 
--- The same bytes go by chunks.
+-- The same bytes are sent in chunks.
 pub large_alike : (s u : Events) (whole : List ℕ) → SeenAlike s u → IsLargeAnswer (session_place s) whole → IsLargeAnswer (session_place u) whole
 large_alike s u whole a large = subst (λ (n : Negotiation). IsLargeAnswer (record (session_place u) { negotiation = n }) whole) (negotiation_alike s u a) large
 

@@ -1,5 +1,5 @@
--- Which records open as answers, in a history with some bytes as a large answer that was not seen in a session, and without;
--- and under which keys.
+-- Which records open as answers, in a history with some bytes as a large response that was not seen in a session, and
+-- without; and under which keys.
 use Rattle.std.proofs.Common.{◌≡◌, ◌+◌, ◌&&◌, ◌||◌, ℕ, List, [], ◌∷◌, refl, ap, ◌∙◌, take, Bool, true, false, Option, Some, cond}
 use Rattle.std.specs.Prelude.{bytes_eq, is_none, not}
 use Rattle.key_schedule.specs.Purpose.{Purpose}

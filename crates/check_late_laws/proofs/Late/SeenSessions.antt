@@ -1,4 +1,4 @@
--- The sessions of a history with some bytes as a large answer that was not seen in a session, and without.
+-- The sessions of a history with some bytes as a large response that was not seen in a session, and without.
 use Rattle.std.proofs.Common.{◌≡◌, ◌+◌, ◌*◌, ◌==◌, ℕ, List, [], ◌∷◌, refl, sym, ap, ◌∙◌, subst, Bool, true, false, Option, Some, cond}
 use Rattle.std.specs.Prelude.{not, nat_le, slice_index}
 use Rattle.std.proofs.lemmas.Bool.{false≢true}
@@ -54,7 +54,7 @@ live_events e _ _ NoEvent = NoEvent
 live_events e _ _ (Behind x s u a) = Behind e (x ∷ s) (x ∷ u) (Behind x s u a)
 live_events e _ _ (Here m t x n large other w v reply s u not a) = Behind e _ _ (Here m t x n large other w v reply s u not a)
 
--- The large answer itself.
+-- The large response itself.
 live_here : (m : List ℕ) (t : Turn) (a : RequestMessage) (n : List ℕ) (large other : Option ℕ) (w v reply : List ℕ) (s : Events) → (code_for a == PSK_FINISH) ≡ false
     → SeenAlike (when_live s (Heard m (answered t a n large w) reply)) (when_live s (Heard m (answered t a n other v) reply))
 live_here m t a n large other w v reply [] not = NoEvent

@@ -1,4 +1,5 @@
--- Whether a record updates all keys hangs on no byte of a large answer of its session, nor on whether one is pending.
+-- Whether a record updates all keys depends on no byte of a large response of its session, nor on whether one is
+-- pending.
 use Rattle.std.proofs.Common.{◌≡◌, ◌+◌, ◌==◌, ◌&&◌, ◌||◌, ℕ, List, [], ◌∷◌, refl, sym, ap, ◌∙◌, subst, drop, Bool, true, false, Option, Some, None, cond}
 use Rattle.std.specs.Option.{option_or}
 use Rattle.std.specs.Prelude.{is_none, is_some, nat_lt, not, length, slice_index}

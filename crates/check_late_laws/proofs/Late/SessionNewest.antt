@@ -1,4 +1,4 @@
--- The large answer to the newest record of a session stands in the newest event of that session.
+-- The large response to the newest record of a session stands in the newest event of that session.
 use Rattle.std.proofs.Common.{◌≡◌, ◌==◌, ◌&&◌, ◌∙◌, ℕ, List, [], ◌∷◌, refl, sym, ap, Bool, true, false, Some, is_some, cond, eqb-true, ne_eqb}
 use Rattle.std.proofs.lemmas.Bool.{false≢true}
 use Rattle.check_late_laws.proofs.Late.BehindClear.{code_with}

@@ -1,4 +1,4 @@
--- In a walk no large answer is pending in a session: what was not seen is not, and what was seen was given whole.
+-- In a walk no large response is pending in a session: what was not seen is not, and what was seen was given whole.
 use Rattle.std.proofs.Common.{◌≡◌, ◌*◌, ◌+◌, ◌==◌, ◌||◌, ◌⊎◌, ◌∙◌, ℕ, List, [], ◌∷◌, refl, sym, ap, subst, drop, arith, Bool, true, false, Option, Some, None, Result, Ok, Err, is_some, cond, eq-eqb, eqb-true, inl, inr}
 use Rattle.std.specs.Prelude.{MatchBool, nat_le, nat_lt, not, slice_index}
 use Rattle.std.proofs.lemmas.Bool.{eqb-false, false≢true, not-true}

@@ -1,5 +1,5 @@
--- The sessions behind the last chunk of a large answer in the clear: each is as before it, but for the one that the answer begins,
--- in which no record came.
+-- The sessions after the last chunk of a large response in the clear: each is as before it, but for the one that the
+-- answer begins, in which no record came.
 use Rattle.std.proofs.Common.{◌≡◌, ◌==◌, ◌&&◌, ◌⊎◌, ◌∙◌, ℕ, List, [], ◌∷◌, refl, sym, ap, subst, Bool, true, false, Option, Some, None, cond, eqb-true, inl, inr}
 use Rattle.std.specs.Prelude.{MatchBool, not}
 use Rattle.std.proofs.lemmas.Bool.{and_parts, false≢true, not-true}

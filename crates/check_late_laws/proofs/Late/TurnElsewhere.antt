@@ -1,5 +1,5 @@
--- A request for measurements or for a session leads to the same turn at two places in the clear that differ in what came
--- there and in the sessions alone: where neither has four sessions past their handshake, or measurements are asked for.
+-- A request for measurements or for a session leads to the same turn at two places in the clear that differ in what
+-- came there and in the sessions alone: where neither has four established sessions, or measurements are asked for.
 use Rattle.std.proofs.Common.{◌≡◌, ◌≢◌, ◌==◌, ◌&&◌, ◌||◌, ◌∙◌, ℕ, List, [], ◌∷◌, refl, sym, ap, arith, Bool, true, false, Option, Some, None, cond, inl, inr}
 use Rattle.std.proofs.lemmas.Bool.{false≢true}
 use Rattle.std.proofs.lemmas.Option.{none-some}

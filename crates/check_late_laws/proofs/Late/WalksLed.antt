@@ -246,7 +246,7 @@ after_led r g h tag body (Same b) may led = led
 after_led r g h tag body (Unopened b) may led = led
 after_led r g h tag body (Adds e) may led = seen_led r e h (led_seen r g tag body e may) (λ one. led)
 
--- A CHUNK_GET that was taken came behind no such request.
+-- A CHUNK_GET that was taken came after no such request.
 get_not : (tag : ℕ) (t : Turn) (d : Draw) → takes CHUNK_GET t ≡ true → IsBehind (Clear tag t d) → ⊥
 get_not tag t d gets behind = false≢true (ap (λ (x : Effect). code_in x == CHUNK_GET) (sym behind.1) ∙ gets)
 

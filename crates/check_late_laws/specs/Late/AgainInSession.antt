@@ -10,7 +10,7 @@ use Rattle.capture_machine.specs.LargeAnswers.{repeats_large, seen_turn, with_la
 use Rattle.capture_machine.specs.Rounds.{Dialogue}
 use Rattle.world_machine.specs.Setup.{Configuration}
 
--- The session, with these bytes as the large answer to its newest record.
+-- The session, with these bytes as the large response to its newest record.
 abbrev pub newest_with : List ℕ → Events → Events
 newest_with whole (Heard m t reply ∷ older) = Heard m (seen_turn whole t) reply ∷ older
 newest_with whole s = s

@@ -1,4 +1,4 @@
--- A request in the clear whose large answer passed unseen, and what came behind it. This project's own.
+-- A request in the clear whose large response passed unseen, and what came after it. This project's own.
 use Rattle.std.specs.Prelude.{◌≡◌, ◌||◌, ◌++◌, not, ℕ, List, [], ◌∷◌, if◌then◌else◌, Bool, true, false, Some, None}
 use Rattle.check_laws.specs.Walks.{Walks}
 use Rattle.requester_machine.specs.Setup.{ReqSetup}
@@ -29,12 +29,13 @@ abbrev pub AreBehind : List Entry → Type 0
 AreBehind [] = Unit {0}
 AreBehind (e ∷ es) = IsBehind e × AreBehind es
 
--- The turn was taken, and its large answer was not seen.
+-- The turn was taken, and its large response was not seen.
 pub record IsPassed (t : Turn) : Type 0 where
   pub taken : is_taken t ≡ true
   pub unseen : is_unseen_effect t.effect ≡ true
 
--- The newest request in the clear that was taken is one whose answer passed unseen, and only such entries came behind it.
+-- The newest request in the clear that was taken is one whose answer passed unseen, and only such entries came after
+-- it.
 pub record StandsBack (h : History) : Type 0 where
   pub behind : List Entry
   pub tag : ℕ
@@ -64,6 +65,7 @@ abbrev pub RepeatIsPassed : Type 0
 RepeatIsPassed = (r : RspSetup) (h : History) (s : StandsBack h) (tag : ℕ) (m answer : List ℕ) → MayLeadTo r h tag (clear_body m) (Same answer)
     → (tag ≡ s.tag) × (m ≡ s.turn.message) × (answer ≡ clear_body s.turn.reply)
 
--- Whether the session of an id was touched since that request is told by a mark for each id, which is kept entry by entry.
+-- Whether the session of an id was touched since that request is determined by a mark for each id, which is kept entry
+-- by entry.
 abbrev pub TouchIsTold : Type 0
 TouchIsTold = (h : History) (s : StandsBack h) (id : ℕ) → is_untouched None (Some id) h ≡ not (touched id h)

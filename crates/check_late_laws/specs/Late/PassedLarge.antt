@@ -1,4 +1,4 @@
--- The request whose large answer passed unseen may still get LargeResponse, as the newest one. This project's own.
+-- The request whose large response passed unseen may still get LargeResponse, as the newest one. This project's own.
 use Rattle.std.specs.Prelude.{◌≡◌, ◌≢◌, ◌∷◌, ℕ, List, true, false}
 use Rattle.check_laws.specs.Walks.{Walks}
 use Rattle.check_late_laws.specs.Late.Passed.{IsBehind, IsPassed, StandsBack}
@@ -17,13 +17,13 @@ use Rattle.capture_machine.specs.LargeAnswers.{is_large, unseen}
 use Rattle.capture_machine.specs.Rounds.{Dialogue}
 use Rattle.world_machine.specs.Setup.{Configuration, known_of}
 
--- An entry is what its request led to with some bytes as its large answer, behind some drops, but for that answer.
+-- An entry is what its request led to with some bytes as its large response, after some drops, but for that answer.
 abbrev pub IsLedLargely : RspSetup → (before : History) → Entry → Type 0
 IsLedLargely r before entry =
     (dropped : List ℕ) × (led : Entry) × MayLeadTo r (with_dropped before dropped) (tag_in entry) (request_in entry) (Adds led)
     × (is_large led ≡ true) × (unseen led ≡ entry)
 
--- That hangs on the negotiation alone, where the request is no repeat.
+-- That depends on the negotiation alone, where the request is no repeat.
 abbrev pub LedElsewhere : Type 0
 LedElsewhere = (r : RspSetup) (g k : History) (tag other : ℕ) (t : Turn) (d : Draw) → IsFree t → is_taken t ≡ true
     → phase_of (clear_turns g) ≡ phase_of (clear_turns k) → negotiation_of (clear_turns g) ≡ negotiation_of (clear_turns k) → is_repeat (kept_of k) other t.message ≡ false
@@ -33,7 +33,8 @@ LedElsewhere = (r : RspSetup) (g k : History) (tag other : ℕ) (t : Turn) (d : 
 abbrev pub WasLed : RspSetup → History → Type 0
 WasLed r h = (s : StandsBack h) → IsFree s.turn → IsLedLargely r s.before (Clear s.tag s.turn s.draw)
 
--- So it is behind one more entry: this is such a request, and then it has to hold of it; or it came behind one, or is another.
+-- So it is after one more entry: this is such a request, and then it has to hold of it; or it came after one, or is
+-- another.
 abbrev pub LedGoesOn : Type 0
 LedGoesOn = (r : RspSetup) (h : History) (e : Entry) → ((tag : ℕ) (t : Turn) (d : Draw) → e ≡ Clear tag t d → IsPassed t → IsFree t → IsLedLargely r h e) → (IsBehind e → WasLed r h)
     → WasLed r (e ∷ h)

@@ -1,5 +1,5 @@
--- The last chunk of a large answer whose fetch began late: it is judged as if its request had come last, under another tag.
--- This project's own.
+-- The last chunk of a large response whose fetch began late: it is judged as if its request had come last, under
+-- another tag. This project's own.
 use Rattle.std.specs.Prelude.{◌≡◌, ◌≢◌, ◌↔◌, ◌⊎◌, ◌++◌, ℕ, List, [], ◌∷◌, Bool, true, false, Option, Some, None}
 use Rattle.check_laws.specs.Walks.{Walks}
 use Rattle.check_late_laws.specs.Late.Passed.{StandsBack, touched}
@@ -51,9 +51,9 @@ WasAnew h s = is_repeat (kept_of s.before) s.tag s.turn.message ≡ false
 abbrev pub RequestWasAnew : Type 0
 RequestWasAnew = (w : Configuration) (q : ReqSetup) (older : List (List ℕ)) (d : Dialogue) → Walks w q older d → (s : StandsBack d.responder) → WasAnew d.responder s
 
--- The request may have led to these bytes at its place, after these drops, and the session that they begin was not touched
--- since, exactly where it may lead to them now, as the newest one under another tag, and no mark says that the session was
--- touched.
+-- The request may have led to these bytes at its place, after these drops, and the session that they begin was not
+-- touched since, exactly when it may lead to them now, as the newest one under another tag, and no mark says that the
+-- session was touched.
 abbrev pub LastIsInFront : Type 0
 LastIsInFront = (r : RspSetup) (since : List Entry) (h : History) (s : StandsBack h) (whole dropped : List ℕ) (other : ℕ)
     → AreSince since → IsFree s.turn → WasAnew h s → other ≢ s.tag

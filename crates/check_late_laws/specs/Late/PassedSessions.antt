@@ -1,4 +1,4 @@
--- The sessions behind a request whose large answer passed unseen. This project's own.
+-- The sessions after a request whose large response passed unseen. This project's own.
 use Rattle.std.specs.Prelude.{◌≡◌, ◌∷◌, ℕ, true, false}
 use Rattle.check_laws.specs.DropsShown.{may_be_dropped}
 use Rattle.check_late_laws.specs.Late.Passed.{StandsBack, touched}
@@ -19,7 +19,7 @@ UntouchedStays = (h : History) (s : StandsBack h) (id : ℕ) → touched id h �
 abbrev pub NoneBeginsSince : Type 0
 NoneBeginsSince = (h : History) (s : StandsBack h) (id : ℕ) → is_live (session_of id h) ≡ true → is_live (session_of id s.before) ≡ true
 
--- Behind PSK_EXCHANGE each that is live is past its handshake.
+-- After PSK_EXCHANGE each that is live is established.
 abbrev pub AllArePast : Type 0
 AllArePast = (h : History) (s : StandsBack h) (id : ℕ) → takes PSK_EXCHANGE s.turn ≡ true → is_live (session_of id h) ≡ true
     → is_past_handshake (stage_of (session_of id h)) ≡ true

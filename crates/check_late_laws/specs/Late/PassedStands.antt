@@ -1,4 +1,4 @@
--- What a connection stands for behind the last chunk of a large answer whose fetch began late. This project's own.
+-- What a connection stands for after the last chunk of a large response whose fetch began late. This project's own.
 use Rattle.std.specs.Prelude.{◌≡◌, ◌++◌, ℕ, List, ◌∷◌, true, false}
 use Rattle.check_late_laws.specs.Late.Passed.{StandsBack}
 use Rattle.check_late_laws.specs.Late.PassedLast.{IsFree, in_front, touched_by}
@@ -29,9 +29,9 @@ pub record AreNear (h g : History) : Type 0 where
 
 -- ---- The laws.
 
--- So it is where the request, with its whole answer, stands in front of what came behind it, under any tag, in place of
--- standing at its own: where the session that it begins was not touched since, and none was dropped before it but one that
--- the answer shows.
+-- So it is where the request, with its whole answer, precedes what came after it, under any tag, in place of standing
+-- at its own: where the session that it begins was not touched since, and none was dropped before it but one that the
+-- answer shows.
 abbrev pub FrontIsNear : Type 0
 FrontIsNear = (r : RspSetup) (h : History) (s : StandsBack h) (whole dropped : List ℕ) (other : ℕ)
     → IsFree s.turn → touched_by (id_begun (in_front h s other whole)) h ≡ false

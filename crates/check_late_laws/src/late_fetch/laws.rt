@@ -1,5 +1,4 @@
-//! What stands behind a request whose large answer passed unseen, each law as the contract of a function that does
-//! nothing.
+//! What follows a request whose large response passed unseen, each law as the contract of a function that does nothing.
 
 ghost use Rattle.check_late_laws.specs.Late.AgainInSession.{AgainIsNewest, AgainLeavesOthers};
 ghost use Rattle.check_late_laws.specs.Late.Marking.{RefusedLeavesMarks};
@@ -10,7 +9,7 @@ ghost use Rattle.check_late_laws.specs.Late.PassedLast.{LastIsInFront, LastStays
 ghost use Rattle.check_late_laws.specs.Late.PassedSessions.{AllArePast, NoneBeginsSince, UntouchedIsTold, UntouchedStays};
 ghost use Rattle.check_late_laws.specs.Late.PassedStands.{EndedStays, FrontIsNear, NearGoesOn, NearIsKept};
 
-/// Where a repeat gets LargeResponse again, only records, refused messages and drops came behind its request.
+/// Where a repeat gets LargeResponse again, only records, refused messages and drops came after its request.
 pub fn repeat_stands_back()
     ensures { RepeatStandsBack }
 {}
@@ -35,7 +34,7 @@ pub fn none_begins_since()
     ensures { NoneBeginsSince }
 {}
 
-/// Behind PSK_EXCHANGE no session is in its handshake.
+/// After PSK_EXCHANGE no session is in its handshake.
 pub fn all_are_past()
     ensures { AllArePast }
 {}
@@ -45,7 +44,7 @@ pub fn untouched_is_told()
     ensures { UntouchedIsTold }
 {}
 
-/// Behind the last chunk the request and the drops before it stay at their place.
+/// After the last chunk the request and the drops before it stay at their place.
 pub fn last_stays_back()
     ensures { LastStaysBack }
 {}
@@ -61,7 +60,7 @@ pub fn near_goes_on()
     ensures { NearGoesOn }
 {}
 
-/// Behind a message in the clear that was taken the kept message is the same too.
+/// After a message in the clear that was taken the kept message is the same too.
 pub fn near_is_kept()
     ensures { NearIsKept }
 {}
@@ -71,7 +70,7 @@ pub fn ended_stays()
     ensures { EndedStays }
 {}
 
-/// The request may have led to its large answer at its place exactly where it may lead to it now, as the newest one
+/// The request may have led to its large response at its place exactly when it may lead to it now, as the newest one
 /// under another tag, and the session that it begins was not touched since.
 pub fn last_is_in_front()
     ensures { LastIsInFront }
@@ -97,7 +96,7 @@ pub fn large_is_in_front()
     ensures { LargeIsInFront }
 {}
 
-/// Whether a request led to LargeResponse hangs on the negotiation alone, where it is no repeat.
+/// Whether a request led to LargeResponse depends on the negotiation alone, where it is no repeat.
 pub fn led_elsewhere()
     ensures { LedElsewhere }
 {}
@@ -107,7 +106,7 @@ pub fn led_goes_on()
     ensures { LedGoesOn }
 {}
 
-/// An answer is the last chunk of a large one whose fetch began late exactly where its request may lead to the bytes in
+/// An answer is the last chunk of a large one whose fetch began late exactly when its request may lead to the bytes in
 /// front, and no mark is set of the session that they begin.
 pub fn late_completes()
     ensures { LateCompletes }

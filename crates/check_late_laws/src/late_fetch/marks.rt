@@ -15,7 +15,7 @@ impl Marks {
     ghost use Rattle.responder_machine.specs.Turn.{Turn, is_taken};
     ghost use Rattle.spdm_machine.specs.Keys.{Draw};
 
-    /// Where nothing came yet.
+    /// The initial state, before any message.
     pub fn new() -> Marks
         ensures { StandsFor result [] }
     {
@@ -31,7 +31,7 @@ impl Marks {
         Marks { set: self.set }
     }
 
-    // The session of this RspSessionID was touched.
+    // The session with this RspSessionID was touched.
     fn mark(&mut self, id: u16)
         ensures own { 1 ≤ id → id ≤ 4 → mark_of self.new id ≡ true }
         ensures others { (i : ℕ) → i ≢ id → mark_of self.new i ≡ mark_of self.old i }
@@ -41,7 +41,7 @@ impl Marks {
         }
     }
 
-    /// A record for the session of this RspSessionID was taken, or the session was dropped.
+    /// A record for the session with this RspSessionID was taken, or the session was dropped.
     pub fn touch(&mut self, id: u16)
         ensures record_came { (h : History) (tag : ℕ) (sealed : List ℕ) (t : Turn) (reply : List ℕ) (d : Draw)
             → id ≡ id_in_record sealed → StandsFor self.old h
@@ -59,7 +59,7 @@ impl Marks {
         self.set = [false, false, false, false];
     }
 
-    // The mark of this RspSessionID; none where it is 0 or above 4.
+    // The mark with this RspSessionID; none where it is 0 or above 4.
     fn marked(&self, id: u16) -> bool
         ensures { result ≡ mark_of self.now id }
     {
@@ -69,7 +69,7 @@ impl Marks {
         self.set[usize::from(id) - 1]
     }
 
-    /// Whether the session of this RspSessionID from 1 to 4 was touched.
+    /// Whether the session with this RspSessionID from 1 to 4 was touched.
     pub fn is_touched(&self, id: u16) -> bool
         ensures { (h : History) → StandsFor self.now h → 1 ≤ id → id ≤ 4 → result ≡ touched id h }
     {
