@@ -1,4 +1,4 @@
--- How long an answer is hangs on the lengths of what is chosen alone, and a response is read off its bytes.
+-- How long an answer is depends on the lengths of what is chosen alone, and a response is read off its bytes.
 use Rattle.std.proofs.Common.{◌≡◌, ◌<◌, ◌≤◌, ◌+◌, ◌==◌, ◌||◌, ℕ, zero, suc, List, [], ◌++◌, refl, ap, length, Bool, true, false, Option, Some, None, arith, length-append}
 use Rattle.std.proofs.lemmas.Bool.Decides.{nat_tests}
 use Rattle.std.specs.Prelude.{if◌then◌else◌, unwrap_or}

@@ -1,4 +1,4 @@
--- Whether the verify data of an answer are alone wrong is told from what it shows.
+-- Whether the verify data of an answer are alone wrong is determined by what it shows.
 use Rattle.std.proofs.Common.{◌≡◌, ◌<◌, ◌≤◌, ◌==◌, ℕ, List, [], ◌∷◌, refl, sym, ap, ◌∙◌, subst, length, drop, Bool, true, false, Option, Some, None, cond, inl, inr}
 use Rattle.std.specs.Prelude.{slice_index}
 use Rattle.std.proofs.lemmas.Bool.{false≢true}
@@ -61,7 +61,7 @@ module _ (r : RspSetup) (tag : ℕ) (sealed : List ℕ) (f : Free) where
 
 -- ---- An entry whose answer carries it.
 
--- It is no large answer, and no CHUNK_GET.
+-- It is no large response, and no CHUNK_GET.
 module _ (r : RspSetup) (g : History) (tag : ℕ) (body : List ℕ) (f : Free) (entry : Entry) where
   clear_entry : (again : Bool) (kept : List ℕ) → cond again (Same kept) (Adds (Clear tag (turn_of r (clear_place g) (drop 1 body) f) no_draw)) ≡ Adds entry → carries_exchange (sent_by entry) ≡ true
       → (is_large entry ≡ false) × (takes_get entry ≡ false)
@@ -146,7 +146,7 @@ module _ (r : RspSetup) (d : Dialogue) (round : Round) (answer : List ℕ) (byte
   abbrev body : List ℕ
   body = round.body
 
-  -- Where no large answer is fetched.
+  -- Where no large response is fetched.
   abbrev still : Dialogue
   still = record d { fetching = None }
 

@@ -1,4 +1,4 @@
--- A session that is begun as the last chunk of a large PSK_EXCHANGE_RSP was fetched is live behind it.
+-- A session that is begun as the last chunk of a large PSK_EXCHANGE_RSP was fetched is live after it.
 use Rattle.std.proofs.Common.{◌≡◌, ◌∙◌, ◌+◌, ◌==◌, ◌&&◌, ℕ, List, [], ◌∷◌, Bool, true, false, cond, Option, Some, None, length, refl, sym, ap, subst, arith, eqb-true}
 use Rattle.std.specs.Prelude.{MatchBool, nat_lt, not}
 use Rattle.std.proofs.lemmas.Bool.{and_left, and_parts, and_right, false≢true, le-ltb, not-true}
@@ -22,7 +22,7 @@ use Rattle.capture_machine.specs.SessionTable.{begins, begun_count, last_begun}
 
 -- ---- The history behind a last chunk.
 
--- The large answer of the place has these bytes, and these sessions were dropped before it.
+-- The large response of the place has these bytes, and these sessions were dropped before it.
 abbrev pub settled : Option ℕ → (whole ids : List ℕ) → History → History
 settled place whole ids h = with_large place whole (dropped_before_large place ids h)
 

@@ -1,4 +1,4 @@
--- A session that an answer begins is live behind it, and has an id from 1 to 4.
+-- A session that an answer begins is live after it, and has an id from 1 to 4.
 use Rattle.std.proofs.Common.{◌≡◌, ◌≤◌, ◌∙◌, ◌+◌, ◌==◌, ◌&&◌, ℕ, List, [], ◌∷◌, Bool, true, false, None, cond, drop, length, refl, sym, ap, subst, arith, inl, inr, eq-eqb, eqb-true, lt-ltb}
 use Rattle.std.specs.Prelude.{nat_lt, not, slice_index}
 use Rattle.std.proofs.lemmas.Bool.{and_parts, and_right, false≢true, le-ltb, ltb-true}

@@ -109,7 +109,7 @@ module _ (r : RspSetup) (p : Place) (m : List ℕ) (f : Free) where
 
 -- ---- A turn.
 
--- PSK_EXCHANGE came whole, or by chunks, of which the last one is answered.
+-- PSK_EXCHANGE came whole, or in chunks, of which the last one is answered.
 pub data Carries (r : RspSetup) (p : Place) (m : List ℕ) (f : Free) (reply : List ℕ) (c : Option ChunkMessage) : Type 0 where
   Plainly : (x : ExchangeMessage) → c ≡ None → Exchanges r p m f x → reply ≡ canonical_response (exchange_answer r p m f x) → Carries r p m f reply c
   InAck : (chunk : ChunkMessage) → (x : ExchangeMessage) → c ≡ Some chunk → chunk.last ≡ true → Exchanges r (inside p) (joined_with (under_way (chunks_of p.turns)) chunk) f x

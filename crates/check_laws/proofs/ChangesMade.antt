@@ -37,12 +37,12 @@ none_begun h next same = ap (λ b. cond b (Some (last_begun next)) None) (no_mor
 none_replied : (h next : History) → length next ≡ length h → replied_in h next ≡ None
 none_replied h next same = ap (λ b. cond b (answered_in next) None) (no_more (length h) (length next) same)
 
--- Behind an entry that is no record.
+-- After an entry that is no record.
 no_record : (b : Bool) (o : Option ℕ) → o ≡ None → cond b o None ≡ None
 no_record true o none = none
 no_record false o none = refl
 
--- Behind a record.
+-- After a record.
 one_longer : (h next : History) (o : Option ℕ) → length h ≤ length next → cond (nat_lt (length h) (suc (length next))) o None ≡ o
 one_longer h next o few = ap (λ b. cond b o None) (lt-ltb (length h) (suc (length next)) (omega (arith, few)))
 

@@ -1,4 +1,4 @@
--- Whether a large answer is fetched behind an answer hangs on no value that the requester chose when it heard it.
+-- Whether a large response is fetched after an answer depends on no value that the requester chose when it heard it.
 use Rattle.std.proofs.Common.{◌≡◌, ◌==◌, ℕ, List, ◌∷◌, refl, sym, ap, ◌∙◌, false, Option, Some, None}
 use Rattle.std.proofs.lemmas.Bool.{not-true}
 use Rattle.std.proofs.lemmas.Option.{none-some}

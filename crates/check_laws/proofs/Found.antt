@@ -10,7 +10,7 @@ use Rattle.check_laws.specs.Order.{is_answer, is_known, is_request}
 use Rattle.check_laws.specs.declared.pair.Pair.{Pair}
 use Rattle.check_laws.proofs.Kept.{stays_pair}
 
--- A packet is of no other requester than that with this end point.
+-- A packet is of no other requester than that with this endpoint.
 abbrev pub IsOfOne : (own : ℕ) → PacketFields → (eid : ℕ) → Type 0
 IsOfOne own p eid = (n : ℕ) → n ≢ eid → (is_request own n p ≡ false) × (is_answer own n p ≡ false)
 
@@ -50,7 +50,7 @@ pub record Hit (own : ℕ) (older : List (List ℕ)) (eid n i : ℕ) (xs : List 
   pub known : is_known eid qs ≡ true
   pub change : (packet : List ℕ) (p : PacketFields) → parsed packet ≡ Ok p → IsOfOne own p eid → (new : Pair) → IsPair new own eid (packet ∷ older) → ArePairs (slice_set xs k new) own (packet ∷ older) qs
 
--- No end point of the others is that of the one which was found.
+-- No endpoint of the others is that of the one which was found.
 first_is : (eid : ℕ) (q o : ReqSetup) (qs : List ReqSetup) (b : Bool) → (o.eid == eid) ≡ b → o.eid ≢ q.eid → q.eid ≡ eid → (is_known eid qs ≡ true → ⊥) → (b || is_known eid qs) ≡ true → ⊥
 first_is eid q o qs true e other same next known = other (eqb-true _ _ e ∙ sym same)
 first_is eid q o qs false e other same next known = next known

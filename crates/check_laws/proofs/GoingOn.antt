@@ -27,7 +27,7 @@ use Rattle.check_laws.proofs.AnsweredOn.{replies_from}
 use Rattle.check_laws.proofs.AskedOn.{asks_from}
 use Rattle.check_laws.specs.Going.{AsksGoOn, GoesOnFromEach, RepliesGoOn, is_shared, is_shared_from, is_shared_to, shows_padding}
 
--- In both walks the dialogue with an end point stands at one place.
+-- In both walks the dialogue with an endpoint stands at one place.
 pub record Other (es : List Dialogue) (eid : ℕ) (d : Dialogue) : Type 0 where
   pub dialogue : Dialogue
   pub at : dialogue_at eid es ≡ Some dialogue

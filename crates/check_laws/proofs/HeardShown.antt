@@ -1,4 +1,4 @@
--- What is kept behind an answer hangs on no value that the requester chose when it heard it.
+-- What is kept after an answer depends on no value that the requester chose when it heard it.
 use Rattle.std.proofs.Common.{◌≡◌, ◌==◌, ℕ, List, [], ◌∷◌, refl, sym, ap, ◌∙◌, true, false, Option, Some, None}
 use Rattle.std.proofs.lemmas.Bool.{not-true}
 use Rattle.std.proofs.lemmas.Option.{none-some}
@@ -30,7 +30,7 @@ use Rattle.capture_machine.specs.CapturedRequests.{is_later, owes}
 use Rattle.requester_machine.specs.Owed.{with_next}
 use Rattle.capture_machine.specs.Rounds.{Dialogue, Round, following_tag, no_draw}
 
--- What is between two ends, with this history of the requester, behind an answer in this round.
+-- What is between two ends, with this history of the requester, after an answer in this round.
 abbrev pub behind : ReqSetup → responder_history.History → Round → Option (List ℕ) → Option (List ℕ) → History → Dialogue
 behind q r rd sending fetching l = record { setup = q; requester = l; responder = r; round = Some rd; sending = sending; fetching = fetching }
 

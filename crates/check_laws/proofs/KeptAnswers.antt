@@ -1,4 +1,4 @@
--- An answer goes on from what is kept exactly where it goes on from some walk.
+-- An answer goes on from what is kept exactly when it goes on from some walk.
 use Rattle.std.proofs.Common.{◌≡◌, ◌==◌, ◌&&◌, not, ℕ, List, [], ◌∷◌, refl, sym, ap, ◌∙◌, subst, Bool, true, false, Option, Some, None, Result, Ok, eqb-true, arith}
 use Rattle.std.specs.Prelude.{MatchBool}
 use Rattle.std.proofs.lemmas.Bool.{not-true}

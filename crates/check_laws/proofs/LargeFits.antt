@@ -1,4 +1,4 @@
--- The answer of an entry that brings LargeResponse is one that goes by chunks.
+-- The answer of an entry that brings LargeResponse is one that is sent in chunks.
 use Rattle.std.proofs.Common.{◌≡◌, ◌≤◌, ◌==◌, ℕ, List, [], refl, sym, ap, ◌∙◌, subst, length, drop, Bool, true, false, Option, Some, None, is_some, cond, inl, inr}
 use Rattle.std.specs.Prelude.{slice_index}
 use Rattle.std.proofs.lemmas.Bool.{false≢true}
@@ -37,7 +37,7 @@ use Rattle.capture_machine.specs.Rounds.{no_draw}
 abbrev pub turn_place : Place → Turn → Place
 turn_place p t = cond (is_some t.chunk) (inside p) p
 
--- Its answer goes by chunks there, where it went by LargeResponse.
+-- Its answer is sent in chunks there, where it went by LargeResponse.
 abbrev Fits : Place → Turn → Type 0
 Fits p t = is_some (handle_in t.effect) ≡ true → IsLargeAnswer (turn_place p t) (answer_in t.effect)
 

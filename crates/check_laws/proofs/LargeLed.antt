@@ -1,4 +1,4 @@
--- A LargeResponse that may be given behind some drops may be given behind those that count as dropped before it.
+-- A LargeResponse that may be given after some drops may be given after those that count as dropped before it.
 use Rattle.std.proofs.Common.{◌≡◌, ◌≤◌, ◌==◌, ℕ, List, [], ◌∷◌, refl, sym, ap, ◌∙◌, subst, length, drop, Bool, true, false, Option, Some, None, is_some, cond}
 use Rattle.std.specs.Prelude.{slice_index}
 use Rattle.std.proofs.lemmas.Bool.{false≢true}
@@ -169,7 +169,7 @@ module _ (r : RspSetup) (f k : Free) (tag : ℕ) (sealed : List ℕ) (e : Entry)
   unfolding on_record
   record_too h is = ended_too (phase_of (clear_turns h)) (session_of (id_in_record sealed) h) _ (repeats (ended_of h) sealed) is
 
--- A session that is live behind drops is the same before them.
+-- A session that is live after drops is the same before them.
 live_stays : (ids : List ℕ) (h : History) (id : ℕ) → is_live (session_of id (with_dropped h ids)) ≡ true → session_of id (with_dropped h ids) ≡ session_of id h
 unfolding session_of
 live_stays [] h id live = refl
@@ -236,7 +236,7 @@ module _ (r : RspSetup) (h : History) (ids : List ℕ) (tag : ℕ) (body : List 
 
 -- ---- Any body.
 
--- Behind the drops that are chosen.
+-- After the drops that are chosen.
 pub large_leads : (r : RspSetup) (h : History) (ids chosen : List ℕ) (tag : ℕ) (body : List ℕ) (e : Entry) → IsChosen h ids chosen → MayLeadTo r (with_dropped h ids) tag body (Adds e) → is_large e ≡ true
     → Leads r (with_dropped h (cond (slice_index body 0 == 5) chosen [])) tag body e
 unfolding MayLeadTo

@@ -1,4 +1,4 @@
--- A turn that brings LargeResponse hangs on no id, and on how many sessions are held only where these are four.
+-- A turn that brings LargeResponse depends on no id, and on how many sessions are held only where these are four.
 use Rattle.std.proofs.Common.{◌≡◌, ◌+◌, ◌==◌, ◌&&◌, ◌||◌, ℕ, List, [], ◌∷◌, ◌++◌, refl, sym, ap, ◌∙◌, subst, length, drop, take, Bool, true, false, Option, Some, None, is_some, cond}
 use Rattle.std.specs.Prelude.{nat_lt, not}
 use Rattle.std.specs.Option.{option_or}
@@ -24,7 +24,7 @@ use Rattle.check_laws.proofs.AnswerLengths.{exchange_length}
 use Rattle.check_laws.proofs.LeastValues.{size_of}
 use Rattle.capture_machine.specs.CapturedAnswers.{answer_at}
 
--- The place beside so many sessions past their handshake.
+-- The place with so many established sessions.
 abbrev pub beside : Place → ℕ → Place
 beside p n = record p { past_handshake = n }
 

@@ -1,4 +1,4 @@
--- Which answers begin a large answer is told from what they show.
+-- Which answers begin a large response is determined by what they show.
 use Rattle.std.proofs.Common.{◌≡◌, ◌<◌, ◌==◌, ◌&&◌, ℕ, List, [], ◌∷◌, refl, sym, ap, ◌∙◌, subst, Bool, true, false, cond}
 use Rattle.std.specs.Prelude.{not, slice_index}
 use Rattle.std.proofs.lemmas.Bool.{false≢true}
@@ -48,7 +48,7 @@ module _ (r : RspSetup) (h : History) (tag : ℕ) (body : List ℕ) where
     abbrev IsIt : List ℕ → Outcome → Type 0
     IsIt answer o = LeadsAt r (with_dropped h drops) tag body o (value answer) × (is_whole o ≡ false) × (body_of o ≡ answer)
 
-    -- What may be led to behind some drops is what is shown.
+    -- What may be led to after some drops is what is shown.
     shown_from : (ids : List ℕ) (e : Entry) (next older : History) → MayLeadAfter r h ids tag body (Adds e) → is_large e ≡ true → next ≡ unseen e ∷ older
         → IsShownLarge r h tag body (sent_by e) × (next ≡ begun_large older (large_shown r h tag body (sent_by e)))
     unfolding large_shown MayLeadTo

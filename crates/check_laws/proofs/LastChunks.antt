@@ -1,4 +1,4 @@
--- What the last chunk of a large answer changes.
+-- What the last chunk of a large response changes.
 use Rattle.std.proofs.Common.{◌≡◌, ◌≤◌, ◌∙◌, ℕ, suc, List, [], ◌∷◌, Bool, true, false, cond, Option, Some, None, length, refl, sym, ap, arith}
 use Rattle.std.specs.Prelude.{MatchBool, nat_lt}
 use Rattle.std.proofs.lemmas.Bool.{and_left, false≢true}

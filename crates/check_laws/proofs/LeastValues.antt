@@ -77,7 +77,7 @@ module _ (r : RspSetup) (h : History) (p : Place) (m : List ℕ) (f k : Free) (f
   abbrev pub more : Option RequestMessage → ℕ
   more o = size_of r p m o f - size_of r p m o k
 
-  -- A longer answer has so many bytes more; or its length hangs on no value.
+  -- A longer answer has so many bytes more; or its length depends on no value.
   pub sized : (o : Option RequestMessage) (n : ℕ) → (size_of r p m o (lengthened k o n) ≡ size_of r p m o k + n) ⊎ (size_of r p m o (lengthened k o n) ≡ size_of r p m o f)
   sized None n = inr refl
   sized (Some (PskExchange x)) n =
@@ -144,7 +144,7 @@ module _ (r : RspSetup) (h : History) (p : Place) (m : List ℕ) (f k : Free) (f
   longer_allowed (Some (ChunkSend chunk)) n few = may
   longer_allowed (Some (ChunkGet handle number)) n few = may
 
--- No length hangs on the handle.
+-- No length depends on the handle.
 pub handle_free : (r : RspSetup) (p : Place) (m : List ℕ) (v : Free) (handle : ℕ) (o : Option RequestMessage) → size_of r p m o (record v { handle = handle }) ≡ size_of r p m o v
 handle_free r p m v handle None = refl
 handle_free r p m v handle (Some (PskExchange x)) = refl

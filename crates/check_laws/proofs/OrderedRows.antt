@@ -18,7 +18,7 @@ pub all_trivial : {X : Type 0} (xs : List X) → AllByRecursion (λ x. Unit {0})
 all_trivial [] = tt
 all_trivial (x ∷ xs) = (tt, all_trivial xs)
 
--- The row of a session that was begun, behind all others.
+-- The row of a session that was begun, after all others.
 abbrev pub new_rows : Dialogue → Dialogue → Bool → List Row
 new_rows before after b = cond b (new_row before after ∷ []) []
 

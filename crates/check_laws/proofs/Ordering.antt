@@ -13,7 +13,7 @@ use Rattle.capture_machine.specs.Capture.{Leads, Follows, FollowsBy, ComesFrom, 
 use Rattle.capture_machine.specs.Rounds.{Dialogue, Round, new_dialogue, dialogue_at, with_dialogue}
 use Rattle.world_machine.specs.Setup.{Configuration}
 
--- The dialogues are those of these requesters, in their order, with these rounds by their end points.
+-- The dialogues are those of these requesters, in their order, with these rounds by their endpoints.
 abbrev pub AreOf : (round : ℕ → Option Round) → List ReqSetup → List Dialogue → Type 0
 AreOf round [] [] = Unit {0}
 AreOf round (q ∷ qs) (d ∷ ds) = (d.setup.eid ≡ q.eid) × (d.round ≡ round q.eid) × AreOf round qs ds
@@ -25,7 +25,7 @@ new_are (q ∷ qs) = (refl, refl, new_are qs)
 
 -- ---- Which dialogue.
 
--- A dialogue with this end point and its round.
+-- A dialogue with this endpoint and its round.
 pub record Has (rounds : ℕ → Option Round) (qs : List ReqSetup) (at : ℕ) (d : Dialogue) : Type 0 where
   pub eid : d.setup.eid ≡ at
   pub round : d.round ≡ rounds at

@@ -27,7 +27,7 @@ at_four f d (suc (suc zero)) few = refl
 at_four f d (suc (suc (suc zero))) few = refl
 at_four f d (suc (suc (suc (suc slot)))) few = absurd (omega (arith, few))
 
--- A session is shown exactly where it is live.
+-- A session is shown exactly when it is live.
 pub shown_live : (s : Events) → is_some (shown s) ≡ is_live s
 shown_live [] = refl
 shown_live (e ∷ s) = refl
@@ -95,7 +95,7 @@ module _ (change : Change) (before after : Dialogue) (is : IsChange change befor
 
   -- ---- Both.
 
-  -- A test passes behind the rows at the new one, or where it did.
+  -- A test passes after the rows at the new one, or where it did.
   behind_all : (test : Row → Bool) (rows : List Row) (new : Row) (place : Option ℕ) (c : Bool) → test new ≡ c → PassesOnlyAt test rows (cond c None place) → PassesOnlyAt test (rows ++ new ∷ []) (cond c (Some (length rows)) place)
   behind_all test rows new place true passes at = passes_at_end test rows new at passes
   behind_all test rows new place false passes at = passes_behind test rows place new at passes
@@ -116,7 +116,7 @@ module _ (change : Change) (before after : Dialogue) (is : IsChange change befor
       subst (PassesOnlyAt (is_live_as after.setup.eid id) (mapped rows)) (left (is_live (session_of id after.responder)) (has_begun_as before after id) place)
       (live_by rows place id (stays_live before after id) refl at)
 
-  -- Behind the rows, where a session was begun; the place is the one that the code keeps.
+  -- After the rows, where a session was begun; the place is the one that the code keeps.
   live_at_new : (rows : List Row) (place : Option ℕ) (id : ℕ) → PassesOnlyAt (is_live_as before.setup.eid id) rows place → (b : Bool) → has_begun before after ≡ b
       → PassesOnlyAt (is_live_as after.setup.eid id) (mapped rows ++ new_rows before after b) (cond (has_begun_as before after id) (Some (length (mapped rows))) (cond (is_live (session_of id after.responder)) place None))
   live_at_new rows place id at true begun =

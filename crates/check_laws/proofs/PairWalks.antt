@@ -35,11 +35,11 @@ walks_setup w q (packet ∷ older) d walk = steps_setup w q.eid older walk.0 d (
 
 -- ---- A packet for one requester leaves the others.
 
--- What it makes of the one with this end point, by whether it comes from there or goes there.
+-- What it makes of the one with this endpoint, by whether it comes from there or goes there.
 abbrev pub Made : Configuration → (to : Bool) → (at : ℕ) → List (List ℕ) → PacketFields → Dialogue → Dialogue → Type 0
 Made w to at older p b n = MatchBool to (AsksBy b (gathered_from w.responder.eid at older p) n) (RepliesBy w b (gathered_from at w.responder.eid older p) n)
 
--- The packet is for the responder, from the requester with this end point; or from the responder, for that requester.
+-- The packet is for the responder, from the requester with this endpoint; or from the responder, for that requester.
 pub record IsFor (w : Configuration) (to : Bool) (at : ℕ) (p : PacketFields) : Type 0 where
   pub to_is : (p.to == w.responder.eid) ≡ to
   pub end : cond to p.from p.to ≡ at
@@ -145,7 +145,7 @@ one_walks w older packet to at p b n own (q ∷ qs) (d ∷ ds) parses is its mad
 one_walks w older packet to at p b n own [] (d ∷ ds) parses is its made apart each found = absurd each
 one_walks w older packet to at p b n own (q ∷ qs) [] parses is its made apart each found = absurd each
 
--- The end point of a dialogue is that of its requester.
+-- The endpoint of a dialogue is that of its requester.
 pub known_at : (w : Configuration) (older : List (List ℕ)) (at : ℕ) (b : Dialogue) (qs : List ReqSetup) (ds : List Dialogue) → WalkEach w older qs ds → dialogue_at at ds ≡ Some b → (b.setup.eid ≡ at) × (is_known at qs ≡ true)
 known_at w older at b [] [] each found = absurd (none-some b found)
 known_at w older at b (q ∷ qs) (d ∷ ds) each found = by_eid (d.setup.eid == at) refl found (known_at w older at b qs ds each.1)

@@ -40,7 +40,7 @@ found_walk w older eid d (q ∷ qs) (x ∷ ds) each found = by_eid (x.setup.eid 
 found_walk w older eid d [] (x ∷ ds) each found = absurd each
 found_walk w older eid d (q ∷ qs) [] each found = absurd each
 
--- Their end points differ.
+-- Their endpoints differ.
 all_apart : (w : Configuration) (older : List (List ℕ)) (n : ℕ) (qs : List ReqSetup) (ds : List Dialogue) → AllByRecursion (λ (o : ReqSetup). o.eid ≢ n) qs → WalkEach w older qs ds → AllByRecursion (λ (x : Dialogue). x.setup.eid ≢ n) ds
 all_apart w older n [] [] apart each = tt
 all_apart w older n (q ∷ qs) (d ∷ ds) apart each =
@@ -83,7 +83,7 @@ found_places eid d rows (x ∷ ds) have found = by_eid (x.setup.eid == eid) foun
     by_eid true here rest = (have.0.0, subst (λ (y : Dialogue). StandFor have.0.0 y rows) (same_Some x d here) have.0.1)
     by_eid false there rest = rest there
 
--- The places behind a step.
+-- The places after a step.
 stepped : (places : Places) (d next : Dialogue) (rows : List Row) → IsStep d next → StandFor places d rows → (other : Places) × StandFor other next (rows_between d next rows)
 stepped places d next rows step are =
     let n : ℕ = length (reverse rows) in

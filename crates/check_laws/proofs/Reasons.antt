@@ -28,7 +28,7 @@ use Rattle.world_machine.specs.Setup.{Configuration, known_of}
 
 -- ---- A walk tells what the order tells.
 
--- A reason that is told behind two tests, of which the later reasons are none of the order.
+-- A reason that is told after two tests, of which the later reasons are none of the order.
 abbrev pub told_by : (other wrong : Bool) → Why → Option Why
 told_by other wrong why = Some (cond other BadPacket (cond wrong WrongTurn why))
 

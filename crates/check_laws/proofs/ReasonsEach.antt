@@ -1,4 +1,4 @@
--- Why a packet is refused hangs on the one requester that it comes from or goes to.
+-- Why a packet is refused depends on the one requester that it comes from or goes to.
 use Rattle.std.proofs.Common.{◌≡◌, ◌==◌, ◌&&◌, not, ℕ, List, [], ◌∷◌, refl, sym, ap, ◌∙◌, subst, Bool, true, false, Some, Ok, cond, eqb-true}
 use Rattle.std.specs.Prelude.{MatchBool, find}
 use Rattle.std.proofs.lemmas.Bool.{false≢true}

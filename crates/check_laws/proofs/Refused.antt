@@ -33,7 +33,7 @@ use Rattle.world_machine.specs.Setup.{known_of}
 
 -- ---- A request.
 
--- The inner message of PSK_FINISH hangs on no padding.
+-- The inner message of PSK_FINISH depends on no padding.
 finish_same : (s t : Sent) → SentAlike s t → finish_in (Some s) ≡ finish_in (Some t)
 finish_same _ _ (Equal s) = refl
 finish_same _ _ (Padded tag psk s id ask inner pad padding) = by_ask ask

@@ -1,4 +1,4 @@
--- What is kept behind an answer that goes whole is a function of what it shows.
+-- What is kept after an answer that goes whole is a function of what it shows.
 use Rattle.std.proofs.Common.{◌≡◌, ◌<◌, ◌||◌, ◌⊎◌, ℕ, List, [], refl, sym, ap, ◌∙◌, subst, Bool, true, false, Option, Some, None, is_some, cond, inl, inr}
 use Rattle.std.specs.Prelude.{not}
 use Rattle.std.proofs.lemmas.Bool.{false≢true}

@@ -1,4 +1,4 @@
--- What is kept behind an answer is a function of what it shows.
+-- What is kept after an answer is a function of what it shows.
 use Rattle.std.proofs.Common.{◌≡◌, ◌<◌, ◌⊎◌, ℕ, List, refl, sym, ap, ◌∙◌, false, Some, None, inl, inr}
 use Rattle.mctp_framing.specs.Gathering.{Gathered}
 use Rattle.mctp_framing.specs.Gathering.Gathered.{Whole, More, Dropped}

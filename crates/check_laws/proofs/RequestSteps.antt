@@ -1,4 +1,4 @@
--- What a request changes of what rows of the table hang on, by what is kept.
+-- What a request changes of what rows of the table depend on, by what is kept.
 use Rattle.std.proofs.Common.{◌≡◌, ◌==◌, ◌+◌, ◌%◌, ◌∙◌, ℕ, List, [], ◌∷◌, Bool, true, false, cond, Option, Some, None, length, refl, ap, sym, subst, inl, inr, arith, eq-eqb, eqb-true}
 use Rattle.std.specs.Prelude.{nat_lt, not}
 use Rattle.std.proofs.lemmas.Bool.Decides.{nat_tests}

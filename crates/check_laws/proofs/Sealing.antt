@@ -60,7 +60,7 @@ clear_own q h f tag aim m asked led d (ByExchange exchange answer rsp asks read 
     some_next (IsOwn q.psk (with_next None (TookClear tag m led d ∷ h)) f.pad) led.next _ (ap (λ (l : Led). l.next) is)
     (sealed_own q.psk (with_next None (TookClear tag m led d ∷ h)) f.pad _ _ exchange.req_id AskFinish (with_answer h exchange answer) here)
 
--- The session behind a record that does not end it.
+-- The session after a record that does not end it.
 record_here : (q : ReqSetup) (h : History) (tag id : ℕ) (ask : Ask) (sealed inner : List ℕ) (led : Led) (d : Draw) (effect : Effect) → led.effect ≡ effect → ends effect ≡ false
     → session_of id (with_next None (TookRecord tag id sealed inner led d ∷ h)) ≡ when_live (session_of id h) (Took sealed inner effect)
 unfolding session_of

@@ -118,7 +118,7 @@ module _ (r : RspSetup) (h : History) (s : Events) (f k : Free) (byte : r.beat <
         let P : List ℕ → Type 0 = λ l. (inner_reply (turn_of r p m (value l)) ≡ inner_reply (turn_of r p m f)) × IsAllowed h p (value l) × (length (answer_bytes r p m (value l)) ≤ MAX_MESSAGE_SIZE) × ((value l).pad ≡ k.pad) in
         subst P (sym text) (there, gives.allowed, gives.short, gives.pad)
 
-    -- Application data hang on no length of an answer.
+    -- Application data depend on no length of an answer.
     data_allowed : IsAllowed h p (record k { reply = f.reply })
     data_allowed = record {
       least = may.least;
@@ -167,7 +167,7 @@ updates_by r s request f k None = by_type (slice_index request 0 == 5)
     by_type true = updates_same r s (drop 1 request) f k
     by_type false = refl
 
--- Under which key and number a record is answered hangs on no value.
+-- Under which key and number a record is answered depends on no value.
 pub updates_alike : (r : RspSetup) (s : Events) (request : List ℕ) (f k : Free) → updates 2 (session_turn r s request f) ≡ updates 2 (session_turn r s request k)
 unfolding session_turn
 updates_alike r s request f k = updates_by r s request f k (inner_refusal (stage_of s) request)

@@ -1,4 +1,4 @@
--- Whether a message is refused hangs on the length of its answer alone.
+-- Whether a message is refused depends on the length of its answer alone.
 use Rattle.std.proofs.Common.{◌≡◌, ◌≢◌, ◌≤◌, ◌+◌, ◌-◌, ◌&&◌, ◌||◌, ℕ, List, [], ◌∷◌, ◌++◌, refl, sym, ap, ◌∙◌, length, drop, take, Bool, true, false, Option, Some, None, cond, arith}
 use Rattle.std.specs.Prelude.{nat_lt, not}
 use Rattle.std.specs.Option.{option_or}

@@ -1,4 +1,4 @@
--- A command in a session is told by its record.
+-- A command in a session is determined by its record.
 use Rattle.std.proofs.Common.{◌≡◌, ◌≤◌, ℕ, List, ◌∷◌, refl, sym, ap, ◌∙◌, length, drop, false, Some, None, arith}
 use Rattle.std.specs.Prelude.{slice_index}
 use Rattle.std.proofs.lemmas.Option.{none-some, same_Some}

@@ -45,7 +45,7 @@ clear_type body is = by_type (slice_index body 0 == 5) is
     by_type true none = refl
     by_type false none = absurd (none-some (id_in_record (drop 1 body)) (sym none))
 
--- With the last chunk of a large answer in the clear nothing else was taken there since.
+-- With the last chunk of a large response in the clear nothing else was taken there since.
 pub completes_since : (r : RspSetup) (d : Dialogue) (round : Round) (answer : List ℕ) (next : History) → IsSound d → d.round ≡ Some round → Completes r d round answer next → place_named round.body ≡ None → IsClearSince d.responder
 completes_since r d round answer next sound at a named =
     let old = sound.fetched a.0 a.3 in

@@ -1,4 +1,4 @@
--- What is told of a packet, by its ends.
+-- What is reported of a packet, by its ends.
 use Rattle.std.proofs.Common.{◌≡◌, ◌<◌, ◌==◌, ◌&&◌, ◌++◌, not, ℕ, zero, suc, List, [], ◌∷◌, refl, sym, ap, ◌∙◌, subst, length, get_or, take, map, arith, Bool, true, false, Some, Result, Ok, cond, eq-eqb, ne_eqb}
 use Rattle.std.proofs.lemmas.Bool.{and_right}
 use Rattle.mctp_framing.specs.Packet.{PacketFields, parsed}

@@ -131,7 +131,7 @@ values_for r h body answer (Adds entry) =
     else record_values r h (drop 1 body) (drop 1 answer)
 values_for r h body answer _ = least_values h (place_for h body)
 
--- The values that an answer to a body shows. Whether something is added hangs on no value.
+-- The values that an answer to a body shows. Whether something is added depends on no value.
 unfoldable pub values_shown_by : RspSetup → History → ℕ → (body answer : List ℕ) → Free
 values_shown_by r h tag body answer = values_for r h body answer (on_body r h tag body (least_values h (place_for h body)) no_draw)
 
@@ -147,7 +147,7 @@ abbrev pub is_whole : Outcome → Bool
 is_whole (Adds entry) = not (is_large entry)
 is_whole _ = true
 
--- A body may lead to an outcome that brings no LargeResponse exactly where it leads to it at the values that the answer
+-- A body may lead to an outcome that brings no LargeResponse exactly when it leads to it at the values that the answer
 -- shows. The heartbeat period is a byte.
 abbrev pub AnswersAreShown : Type 0
 AnswersAreShown = (r : RspSetup) (h : History) (tag : ℕ) (body : List ℕ) (outcome : Outcome)

@@ -1,4 +1,4 @@
--- Whether the verify data of an answer are alone wrong is told from what it shows. This project's own.
+-- Whether the verify data of an answer are alone wrong is determined by what it shows. This project's own.
 use Rattle.std.specs.Prelude.{◌≡◌, ◌<◌, ◌↔◌, ℕ, List, true, None, Some}
 use Rattle.responder_machine.specs.History.{History}
 use Rattle.responder_machine.specs.May.{with_dropped}
@@ -25,7 +25,7 @@ IsApartShown r d round answer =
     × (carries_exchange (answer_shown r h round.tag round.body answer) ≡ true)
     × (is_apart (verify_size d) (answer_shown r h round.tag round.body answer) answer ≡ true)
 
--- So, while no large answer is fetched, the verify data of an answer are alone wrong exactly where that is so. The
+-- So, while no large response is fetched, the verify data of an answer are alone wrong exactly when that is so. The
 -- heartbeat period is a byte.
 abbrev pub ApartIsShown : Type 0
 ApartIsShown = (r : RspSetup) (d : Dialogue) (round : Round) (answer : List ℕ) → r.beat < 256 → d.fetching ≡ None

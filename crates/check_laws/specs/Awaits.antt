@@ -8,7 +8,7 @@ use Rattle.capture_machine.specs.Capture.{Leads}
 use Rattle.capture_machine.specs.Rounds.{Dialogue}
 use Rattle.world_machine.specs.Setup.{Configuration}
 
--- Behind packets that conform, a packet in order that brings a part of a body conforms, whatever the ends hold.
+-- After packets that conform, a packet in order that brings a part of a body conforms, whatever the ends hold.
 abbrev pub MoreConforms : Type 0
 MoreConforms = (w : Configuration) (older : List (List ℕ)) (packet : List ℕ) (ds : List Dialogue) → Leads w older ds
     → order_why w older packet ≡ None → brought_by w.responder.eid older (parsed packet) ≡ brought.More

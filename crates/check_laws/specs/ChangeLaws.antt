@@ -86,12 +86,12 @@ abbrev pub LargeAnswerChanges : Type 0
 LargeAnswerChanges = (d next : Dialogue) (entry : Entry) → next.responder ≡ unseen entry ∷ d.responder
     → (begun_between d next ≡ None) × (answered_between d next ≡ answered_by (Adds entry))
 
--- The RspSessionID of the session that the large answer under way at a place begins, with these bytes in its place.
+-- The RspSessionID of the session that the large response under way at a place begins, with these bytes in its place.
 abbrev pub begun_by_large : Option ℕ → List ℕ → History → Option ℕ
 begun_by_large place whole [] = None
 begun_by_large place whole (entry ∷ older) = if is_unseen_in place entry then begun_by (Adds (seen whole entry)) else begun_by_large place whole older
 
--- What the last chunk of a large answer changes, by which that is there whole.
+-- What the last chunk of a large response changes, by which that is there whole.
 abbrev pub LastChunkChanges : Type 0
 LastChunkChanges = (w : Configuration) (q : ReqSetup) (older : List (List ℕ)) (d next : Dialogue) (round : Round) (answer : List ℕ)
     → Walks w q older d → d.round ≡ Some round

@@ -1,5 +1,5 @@
--- What a packet changes between a requester and the responder, as far as rows of the table of sessions hang on it. This
--- project's own.
+-- What a packet changes between a requester and the responder, as far as rows of the table of sessions depend on it.
+-- This project's own.
 use Rattle.std.specs.Prelude.{◌≡◌, ◌≤◌, nat_lt, ℕ, List, [], ◌∷◌, length, if◌then◌else◌, true, Option, Some, None}
 use Rattle.requester_machine.specs.History as requester_history
 use Rattle.requester_machine.specs.Message.{Aim, Sent}

@@ -57,7 +57,7 @@ unfoldable pub outcome_shown : RspSetup → History → ℕ → (body answer : L
 outcome_shown r h tag body answer =
     let g = with_dropped h (drops_shown_by r h tag body answer) in on_body r g tag body (values_shown_by r g tag body answer) no_draw
 
--- It is that answer, these values are allowed, and it brings no part of a large answer that is judged otherwise.
+-- It is that answer, these values are allowed, and it brings no part of a large response that is judged otherwise.
 abbrev pub IsShownAnswer : RspSetup → History → ℕ → (body answer : List ℕ) → Type 0
 IsShownAnswer r h tag body answer =
     let g = with_dropped h (drops_shown_by r h tag body answer) in
@@ -65,7 +65,7 @@ IsShownAnswer r h tag body answer =
     × (is_plain h (outcome_shown r h tag body answer) ≡ true)
     × (body_of (outcome_shown r h tag body answer) ≡ answer)
 
--- An answer that goes whole may be given exactly where that is so, and the history after it is a function of what it
+-- An answer that goes whole may be given exactly when that is so, and the history after it is a function of what it
 -- shows. The heartbeat period is a byte.
 abbrev pub PlainIsShown : Type 0
 PlainIsShown = (r : RspSetup) (d : Dialogue) (round : Round) (answer : List ℕ) (next : History) → r.beat < 256

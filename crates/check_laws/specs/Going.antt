@@ -18,15 +18,15 @@ shows_padding d _ = false
 
 -- ---- One dialogue.
 
--- A request that goes on from what is between two ends in one walk goes on from what is between them in each other
--- one, where no large request is under way, and it is no record that was owed.
+-- A request that goes on from what is between two ends in one walk goes on from what is between them in each other one,
+-- where no large request is under way, and it is no record that was owed.
 abbrev pub AsksGoOn : Type 0
 AsksGoOn = (w : Configuration) (older : List (List ℕ)) (ds es : List Dialogue) (eid : ℕ) (d e : Dialogue) (g : Gathered) (next : Dialogue)
     → Leads w older ds → Leads w older es → dialogue_at eid ds ≡ Some d → dialogue_at eid es ≡ Some e
     → d.sending ≡ None → shows_padding d g ≡ false
     → AsksBy d g next → (other : Dialogue) × AsksBy e g other
 
--- An answer likewise, where no large answer is fetched.
+-- An answer likewise, where no large response is fetched.
 abbrev pub RepliesGoOn : Type 0
 RepliesGoOn = (w : Configuration) (older : List (List ℕ)) (ds es : List Dialogue) (eid : ℕ) (d e : Dialogue) (g : Gathered) (next : Dialogue)
     → Leads w older ds → Leads w older es → dialogue_at eid ds ≡ Some d → dialogue_at eid es ≡ Some e
@@ -40,7 +40,7 @@ abbrev pub is_shared_from : Configuration → List (List ℕ) → PacketFields �
 is_shared_from w older packet None = true
 is_shared_from w older packet (Some d) = is_none d.sending && not (shows_padding d (gathered_from w.responder.eid d.setup.eid older packet))
 
--- No large answer is fetched by this requester.
+-- No large response is fetched by this requester.
 abbrev pub is_shared_to : Option Dialogue → Bool
 is_shared_to None = true
 is_shared_to (Some d) = is_none d.fetching

@@ -38,17 +38,17 @@ why_of why.BadRecord = BadRecord
 
 -- ---- What is brought.
 
--- What a packet for the responder brings, of the requester with this end point.
+-- What a packet for the responder brings, of the requester with this endpoint.
 abbrev pub asked_of : (eid : ℕ) → Option Round → Gathered → Brought
 asked_of eid round (Whole route body) = if is_copy round route.tag body then brought.Copy eid else brought.Request eid
 asked_of eid round _ = brought.More
 
--- What a packet for the requester with this end point brings.
+-- What a packet for the requester with this endpoint brings.
 abbrev pub answered_of : (eid : ℕ) → Gathered → Brought
 answered_of eid (Whole route body) = brought.Answer eid
 answered_of eid _ = brought.More
 
--- What bytes bring behind those before them, the newest first.
+-- What bytes bring after those before them, the newest first.
 abbrev pub brought_by : (own : ℕ) → List (List ℕ) → Result PacketFields PacketFault → Brought
 brought_by own older (Err fault) = brought.More
 brought_by own older (Ok packet) =
@@ -58,12 +58,12 @@ brought_by own older (Ok packet) =
 
 -- ---- What is kept.
 
--- Who gathers the packets to one end point from another.
+-- Who gathers the packets to one endpoint from another.
 abbrev pub receiver_of : (own peer : ℕ) → Receiver
 receiver_of own peer = record { own = own; peer = peer; limit = body_limit }
 
--- It is kept of a requester with this end point after these packets, the newest first: the bodies that are gathered
--- in both directions, and the round under way.
+-- It is kept of a requester with this endpoint after these packets, the newest first: the bodies that are gathered in
+-- both directions, and the round under way.
 pub record IsPair (seen : Pair) (own eid : ℕ) (older : List (List ℕ)) : Type 0 where
   pub at : seen.eid.number ≡ eid
   pub asks_of : seen.requests.receiver ≡ receiver_of own eid
@@ -78,24 +78,24 @@ ArePairs [] own older [] = Unit {0}
 ArePairs (x ∷ xs) own older (q ∷ qs) = IsPair x own q.eid older × ArePairs xs own older qs
 ArePairs _ own older _ = ⊥
 
--- The end points of the responder and of the requesters differ.
+-- The endpoints of the responder and of the requesters differ.
 abbrev pub AreApart : (own : ℕ) → List ReqSetup → Type 0
 AreApart own [] = Unit {0}
 AreApart own (q ∷ others) =
     (q.eid ≢ own) × AllByRecursion (λ (other : ReqSetup). other.eid ≢ q.eid) others × AreApart own others
 
--- What is kept of requesters with these end points where no packet came yet.
+-- What is kept of requesters with these endpoints where no packet came yet.
 abbrev pub AreNew : List Pair → (own : ℕ) → List Eid → Type 0
 AreNew [] own [] = Unit {0}
 AreNew (x ∷ xs) own (e ∷ es) = IsPair x own e.number [] × AreNew xs own es
 AreNew _ own _ = ⊥
 
--- The end points are those of the configuration, in its order.
+-- The endpoints are those of the configuration, in its order.
 abbrev pub AreEnds : Configuration → (own : ℕ) → List Eid → Type 0
 AreEnds w own ends =
     (w.responder.eid ≡ own) × (map (λ (q : ReqSetup). q.eid) w.requesters ≡ map (λ (e : Eid). e.number) ends)
 
--- The requester has this end point.
+-- The requester has this endpoint.
 abbrev pub has_eid : ℕ → Pair → Bool
 has_eid eid x = x.eid.number == eid
 

@@ -48,7 +48,7 @@ kept_of d = record {
 abbrev pub Keeps : Configuration → ReqSetup → List (List ℕ) → Kept → Type 0
 Keeps w q older kept = (d : Dialogue) × Walks w q older d × (d.sending ≡ None) × (d.fetching ≡ None) × (kept ≡ kept_of d)
 
--- Where nothing came yet.
+-- The initial state, before any message.
 abbrev pub KeptBegins : Type 0
 KeptBegins = (w : Configuration) (q : ReqSetup) → Keeps w q [] (kept_of (new_dialogue q))
 
@@ -108,13 +108,13 @@ AsksKept k (Whole route body) next = IsBody body × (route.owner ≡ true) × (C
 AsksKept k More next = next ≡ k
 AsksKept k (Dropped cause) next = ⊥
 
--- What a packet from the requester makes of what is kept, is kept behind it.
+-- What a packet from the requester makes of what is kept, is kept after it.
 abbrev pub KeptAsks : Type 0
 KeptAsks = (w : Configuration) (q : ReqSetup) (older : List (List ℕ)) (packet : List ℕ) (p : PacketFields) (k next : Kept)
     → parsed packet ≡ Ok p → is_request w.responder.eid q.eid p ≡ true
     → Keeps w q older k → AsksKept k (gathered_from w.responder.eid q.eid older p) next → Keeps w q (packet ∷ older) next
 
--- Where some walk goes on with a packet from the requester, and no large request is under way behind it, it makes
+-- Where some walk goes on with a packet from the requester, and no large request is under way after it, it makes
 -- something of what is kept.
 abbrev pub AsksAreKept : Type 0
 AsksAreKept = (w : Configuration) (q : ReqSetup) (older : List (List ℕ)) (packet : List ℕ) (p : PacketFields) (k : Kept) (d : Dialogue)
@@ -147,18 +147,18 @@ KeptIsRestored = (w : Configuration) (q : ReqSetup) (older : List (List ℕ)) (k
 
 -- ---- An answer.
 
--- What a packet for the requester makes of what is kept, where no large answer is fetched behind it.
+-- What a packet for the requester makes of what is kept, where no large response is fetched after it.
 abbrev pub RepliesKept : Configuration → Kept → Gathered → Kept → Type 0
 RepliesKept w k g next = (d : Dialogue) × RepliesBy w (restored k) g d × (d.fetching ≡ None) × (next ≡ kept_of d)
 
--- It is kept behind it.
+-- It is kept after it.
 abbrev pub KeptReplies : Type 0
 KeptReplies = (w : Configuration) (q : ReqSetup) (older : List (List ℕ)) (packet : List ℕ) (p : PacketFields) (k next : Kept)
     → parsed packet ≡ Ok p → is_request w.responder.eid q.eid p ≡ false → is_answer w.responder.eid q.eid p ≡ true
     → Keeps w q older k → RepliesKept w k (gathered_from q.eid w.responder.eid older p) next → Keeps w q (packet ∷ older) next
 
--- Where some walk goes on with a packet for the requester, and no large answer is fetched behind it, it makes something
--- of what is kept.
+-- Where some walk goes on with a packet for the requester, and no large response is fetched after it, it makes
+-- something of what is kept.
 abbrev pub RepliesAreKept : Type 0
 RepliesAreKept = (w : Configuration) (q : ReqSetup) (older : List (List ℕ)) (packet : List ℕ) (p : PacketFields) (k : Kept) (d : Dialogue)
     → parsed packet ≡ Ok p → is_request w.responder.eid q.eid p ≡ false → is_answer w.responder.eid q.eid p ≡ true

@@ -1,4 +1,5 @@
--- What a request and an answer change of what rows of the table of sessions hang on, by what is kept. This project's own.
+-- What a request and an answer change of what rows of the table of sessions depend on, by what is kept. This project's
+-- own.
 use Rattle.std.specs.Prelude.{◌≡◌, ◌==◌, ◌&&◌, ◌||◌, not, Bool, ℕ, List, drop, slice_index, if◌then◌else◌, false, Option, Some, None}
 use Rattle.mctp_framing.specs.Gathering.{Gathered}
 use Rattle.requester_machine.specs.Hearing.{hears}
@@ -57,12 +58,12 @@ pub record IsAnswerStep (k : Kept) (round : Round) (answer : List ℕ) (next : K
   pub answered : answered_between (restored k) (restored next) ≡ taken_shown k.responder round.body answer
   pub asked : asked_between (restored k) (restored next) ≡ None
 
--- So it is behind each answer that may be given by what it shows.
+-- So it is after each answer that may be given by what it shows.
 abbrev pub KeptAnswerChanges : Type 0
 KeptAnswerChanges = (w : Configuration) (k : Kept) (tag : ℕ) (round : Round) (answer : List ℕ) → AnswersRound k tag round
     → IsShownAnswer (responder_for w k) k.responder round.tag round.body answer → IsAnswerStep k round answer (replied w k tag round answer)
 
--- Any answer behind which no large one is fetched is a step by which a change is taken.
+-- Any answer after which no large one is fetched is a step by which a change is taken.
 abbrev pub KeptAnswerIsStep : Type 0
 KeptAnswerIsStep = (w : Configuration) (q : ReqSetup) (older : List (List ℕ)) (k next : Kept) (g : Gathered)
     → Keeps w q older k → RepliesKept w k g next → IsStep (restored k) (restored next)

@@ -29,7 +29,7 @@ ShownHavePlaces = (w : Configuration) (older : List (List ℕ)) (ds : List Dialo
 
 -- ---- A packet.
 
--- Behind a packet from a requester the rows are those that it makes by what was kept before and is kept behind it.
+-- After a packet from a requester the rows are those that it makes by what was kept before and is kept after it.
 abbrev pub AsksShow : Type 0
 AsksShow = (w : Configuration) (q : ReqSetup) (older : List (List ℕ)) (packet : List ℕ) (p : PacketFields) (k next : Kept) (rows : List Row)
     → AreApart w.responder.eid w.requesters → IsOneOf w q
@@ -37,7 +37,7 @@ AsksShow = (w : Configuration) (q : ReqSetup) (older : List (List ℕ)) (packet 
     → Keeps w q older k → AsksKept k (gathered_from w.responder.eid q.eid older p) next
     → Show w older rows → Show w (packet ∷ older) (rows_between (restored k) (restored next) rows)
 
--- Likewise behind a packet for it, where no large answer is fetched then.
+-- Likewise after a packet for it, where no large response is fetched then.
 abbrev pub RepliesShow : Type 0
 RepliesShow = (w : Configuration) (q : ReqSetup) (older : List (List ℕ)) (packet : List ℕ) (p : PacketFields) (k next : Kept) (rows : List Row)
     → AreApart w.responder.eid w.requesters → IsOneOf w q
@@ -56,7 +56,7 @@ abbrev pub ShownIsTable : Type 0
 ShownIsTable = (w : Configuration) (packets : List (List ℕ)) (rows : List Row) (n : ℕ) (table : List Seen)
     → Show w (reverse packets) rows → StandsForRows table w n rows → HasTable w packets (map seen_of table)
 
--- Each requester is the first with its end point, and has its number in the configuration, counted from 1.
+-- Each requester is the first with its endpoint, and has its number in the configuration, counted from 1.
 abbrev pub NumbersAreOrder : Type 0
 NumbersAreOrder = (w : Configuration) (q : ReqSetup) (earlier later : List ReqSetup)
     → AreApart w.responder.eid w.requesters → w.requesters ≡ earlier ++ q ∷ later

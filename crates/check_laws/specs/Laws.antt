@@ -15,7 +15,7 @@ abbrev pub OneRound : Type 0
 OneRound = (w : Configuration) (older : List (List ℕ)) (ds : List Dialogue) (eid : ℕ) (d : Dialogue)
     → Leads w older ds → dialogue_at eid ds ≡ Some d → d.round ≡ round_of w.responder.eid eid older
 
--- A packet for which the order gives a reason does not conform behind those before it.
+-- A packet for which the order gives a reason does not conform after those before it.
 abbrev pub OrderRefuses : Type 0
 OrderRefuses = (w : Configuration) (older : List (List ℕ)) (packet : List ℕ) (why : Why)
     → order_why w older packet ≡ Some why → (after : List Dialogue) → Leads w (packet ∷ older) after → ⊥

@@ -1,5 +1,5 @@
--- The order of a capture's packets: which of them are no packets, go between unknown ends, or come out of turn. All
--- of it is read off the packets alone, whatever the two ends hold. This project's own.
+-- The order of a capture's packets: which of them are no packets, go between unknown ends, or come out of turn. All of
+-- it is read off the packets alone, whatever the two ends hold. This project's own.
 use Rattle.std.specs.Prelude.{◌+◌, ◌-◌, ◌==◌, ◌&&◌, ◌||◌, not, ℕ, List, [], ◌∷◌, if◌then◌else◌, Bool, true, false, Option, Some, None, Result, Ok, Err}
 use Rattle.mctp_framing.specs.Gathering.{Gathered}
 use Rattle.mctp_framing.specs.Gathering.Gathered.{Whole, More, Dropped}
@@ -14,7 +14,7 @@ use Rattle.world_machine.specs.Setup.{Configuration}
 
 -- ---- The round under way.
 
--- The body of the request that began a round; no bytes where there is none.
+-- The body of the request that began a round; empty where there is none.
 abbrev pub body_in : Option Round → List ℕ
 body_in None = []
 body_in (Some round) = round.body
@@ -46,7 +46,7 @@ abbrev pub round_by_answer : Option Round → Gathered → Option Round
 round_by_answer round (Whole route body) = round_answered round
 round_by_answer round _ = round
 
--- The packet goes to the responder, whose end point is `own`, from a requester.
+-- The packet goes to the responder, whose endpoint is `own`, from a requester.
 abbrev pub is_request : (own eid : ℕ) → PacketFields → Bool
 is_request own eid packet = packet.to == own && packet.from == eid
 
@@ -54,7 +54,7 @@ is_request own eid packet = packet.to == own && packet.from == eid
 abbrev pub is_answer : (own eid : ℕ) → PacketFields → Bool
 is_answer own eid packet = not (packet.to == own) && (packet.from == own && packet.to == eid)
 
--- The round after a packet behind those before it, the newest first.
+-- The round after a packet after those before it, the newest first.
 abbrev pub round_after : (own eid : ℕ) → List (List ℕ) → Option Round → Result PacketFields PacketFault → Option Round
 round_after own eid older round (Err fault) = round
 round_after own eid older round (Ok packet) =
@@ -99,7 +99,7 @@ answered_why round (Whole route body) =
 answered_why round More = None
 answered_why round (Dropped cause) = Some BadPacket
 
--- A requester with this end point is set up.
+-- A requester with this endpoint is set up.
 abbrev pub is_known : ℕ → List ReqSetup → Bool
 is_known eid [] = false
 is_known eid (q ∷ others) = q.eid == eid || is_known eid others
@@ -124,8 +124,8 @@ ordered_why own requesters older (Ok packet) =
     else (if packet.from == own then going_why own older packet (is_known packet.to requesters)
     else Some UnknownEnd)
 
--- The reason that the order gives why a packet does not conform behind those before it, the newest first; none where
--- its order is right.
+-- The reason that the order gives why a packet does not conform after those before it, the newest first; none where its
+-- order is right.
 unfoldable pub order_why : Configuration → List (List ℕ) → (packet : List ℕ) → Option Why
 order_why w older packet = ordered_why w.responder.eid w.requesters older (parsed packet)
 

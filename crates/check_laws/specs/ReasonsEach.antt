@@ -1,4 +1,4 @@
--- Why a packet is refused hangs on the one requester that it comes from or goes to. This project's own.
+-- Why a packet is refused depends on the one requester that it comes from or goes to. This project's own.
 use Rattle.std.specs.Prelude.{◌≡◌, ◌↔◌, ◌==◌, ℕ, List, find, true, Some, Ok}
 use Rattle.mctp_framing.specs.Gathering.{Gathered}
 use Rattle.mctp_framing.specs.Packet.{PacketFields, parsed}
@@ -13,7 +13,7 @@ use Rattle.capture_machine.specs.Difference.Why.{BadVerify}
 use Rattle.capture_machine.specs.Rounds.{Dialogue}
 use Rattle.world_machine.specs.Setup.{Configuration, known_of}
 
--- This requester is one of those that are set up, the first with its end point.
+-- This requester is one of those that are set up, the first with its endpoint.
 abbrev pub IsOneOf : Configuration → ReqSetup → Type 0
 IsOneOf w q = find (λ (o : ReqSetup). o.eid == q.eid) w.requesters ≡ Some q
 

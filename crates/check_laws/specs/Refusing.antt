@@ -1,4 +1,4 @@
--- Why a packet is refused is told from what is kept. This project's own.
+-- Why a packet is refused is determined by what is kept. This project's own.
 use Rattle.std.specs.Prelude.{◌≡◌, ◌↔◌, ℕ, List, [], ◌∷◌, map, true, Some}
 use Rattle.mctp_framing.specs.Gathering.{Gathered}
 use Rattle.mctp_framing.specs.Packet.{parsed}
@@ -12,7 +12,7 @@ use Rattle.capture_machine.specs.Difference.Why.{BadVerify}
 use Rattle.capture_machine.specs.Rounds.{Dialogue}
 use Rattle.world_machine.specs.Setup.{Configuration, known_of}
 
--- Each walk gives a refused request, and a refused answer, the reason that is told from what is kept, but for wrong
+-- Each walk gives a refused request, and a refused answer, the reason that is determined by what is kept, but for wrong
 -- verify data.
 abbrev pub KeptTellsWhy : Type 0
 KeptTellsWhy = (w : Configuration) (q : ReqSetup) (older : List (List ℕ)) (k : Kept) (d : Dialogue) (g : Gathered)

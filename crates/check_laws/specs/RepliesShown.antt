@@ -1,4 +1,4 @@
--- What is kept behind an answer that goes whole is a function of what was kept before it and of what the answer shows.
+-- What is kept after an answer that goes whole is a function of what was kept before it and of what the answer shows.
 -- This project's own.
 use Rattle.std.specs.Prelude.{◌≡◌, ◌<◌, ◌-◌, ◌⊎◌, ◌↔◌, ℕ, List, [], false, true, Option, Some, None}
 use Rattle.mctp_framing.specs.Gathering.{Gathered}
@@ -35,21 +35,21 @@ AnswersRound k tag round = (k.round ≡ Some round) × (round.tag ≡ tag) × (0
 
 -- ---- An answer that goes whole.
 
--- What the requester sends upon an answer has no padding in what is kept, and nothing else hangs on these values.
+-- What the requester sends upon an answer has no padding in what is kept, and nothing else depends on these values.
 abbrev pub no_values : Free
 no_values = record { id = 1; context = []; opaque = []; pad = [] }
 
--- The requester's history behind an answer.
+-- The requester's history after an answer.
 unfoldable pub heard_from : Kept → ℕ → (answer : List ℕ) → requester_history.History
 heard_from k tag answer = shown.after (restored k).requester (hears k.setup (restored k).requester false tag answer no_values no_draw)
 
--- The responder's history behind it.
+-- The responder's history after it.
 unfoldable pub answered_from : Configuration → Kept → Round → (answer : List ℕ) → History
 answered_from w k round answer =
     let r = responder_for w k in
     after (with_dropped k.responder (drops_shown_by r k.responder round.tag round.body answer)) (outcome_shown r k.responder round.tag round.body answer)
 
--- What is kept behind it.
+-- What is kept after it.
 abbrev pub replied : Configuration → Kept → ℕ → Round → (answer : List ℕ) → Kept
 replied w k tag round answer = kept_of (record (restored k) {
   requester = heard_from k tag answer;
@@ -84,7 +84,7 @@ LargelyKept w k _ next = ⊥
 
 -- ---- The law.
 
--- A packet for the requester goes on from what is kept exactly where it does so in one of these ways. The heartbeat
+-- A packet for the requester goes on from what is kept exactly when it does so in one of these ways. The heartbeat
 -- period is a byte.
 abbrev pub RepliesAreShown : Type 0
 RepliesAreShown = (w : Configuration) (q : ReqSetup) (older : List (List ℕ)) (k next : Kept) (g : Gathered)

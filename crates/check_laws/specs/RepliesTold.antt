@@ -1,5 +1,5 @@
--- What is kept behind an answer, where no large answer is fetched behind it, is a function of what was kept before it and
--- of what the answer shows. This project's own.
+-- What is kept after an answer, where no large response is fetched after it, is a function of what was kept before it
+-- and of what the answer shows. This project's own.
 use Rattle.std.specs.Prelude.{◌≡◌, ◌<◌, ◌⊎◌, ◌↔◌, ℕ, List, false, Some}
 use Rattle.mctp_framing.specs.Gathering.{Gathered}
 use Rattle.mctp_framing.specs.Gathering.Gathered.{Whole}
@@ -16,7 +16,7 @@ use Rattle.world_machine.specs.Setup.{Configuration}
 
 -- ---- LargeResponse that the requester does not take, so nothing is fetched.
 
--- What is kept behind it.
+-- What is kept after it.
 abbrev pub begun : Configuration → Kept → ℕ → Round → (answer : List ℕ) → Kept
 begun w k tag round answer = kept_of (record (restored k) {
   requester = heard_from k tag answer;
@@ -24,7 +24,7 @@ begun w k tag round answer = kept_of (record (restored k) {
   round = Some (answered round);
 })
 
--- It may be given by what it shows, and the requester asks for no chunk behind it.
+-- It may be given by what it shows, and the requester asks for no chunk after it.
 abbrev pub UnfetchedKept : Configuration → Kept → Gathered → Kept → Type 0
 UnfetchedKept w k (Whole route answer) next =
     IsBody answer × (route.owner ≡ false)
@@ -36,8 +36,8 @@ UnfetchedKept w k _ next = ⊥
 
 -- ---- The law.
 
--- A packet for the requester goes on from what is kept, with no large answer fetched behind it, exactly where it does so
--- in one of these two ways. The heartbeat period is a byte.
+-- A packet for the requester goes on from what is kept, with no large response fetched after it, exactly when it does
+-- so in one of these two ways. The heartbeat period is a byte.
 abbrev pub RepliesAreTold : Type 0
 RepliesAreTold = (w : Configuration) (q : ReqSetup) (older : List (List ℕ)) (k next : Kept) (g : Gathered)
     → w.responder.beat < 256 → IsSetUp k.setup → Keeps w q older k

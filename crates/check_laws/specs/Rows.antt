@@ -16,11 +16,11 @@ use Rattle.world_machine.specs.Setup.{Configuration}
 
 -- ---- Which rows a packet may change.
 
--- The row is of the requester with this end point, and its session is live under this RspSessionID.
+-- The row is of the requester with this endpoint, and its session is live under this RspSessionID.
 abbrev pub is_live_as : (eid id : ℕ) → Row → Bool
 is_live_as eid id row = row.eid == eid && (row.live && responder_id row == id)
 
--- The row is of the requester with this end point, and still has this ReqSessionID.
+-- The row is of the requester with this endpoint, and still has this ReqSessionID.
 abbrev pub does_ask_as : (eid id : ℕ) → Row → Bool
 does_ask_as eid id row = row.eid == eid && is_named row.asks_as (Some id)
 
@@ -122,7 +122,7 @@ new_entries requester (Some view) =
 
 -- ---- What a change makes of the places.
 
--- The place of a new entry, behind all others, where a session was begun.
+-- The place of a new entry, after all others, where a session was begun.
 abbrev pub new_place : Change → (entries : ℕ) → Option ℕ
 new_place change entries = if is_some (begun_view change) then Some entries else None
 
@@ -162,7 +162,7 @@ IdleRowsStay = (places : Places) (d : Dialogue) (rows : List Row) → StandFor p
 
 -- ---- All requesters.
 
--- Their end points differ.
+-- Their endpoints differ.
 abbrev pub AreDistinct : List Dialogue → Type 0
 AreDistinct [] = Unit {0}
 AreDistinct (d ∷ ds) = AllByRecursion (λ (other : Dialogue). other.setup.eid ≢ d.setup.eid) ds × AreDistinct ds

@@ -26,7 +26,7 @@ command_shown (PskExchange exchange) = Some (Open exchange.summary)
 command_shown (GetMeasurements op) = Some (Measure None op)
 command_shown _ = None
 
--- The values in its fields. Only PSK_EXCHANGE has any; of the others nothing hangs on them.
+-- The values in its fields. Only PSK_EXCHANGE has any; of the others nothing depends on them.
 abbrev pub values_shown : RequestMessage → Free
 values_shown (PskExchange exchange) = record { id = exchange.req_id; context = exchange.context; opaque = exchange.opaque; pad = [] }
 values_shown _ = record { id = 1; context = []; opaque = []; pad = [] }
@@ -42,7 +42,7 @@ IsCommanded q h asked =
     (command : Command) × (command_shown asked ≡ Some command) × AreAllowed q h asked
     × (asks false q h command (values_shown asked) no_draw ≡ Adds (Told command (plain_sent h asked) no_draw))
 
--- A command sends this body exactly where it spells a request that its command sends at the values that it shows.
+-- A command sends this body exactly when it encodes a request that its command sends at the values that it shows.
 abbrev pub ClearIsShown : Type 0
 ClearIsShown = (k : Kept) (m : List ℕ) → IsSetUp k.setup → k.owed ≡ None → outstanding k.requester ≡ None
     → ((after : History) × CommandsKept k (clear_body m) after) ↔ ((asked : RequestMessage) × IsCommanded k.setup k.requester asked × (m ≡ canonical_request asked))
@@ -67,7 +67,7 @@ IsCommandedIn q h sealed =
     × (command_fault false q h command (values_shown EndSession) ≡ None)
     × (sealed ≡ sealed_next q.psk (session_of id h) inner pad)
 
--- A command sends this record exactly where that holds.
+-- A command sends this record exactly when that holds.
 abbrev pub SealedIsShown : Type 0
 SealedIsShown = (k : Kept) (sealed : List ℕ) → IsSetUp k.setup → k.owed ≡ None → outstanding k.requester ≡ None
     → ((after : History) × CommandsKept k (record_body sealed) after) ↔ IsCommandedIn k.setup k.requester sealed

@@ -13,7 +13,7 @@ use Rattle.world_machine.specs.Setup.{Configuration}
 
 -- ---- One requester.
 
--- What a packet may make of what is between the responder and the requester with this end point: a packet from this
+-- What a packet may make of what is between the responder and the requester with this endpoint: a packet from this
 -- requester, or one for it. Any other leaves it as it is.
 abbrev pub StepsBy : Configuration → (eid : ℕ) → List (List ℕ) → Dialogue → Dialogue → Result PacketFields PacketFault → Type 0
 StepsBy w eid older d next (Err fault) = next ≡ d
@@ -22,7 +22,7 @@ StepsBy w eid older d next (Ok packet) =
     (AsksBy d (gathered_from w.responder.eid eid older packet) next)
     (MatchBool (is_answer w.responder.eid eid packet) (RepliesBy w d (gathered_from eid w.responder.eid older packet) next) (next ≡ d))
 
--- The same of bytes, behind the packets before them, the newest first.
+-- The same of bytes, after the packets before them, the newest first.
 unfoldable pub StepsTo : Configuration → (eid : ℕ) → List (List ℕ) → Dialogue → List ℕ → Dialogue → Type 0
 StepsTo w eid older d packet next = StepsBy w eid older d next (parsed packet)
 
@@ -51,7 +51,7 @@ abbrev pub all_between : Configuration → List (List ℕ) → Bool
 all_between w [] = true
 all_between w (packet ∷ older) = goes_between w (parsed packet) && all_between w older
 
--- Where the end points differ, a walk over packets is a walk for each requester over packets that all go between the
+-- Where the endpoints differ, a walk over packets is a walk for each requester over packets that all go between the
 -- responder and one of them.
 abbrev pub LeadsIsEach : Type 0
 LeadsIsEach = (w : Configuration) (older : List (List ℕ)) (ds : List Dialogue) → AreApart w.responder.eid w.requesters

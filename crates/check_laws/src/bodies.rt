@@ -9,7 +9,7 @@ use spdm_grammar::names::message_type::{SECURED, SPDM};
 // GET_VERSION in the clear, as a requester sends it.
 const GET_VERSION: &[u8] = &[SPDM, 0x10, 0x84, 0, 0];
 
-// A byte of a body, and 0 behind its end.
+// A byte of a body, and 0 after its end.
 pub fn byte_at(body: &[u8], at: usize) -> u8
     ensures { result ≡ slice_index body.now at }
 {
@@ -33,7 +33,7 @@ pub fn is_secured(body: &[u8]) -> bool
     byte_at(body, 0) == SECURED
 }
 
-// The bytes behind the first one, if there is one.
+// The bytes after the first one, if there is one.
 pub fn rest_of(body: &[u8]) -> &[u8]
     ensures { result.now ≡ drop 1 body.now }
 {

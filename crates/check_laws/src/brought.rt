@@ -3,10 +3,10 @@
 pub enum Brought {
     /// A part of a body, of which more is awaited.
     More,
-    /// A copy of the last request of the requester with this end point.
+    /// A copy of the last request of the requester with this endpoint.
     Copy(u8),
-    /// A request of the requester with this end point, by which a round begins.
+    /// A request of the requester with this endpoint, by which a round begins.
     Request(u8),
-    /// An answer for the requester with this end point.
+    /// An answer for the requester with this endpoint.
     Answer(u8),
 }

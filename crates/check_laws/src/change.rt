@@ -5,8 +5,7 @@ ghost use Rattle.capture_machine.specs.SessionTable.{is_named};
 use crate::Seen;
 use spdm_grammar::SessionView;
 
-/// What a packet changed between a requester and the responder, as far as rows of the table of
-/// sessions hang on it.
+/// What a packet changed between a requester and the responder, as far as rows of the table of sessions depend on it.
 #[derive(Debug, Drop)]
 pub struct Change {
     /// The RspSessionID of the session that PSK_EXCHANGE_RSP began.

@@ -1,5 +1,4 @@
-//! What a packet changes of what rows of the table hang on, each law as the contract of a function
-//! that does nothing.
+//! What a packet changes of what rows of the table depend on, each law as the contract of a function that does nothing.
 
 ghost use Rattle.check_laws.specs.ChangeLaws.{AckAcceptsNone, AnswerAccepts, AnswerAsksNone, CopyChanges, CopyIsRequest, LargeAnswerChanges, LastChunkChanges, RequestChanges, RoundIsRequest, WholeAnswerChanges};
 
@@ -38,7 +37,7 @@ pub fn large_answer_changes()
     ensures { LargeAnswerChanges }
 {}
 
-/// What the last chunk of a large answer changes.
+/// What the last chunk of a large response changes.
 pub fn last_chunk_changes()
     ensures { LastChunkChanges }
 {}

@@ -1,5 +1,5 @@
-//! What a request and an answer change of what rows of the table hang on, by what is kept, each law as
-//! the contract of a function that does nothing.
+//! What a request and an answer change of what rows of the table depend on, by what is kept, each law as the contract
+//! of a function that does nothing.
 
 ghost use Rattle.check_laws.specs.KeptChanges.{KeptAnswerChanges, KeptAnswerIsStep, KeptCopyIsRequest, KeptRoundIsRequest};
 
@@ -18,7 +18,7 @@ pub fn kept_answer_changes()
     ensures { KeptAnswerChanges }
 {}
 
-/// Each answer behind which no large one is fetched is a step by which a change is taken.
+/// Each answer after which no large one is fetched is a step by which a change is taken.
 pub fn kept_answer_is_step()
     ensures { KeptAnswerIsStep }
 {}

@@ -1,5 +1,5 @@
-//! Which rows of the table of sessions a capture shows, by what is kept of each of its requesters, each law
-//! as the contract of a function that does nothing.
+//! Which rows of the table of sessions a capture shows, by what is kept of each of its requesters, each law as the
+//! contract of a function that does nothing.
 
 ghost use Rattle.check_laws.specs.KeptRows.{AsksShow, MorePackets, NumbersAreOrder, RepliesShow, ShowBegins, ShownHavePlaces, ShownIsTable};
 
@@ -18,7 +18,7 @@ pub fn asks_show()
     ensures { AsksShow }
 {}
 
-/// So does a packet for it, where no large answer is fetched then.
+/// So does a packet for it, where no large response is fetched then.
 pub fn replies_show()
     ensures { RepliesShow }
 {}

@@ -1,5 +1,4 @@
-//! What the packets of a capture fix of all walks over them, each law as the contract of a function
-//! that does nothing.
+//! What the packets of a capture fix of all walks over them, each law as the contract of a function that does nothing.
 
 ghost use Rattle.check_laws.specs.AnswersShown.{AnswersAreShown, LargeAreShown};
 ghost use Rattle.check_laws.specs.ApartShown.{ApartIsShown};
@@ -35,12 +34,12 @@ pub fn order_is_alone()
     ensures { OrderIsAlone }
 {}
 
-/// Behind packets that conform that is the reason.
+/// After packets that conform that is the reason.
 pub fn order_is_reason()
     ensures { OrderIsReason }
 {}
 
-/// A packet in order that brings a part of a body conforms behind packets that do.
+/// A packet in order that brings a part of a body conforms after packets that do.
 pub fn more_conforms()
     ensures { MoreConforms }
 {}
@@ -50,14 +49,13 @@ pub fn order_tells()
     ensures { OrderTells }
 {}
 
-/// A request that goes on from one walk goes on from each other one, where no large request is under
-/// way, and it is no record that was owed.
+/// A request that goes on from one walk goes on from each other one, where no large request is under way, and it is no
+/// record that was owed.
 pub fn asks_go_on()
     ensures { AsksGoOn }
 {}
 
-/// An answer that goes on from one walk goes on from each other one, where no large answer is
-/// fetched.
+/// An answer that goes on from one walk goes on from each other one, where no large response is fetched.
 pub fn replies_go_on()
     ensures { RepliesGoOn }
 {}
@@ -97,7 +95,7 @@ pub fn kept_stays()
     ensures { KeptStays }
 {}
 
-/// What a request makes of what is kept, is kept behind it.
+/// What a request makes of what is kept, is kept after it.
 pub fn kept_asks()
     ensures { KeptAsks }
 {}
@@ -112,22 +110,22 @@ pub fn connects_always()
     ensures { ConnectsAlways }
 {}
 
-/// A command in the clear is told by its request, and by the values that this shows.
+/// A command in the clear is determined by its request, and by the values that this shows.
 pub fn clear_is_shown()
     ensures { ClearIsShown }
 {}
 
-/// A command in a session is told by its record.
+/// A command in a session is determined by its record.
 pub fn sealed_is_shown()
     ensures { SealedIsShown }
 {}
 
-/// An answer that goes whole is told by its body, and by the values that this shows.
+/// An answer that goes whole is determined by its body, and by the values that this shows.
 pub fn answers_are_shown()
     ensures { AnswersAreShown }
 {}
 
-/// LargeResponse is told by its body too, but for the bytes of the answer that it stands for.
+/// LargeResponse is determined by its body too, but for the bytes of the answer that it stands for.
 pub fn large_are_shown()
     ensures { LargeAreShown }
 {}
@@ -142,7 +140,7 @@ pub fn kept_is_restored()
     ensures { KeptIsRestored }
 {}
 
-/// What an answer makes of what is kept, is kept behind it.
+/// What an answer makes of what is kept, is kept after it.
 pub fn kept_replies()
     ensures { KeptReplies }
 {}
@@ -152,33 +150,32 @@ pub fn replies_are_kept()
     ensures { RepliesAreKept }
 {}
 
-/// What is kept behind an answer that goes whole is a function of what it shows.
+/// What is kept after an answer that goes whole is a function of what it shows.
 pub fn replies_are_shown()
     ensures { RepliesAreShown }
 {}
 
-/// Which answers begin a large answer is told from what they show.
+/// Which answers begin a large response is determined by what they show.
 pub fn large_is_shown()
     ensures { LargeIsShown }
 {}
 
-/// What is kept behind any answer, with no large answer fetched behind it, is a function of what it
-/// shows.
+/// What is kept after any answer, with no large response fetched after it, is a function of what it shows.
 pub fn replies_are_told()
     ensures { RepliesAreTold }
 {}
 
-/// Whether the verify data of an answer are alone wrong is told from what it shows.
+/// Whether the verify data of an answer are alone wrong is determined by what it shows.
 pub fn apart_is_shown()
     ensures { ApartIsShown }
 {}
 
-/// The reason of a refused packet is told from what is kept, but for wrong verify data.
+/// The reason of a refused packet is determined by what is kept, but for wrong verify data.
 pub fn kept_tells_why()
     ensures { KeptTellsWhy }
 {}
 
-/// That verify data are alone wrong is told from what is kept.
+/// That verify data are alone wrong is determined by what is kept.
 pub fn kept_tells_apart()
     ensures { KeptTellsApart }
 {}
@@ -188,12 +185,12 @@ pub fn kept_tells_reason()
     ensures { KeptTellsReason }
 {}
 
-/// Why a request is refused hangs on its requester alone.
+/// Why a request is refused depends on its requester alone.
 pub fn asked_reason_is_each()
     ensures { AskedReasonIsEach }
 {}
 
-/// Why an answer is refused hangs on the requester that it is for alone.
+/// Why an answer is refused depends on the requester that it is for alone.
 pub fn answered_reason_is_each()
     ensures { AnsweredReasonIsEach }
 {}

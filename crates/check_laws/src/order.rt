@@ -7,8 +7,8 @@ use spdm_basis::{Eid, OutOfMemory};
 use spdm_grammar::Why;
 use std::alloc::Global;
 
-/// The order of a capture's packets, one after another: which of them are no packets, go between
-/// unknown ends, or come out of turn. All its memory is taken when it is made.
+/// The order of a capture's packets, one after another: which of them are no packets, go between unknown ends, or come
+/// out of turn. Allocates only when constructed.
 #[derive(Drop)]
 pub struct Order {
     pub(crate) own: Eid,
@@ -39,8 +39,7 @@ impl Order {
     ghost use Rattle.check_laws.specs.Order.{order_why, ordered_why};
     ghost use Rattle.world_machine.specs.Setup.{Configuration};
 
-    /// Where no packet came yet between the responder, whose end point is `own`, and these
-    /// requesters.
+    /// Where no packet came yet between the responder, whose endpoint is `own`, and these requesters.
     pub fn new(alloc: Global, own: Eid, requesters: &[Eid]) -> Result<Order, OutOfMemory>
         ensures { (w : Configuration) → AreEnds w own.number requesters.now
             → AreApart w.responder.eid w.requesters
@@ -50,7 +49,7 @@ impl Order {
         Ok(Order { own, pairs })
     }
 
-    // The place of the requester with this end point, if there is one.
+    // The place of the requester with this endpoint, if there is one.
     fn place_of(&self, eid: u8) -> Option<usize>
         ensures place { result ≡ position_from (has_eid eid) 0 self.now.pairs.items }
         ensures inside { IfSome result (λ place. place < length self.now.pairs.items) }
@@ -58,9 +57,8 @@ impl Order {
         self.pairs.iter().position(|pair| pair.eid.number() == eid)
     }
 
-    /// The next packet of the capture. A reason why it does not conform is told where the order of
-    /// the packets gives one, and is the first that holds of the three; nothing is said of what is
-    /// kept then. It takes no memory.
+    /// The next packet of the capture. A reason why it does not conform is told where the order of the packets gives
+    /// one, and is the first that holds of the three; nothing is said of what is kept then. Never allocates.
     pub fn take(&mut self, packet: &[u8]) -> Result<Brought, Why>
         ensures told { (w : Configuration) (older : List (List ℕ)) → StandsFor self.old w older
             → IsTold (order_why w older packet.now)

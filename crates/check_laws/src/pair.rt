@@ -35,7 +35,7 @@ fn is_other_type(body: &[u8]) -> bool
     }
 }
 
-// A request came whole, of the requester with this end point.
+// A request came whole, of the requester with this endpoint.
 fn take_asked(round: &mut Round, eid: u8, route: Route, body: &[u8]) -> Result<Brought, Why>
     ensures told { IsTold (asked_why round.old (Whole (route_of route) body.now))
         (asked_of eid round.old (Whole (route_of route) body.now)) result }
@@ -57,7 +57,7 @@ fn take_asked(round: &mut Round, eid: u8, route: Route, body: &[u8]) -> Result<B
     Ok(brought)
 }
 
-// An answer came whole, for the requester with this end point.
+// An answer came whole, for the requester with this endpoint.
 fn take_answered(round: &mut Round, eid: u8, route: Route, body: &[u8]) -> Result<Brought, Why>
     ensures told { IsTold (answered_why round.old (Whole (route_of route) body.now))
         (answered_of eid (Whole (route_of route) body.now)) result }

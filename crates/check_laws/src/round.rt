@@ -19,9 +19,9 @@ const LEAST_HASH: usize = 32;
 // GET_VERSION in the clear, as a requester sends it.
 const GET_VERSION: &[u8] = &[SPDM, 0x10, 0x84, 0, 0];
 
-/// The round under way between the responder and a requester: the request that began it, how many
-/// of it and its copies have no answer yet, and whether one has. Contracts see it as that of the
-/// definitions, or none where nothing was asked yet.
+/// The round under way between the responder and a requester: the request that began it, how many of it and its copies
+/// have no answer yet, and whether one has. Contracts see it as that of the definitions, or none where nothing was
+/// asked yet.
 #[derive(Drop)]
 pub struct Round {
     begun: bool,
@@ -45,7 +45,7 @@ impl Model for Round {
     }) else None };
 }
 
-// Whether a message is GET_VERSION, in any spelling.
+// Whether a message is GET_VERSION, in any encoding.
 fn is_version(message: &[u8]) -> bool
     ensures { result ≡ is_get_version (request_value message.now) }
 {
@@ -102,15 +102,14 @@ impl Round {
         }
     }
 
-    /// Whether a request may begin a round here, in the one spelling of GET_VERSION that a requester
-    /// sends.
+    /// Whether a request may begin a round here, in the one encoding of GET_VERSION that a requester sends.
     pub fn may_begin(&self, body: &[u8]) -> bool
         ensures { result ≡ may_begin self.now body.now }
     {
         !self.begun || self.answered || body == GET_VERSION
     }
 
-    /// The body of the request that began the round; no bytes where nothing was asked yet.
+    /// The body of the request that began the round; empty where nothing was asked yet.
     pub fn body(&self) -> &[u8]
         ensures { result.now ≡ body_in self.now }
     {
@@ -143,8 +142,7 @@ impl Round {
         owner || !(self.begun && self.tag == tag && self.waiting > 0)
     }
 
-    /// A request of at most 4,161 bytes came in turn: a copy of the last one, or one that begins a
-    /// round.
+    /// A request of at most 4,161 bytes came in turn: a copy of the last one, or one that begins a round.
     pub fn ask(&mut self, tag: u8, body: &[u8])
         ensures { waiting_in self.old < 2 ^ 64 - 1 → length body.now ≤ 4161
             → self.new ≡ round_asked self.old tag body.now }

@@ -89,9 +89,9 @@ impl SessionTable {
         Ok(())
     }
 
-    /// A request came, a copy or one by which a round began, of the requester whose places these are:
-    /// a record of the session with this ReqSessionID, or none. Its entry has one more in requests,
-    /// and the places stay. It takes no memory. The counts are exact below 2^64 - 1 packets.
+    /// A request came, a copy or one by which a round began, of the requester whose places these are: a record of the
+    /// session with this ReqSessionID, or none. Its entry has one more in requests, and the places stay. Never
+    /// allocates. The counts are exact below 2^64 - 1 packets.
     pub fn ask(&mut self, places: &Places, sent: Option<u16>)
         ensures table { (w : Configuration) (packets : ℕ) (before after : Dialogue) (rows : List Row)
             → IsRequestStep sent before after → packets < 2 ^ 64 - 1
@@ -104,10 +104,9 @@ impl SessionTable {
         self.count_sent_at(places.asking(sent));
     }
 
-    /// A packet made this change between the responder and the requester with this number, whose
-    /// places these are: its entries become those of the rows that the definitions give. An `Err`
-    /// comes only where a session was begun and there is no memory for its entry, and says nothing
-    /// of the table. The counts are exact below 2^64 - 1 packets.
+    /// A packet made this change between the responder and the requester with this number, whose places these are: its
+    /// entries become those of the rows that the definitions give. An `Err` comes only where a session was begun and
+    /// there is no memory for its entry, and says nothing of the table. The counts are exact below 2^64 - 1 packets.
     pub fn take(
         &mut self,
         places: &mut Places,

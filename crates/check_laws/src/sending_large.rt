@@ -1,4 +1,4 @@
-//! What a capture shows of a large request, one that is sent by chunks.
+//! What a capture shows of a large request, one that is sent in chunks.
 
 pub mod bodies;
 pub mod large_request;

@@ -22,8 +22,7 @@ pub struct Seen {
     pub answered: u64,
 }
 
-/// The sessions that a capture shows, in the order in which PSK_EXCHANGE_RSP came. Contracts see
-/// them as a list.
+/// The sessions that a capture shows, in the order in which PSK_EXCHANGE_RSP came. Contracts see them as a list.
 #[derive(Debug, Drop)]
 pub struct SessionTable {
     pub(crate) items: Vec<Seen>,
@@ -48,7 +47,7 @@ impl SessionTable {
         }
     }
 
-    /// Adds a session at the end. An `Err` leaves the table as it was.
+    /// Appends a session. An `Err` leaves the table as it was.
     pub fn push(&mut self, seen: Seen) -> Result<(), OutOfMemory>
         ensures ok { OnOk result (self.new ≡ self.old ++ seen ∷ []) }
         ensures err { OnErr result (self.new ≡ self.old) }

@@ -1,4 +1,4 @@
--- What a first chunk hangs on.
+-- What a first chunk depends on.
 use Rattle.std.proofs.Common.{◌≡◌, ℕ, List, refl, sym, ap, ◌∙◌, subst, Bool, true, false, Option, None, cond}
 use Rattle.std.proofs.lemmas.Bool.{false≢true}
 use Rattle.std.proofs.lemmas.Option.{none-some}
@@ -30,7 +30,7 @@ tag_by round _ _ _ _ (Owing e f h g s t agree alike out sent like tagged else st
 tag_by round _ _ _ _ (Shown h g w v a b handle number s t u waits wait aims aim tags not at) none x is = absurd (none-some w (sym none))
 tag_by round _ _ _ _ (Due tag m h g w v a b handle number u still at) none x is = absurd (none-some w (sym none))
 
--- The first piece hangs on what counts alone.
+-- The first piece depends on what counts alone.
 pub piece_on : (h g : History) (asked : RequestMessage) (whole : List ℕ) → Agree h g → first_piece h asked whole ≡ first_piece g asked whole
 piece_on h g asked whole a =
     piece_same h g whole whole asked asked (next_handle h) 0 a.counted.sent (terms_same h g a) refl refl ∙ ap (λ (n : ℕ). piece_with g asked whole n 0) (handle_same h g a)

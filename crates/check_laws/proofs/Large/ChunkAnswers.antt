@@ -1,4 +1,5 @@
--- A chunk of a large request that is not the last one leads to no LargeResponse, and gives no chunk of a large answer.
+-- A chunk of a large request that is not the last one leads to no LargeResponse, and gives no chunk of a large
+-- response.
 use Rattle.std.proofs.Common.{◌≡◌, ◌∙◌, ◌==◌, ◌&&◌, ℕ, List, [], ◌∷◌, refl, sym, ap, subst, arith, Bool, true, false, Option, Some, None, is_some, not, cond}
 use Rattle.std.proofs.lemmas.Option.{none-some}
 use Rattle.chunking.specs.Collecting.{joined_with, under_way}

@@ -14,7 +14,7 @@ use Rattle.spdm_grammar.specs.Requests.{IsRequestSpelling, canonical_request, ch
 use Rattle.spdm_grammar.specs.declared.names.request_code.TheConstants.{CHUNK_SEND}
 use Rattle.spdm_machine.specs.Terms.{hash_len}
 
--- The second byte is the code, and the third one the first field behind it.
+-- The second byte is the code, and the third one the first field after it.
 code_at : (version code others : List ℕ) → length version ≡ 1 → length code ≡ 1 → slice_index (version ++ (code ++ others)) 1 ≡ little_number 1 code
 code_at [] code others v c = absurd (omega arith)
 code_at (x ∷ y ∷ rest) code others v c = absurd (omega arith)
@@ -36,7 +36,7 @@ abbrev mark_in : RequestMessage → Bool
 mark_in (ChunkSend c) = c.last
 mark_in _ = false
 
--- What the first field behind the code shows.
+-- What the first field after the code shows.
 record IsMark (asked : RequestMessage) (others : List ℕ) : Type 0 where
   field : List ℕ
   behind : List ℕ
@@ -44,7 +44,7 @@ record IsMark (asked : RequestMessage) (others : List ℕ) : Type 0 where
   long : length field ≡ 1
   told : mark_in asked ≡ (little_number 1 field % 2 == 1)
 
--- Behind a field that may be left out stands the rest.
+-- After a field that may be left out stands the rest.
 left_out : (b : Bool) (next : Option ℕ → Layout RequestMessage) (at : ℕ) (asked : RequestMessage) (bytes : List ℕ) (P : Type 0)
     → ((large : Option ℕ) (place : ℕ) (rest : List ℕ) → IsSpelling (next large) place asked rest → P) → IsSpelling (Optional b 4 next) at asked bytes → P
 left_out false next at asked bytes P all s = all None at bytes s

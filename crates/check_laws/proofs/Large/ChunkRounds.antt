@@ -35,7 +35,7 @@ use Rattle.check_laws.proofs.Large.Cuts.{two_chunks}
 use Rattle.check_laws.proofs.Large.Histories.{next_terms}
 use Rattle.check_laws.proofs.Large.LargeSizes.{above, chunk_size}
 
--- A large request is under way only behind such a round.
+-- A large request is under way only after such a round.
 abbrev pub AsksChunk : Dialogue → Type 0
 AsksChunk d = (whole : List ℕ) → d.sending ≡ Some whole → (round : Round) × (d.round ≡ Some round) × IsChunkBody round.body
 

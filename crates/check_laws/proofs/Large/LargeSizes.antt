@@ -1,4 +1,4 @@
--- A large request goes by chunks only where the transfer size has room for them.
+-- A large request is sent in chunks only where the transfer size has room for them.
 use Rattle.std.proofs.Common.{◌≡◌, ◌<◌, ◌≤◌, ◌&&◌, ◌||◌, ℕ, List, refl, sym, ◌∙◌, subst, length, min, Bool, true, false, Option, Some, None, Ok, Err, arith, not}
 use Rattle.std.specs.Prelude.{if◌then◌else◌, nat_lt, unwrap_or}
 use Rattle.std.specs.Result.{result_ok}
@@ -73,7 +73,7 @@ chunk_size h whole is = terms_size (negotiation_of h) (has_chunks _ _ _ is.1 is.
 pub above : (transfer size : ℕ) → nat_lt transfer size ≡ true → transfer < size
 above transfer size is = grind (arith, nat_tests)
 
--- It hangs on the length.
+-- It depends on the length.
 pub large_at : (common : Common) (w v : List ℕ) → length v ≡ length w → IsLargeRequest common w → IsLargeRequest common v
 large_at common w v same is =
     let P : ℕ → Type 0 = λ n. (nat_lt common.to_responder.transfer n ≡ true) × ((nat_lt common.to_responder.max n || (not common.chunk && nat_lt common.to_responder.transfer n)) ≡ false) × (n ≤ MAX_MESSAGE_SIZE) in

@@ -38,7 +38,7 @@ owing s ack = record s { due = Some ack }
 abbrev pub piece : Sending → Beginning → List ℕ → Sent
 piece s b whole = piece_with (shown_by s b whole) (asked_of b) whole (handle_of s) (number_of s + 1)
 
--- It is the last one exactly where it is so by the told length.
+-- It is the last one exactly when it is so by the told length.
 pub last_same : (s : Sending) (ack : Ack) (b : Beginning) (whole : List ℕ) → MayBegin s.before b → length whole ≡ s.size
     → is_last_piece (requester_of (owing s ack) b whole) whole (piece s b whole).aim ≡ is_last s (number_of s + 1)
 last_same s ack b whole may size =
@@ -159,7 +159,7 @@ module _ (w : Configuration) (q : ReqSetup) (older : List (List ℕ)) (s : Sendi
   ends_less : chunk_end (transfer_of s) (number_of s) ≤ end
   ends_less = let e = suc_units (number_of s) (unit_of (transfer_of s)) in let f = ap (λ (n : ℕ). n * unit_of (transfer_of s)) (add-one (number_of s)) in omega (arith, e, f)
 
-  -- Bytes that may stand behind it may stand before, and have this chunk.
+  -- Bytes that may follow it may stand before, and have this chunk.
   same_end : (v : List ℕ) → MayStand next v → take end v ≡ take end whole
   same_end v there = ap (λ (n : ℕ). take n v) (sym held) ∙ there.1
 

@@ -1,4 +1,4 @@
--- What a packet makes of each walk, and what is kept behind it.
+-- What a packet makes of each walk, and what is kept after it.
 use Rattle.std.proofs.Common.{◌≡◌, ◌<◌, ◌+◌, ℕ, List, ◌∷◌, refl, sym, ap, ◌∙◌, subst, length, take, arith, Bool, true, false, Option, Some, Result, Ok, is_some}
 use Rattle.std.specs.Prelude.{MatchBool}
 use Rattle.std.proofs.lemmas.Option.{same_Some}
@@ -124,7 +124,7 @@ pub record Onward (w : Configuration) (q : ReqSetup) (older : List (List ℕ)) (
   pub each : (x y : Dialogue) → Walks w q older x → Step x y → ((b : Beginning) (whole : List ℕ) → MayBegin next.before b → MayStand next whole → Alike (dialogue_of next b whole) y)
       → (b : Beginning) × (whole : List ℕ) × MayBegin next.before b × MayStand next whole × SendsAs next.before b whole y (dialogue_of next b whole)
 
--- It is kept behind the packet.
+-- It is kept after the packet.
 pub keeps_on : (w : Configuration) (q : ReqSetup) (older : List (List ℕ)) (packet : List ℕ) (p : PacketFields) (Step : Dialogue → Dialogue → Type 0) (next : Sending) → parsed packet ≡ Ok p
     → ((b n : Dialogue) → Step b n → StepsBy w q.eid older b n (Ok p)) → ((b n : Dialogue) → StepsBy w q.eid older b n (Ok p) → Step b n)
     → Onward w q older Step next → IsSendingOf w q (packet ∷ older) next

@@ -129,7 +129,7 @@ module _ (w : Configuration) (q : ReqSetup) (older : List (List ℕ)) (s : Sendi
   long : length whole ≡ s.size
   long = own.stands.1.0
 
-  -- It is the last one exactly where what is left fits into it.
+  -- It is the last one exactly when what is left fits into it.
   pub last_fits : left ≤ unit → is_last s (number + 1) ≡ true
   last_fits fits = elim (cases_order (number + 1 + 1) (count_of (transfer_of s) s.size)) [
     | inl same ↦ eq-eqb (number + 1 + 1) (count_of (transfer_of s) s.size) same

@@ -138,7 +138,7 @@ take_front : (a b : List ℕ) → take (length a) (a ++ b) ≡ a
 take_front [] b = refl
 take_front (x ∷ a) b = ap (λ (l : List ℕ). x ∷ l) (take_front a b)
 
--- What is left of bytes behind the first ones.
+-- What is left of bytes after the first ones.
 append_same : (a b c : List ℕ) → a ++ b ≡ a ++ c → b ≡ c
 append_same [] b c same = same
 append_same (x ∷ a) b c same = append_same a b c (ap (λ (l : List ℕ). drop 1 l) same)

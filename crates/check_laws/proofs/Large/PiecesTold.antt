@@ -1,4 +1,4 @@
--- What is told of a chunk by its comparison with the cut.
+-- What is reported of a chunk by its comparison with the cut.
 use Rattle.std.proofs.Common.{◌≡◌, ◌<◌, ◌≤◌, ◌+◌, ◌-◌, ◌++◌, ℕ, List, [], refl, sym, ap, ◌∙◌, length, drop, min, Bool, true, false, Some, None, Result, Ok, Err, arith, ne_eqb}
 use Rattle.std.specs.Prelude.{◌↔◌, IsTrue, OnErr, OnOk, nat_le}
 use Rattle.std.specs.Result.{is_err, result_ok}

@@ -1,4 +1,4 @@
--- What is told of a request while a large one is under way.
+-- What is reported of a request while a large one is under way.
 use Rattle.std.proofs.Common.{◌≡◌, ◌+◌, ◌++◌, ℕ, List, ◌∷◌, refl, sym, ap, ◌∙◌, subst, drop, take, true, false, Option, Some, None, is_some}
 use Rattle.std.proofs.lemmas.Bool.{false≢true}
 use Rattle.chunking.specs.Cutting.{chunk_end}
@@ -47,7 +47,7 @@ module _ (w : Configuration) (q : ReqSetup) (older : List (List ℕ)) (s : Sendi
         λ next c. false≢true (sym one.3 ∙ c.2.7),
       )
 
-  -- All bytes of a large request are told by its last chunk.
+  -- All bytes of a large request are determined by its last chunk.
   bytes_of : (v : List ℕ) → MayStand s v → chunk_body s v (number_of s + 1) ≡ body → is_last s (number_of s + 1) ≡ true → v ≡ s.bytes ++ drop 13 body
   bytes_of v stand cut last =
       let shown = (piece_is_shown w q older s body (take (chunk_end (transfer_of s) (number_of s + 1)) v) own).0 (v, stand, cut, refl) in

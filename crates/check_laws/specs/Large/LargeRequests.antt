@@ -23,7 +23,7 @@ IsBegunBy k body (Some r) =
     × ((tag : ℕ) → StandsFor r (begun_sending k tag body whole))
 IsBegunBy k body None = (whole : List ℕ) → IsLargeRequest (common_of k.requester) whole → first_body k whole ≡ body → ⊥
 
--- The large request ends with these bytes, which spell the request that is asked, and that may be sent.
+-- The large request ends with these bytes, which encode the request that is asked, and that may be sent.
 abbrev pub EndsWith : Sending → ℕ → (body whole : List ℕ) → Kept → Type 0
 EndsWith s tag body whole next =
     (b : Beginning) × MayBegin s.before b
@@ -31,8 +31,8 @@ EndsWith s tag body whole next =
     × MaySend s.before b whole
     × (next ≡ whole_kept s (requester_of s b whole) tag body)
 
--- What is told of a request: it is the chunk that is owed, and more follow; or it is the last one, with which all bytes
--- came, and the large request ends exactly where it does so with these; or it is neither.
+-- What is reported of a request: it is the chunk that is owed, and more follow; or it is the last one, with which all
+-- bytes came, and the large request ends exactly when it does so with these; or it is neither.
 abbrev pub IsToldNext : Sending → ℕ → (body : List ℕ) → Piece → (old new : LargeRequest) → Type 0
 IsToldNext s tag body piece.Between old new =
     ((next : Sending) × NextSending s tag body next × StandsFor new next) × ((next : Kept) → LastSending s tag body next → ⊥)

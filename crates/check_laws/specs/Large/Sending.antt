@@ -1,4 +1,4 @@
--- What is kept of one requester and the responder while a large request is sent by chunks, up to its last one. This
+-- What is kept of one requester and the responder while a large request is sent in chunks, up to its last one. This
 -- project's own.
 use Rattle.std.specs.Prelude.{⊤, ◌≡◌, ◌<◌, ◌+◌, ◌==◌, ℕ, List, [], ◌∷◌, length, take, Bool, true, false, Option, Some, None, is_some}
 use Rattle.std.specs.Int.{div_ceil}
@@ -56,8 +56,8 @@ MayBegin k (ByItself asked) =
     × (begins_large sent.aim ≡ true)
     × (asked_in sent.aim ≡ Some asked)
 
--- These bytes may go by chunks there: the command sends them, under some allowed values. Those of a request that was
--- owed need no more than to spell it.
+-- These bytes may be sent in chunks there: the command sends them, under some allowed values. Those of a request that
+-- was owed need no more than to encode it.
 abbrev pub MaySend : Kept → Beginning → (whole : List ℕ) → Type 0
 MaySend k (ByCommand command asked) whole =
     MayAsk false k.setup k.requester command no_draw (Adds (Told command (first_piece k.requester asked whole) no_draw))
@@ -117,7 +117,7 @@ MayStand s whole = (length whole ≡ s.size) × (take (length s.bytes) whole ≡
 
 -- ---- What this is kept of.
 
--- The requester's history behind the first chunk of these bytes.
+-- The requester's history after the first chunk of these bytes.
 abbrev pub begun_with : Kept → Beginning → (whole : List ℕ) → History
 begun_with k (ByCommand command asked) whole = Told command (first_piece k.requester asked whole) no_draw ∷ k.requester
 begun_with k (ByItself asked) whole = with_next (Some (first_piece k.requester asked whole)) k.requester
@@ -136,7 +136,7 @@ abbrev pub behind_due : RequestMessage → (whole : List ℕ) → (handle : ℕ)
 behind_due asked whole handle None number h = h
 behind_due asked whole handle (Some ack) number h = acked_by asked whole handle ack (number + 1) h
 
--- The history behind the chunks so far.
+-- The history after the chunks so far.
 abbrev pub shown_by : Sending → Beginning → (whole : List ℕ) → History
 shown_by s b whole = behind (asked_of b) whole (handle_of s) s.acks (begun_with s.before b whole)
 
@@ -161,7 +161,7 @@ pub record SendsAs (k : Kept) (b : Beginning) (whole : List ℕ) (d e : Dialogue
   pub waits : outstanding d.requester ≡ outstanding e.requester
   pub begun : MayHaveBegun d.setup d.requester → MaySend k b whole
 
--- This is kept of the packets, the newest first: a large request is under way behind them, of which not all chunks came;
+-- This is kept of the packets, the newest first: a large request is under way after them, of which not all chunks came;
 -- they lead to it with any bytes of the told length that begin so, however it may be begun; and each walk over them
 -- leads to it with such bytes.
 pub record IsSendingOf (w : Configuration) (q : ReqSetup) (older : List (List ℕ)) (s : Sending) : Type 0 where

@@ -1,4 +1,5 @@
--- While a large request is sent each answer goes whole: no large answer begins by it, and none ends. This project's own.
+-- While a large request is sent each answer goes whole: no large response begins by it, and none ends. This project's
+-- own.
 use Rattle.std.specs.Prelude.{◌≡◌, ℕ, List, true, false}
 use Rattle.requester_machine.specs.Setup.{ReqSetup}
 use Rattle.responder_machine.specs.Answer.{Free}
@@ -22,6 +23,6 @@ IsChunkBody body = (c : ChunkMessage) × (c.last ≡ false) × (body ≡ clear_b
 abbrev pub SendingAsksChunk : Type 0
 SendingAsksChunk = (w : Configuration) (q : ReqSetup) (older : List (List ℕ)) (s : Sending) → IsSendingOf w q older s → IsChunkBody s.round.body
 
--- Whatever is free, it leads to no LargeResponse, and to no last chunk of a large answer.
+-- Whatever is free, it leads to no LargeResponse, and to no last chunk of a large response.
 abbrev pub ChunksLeadPlainly : Type 0
 ChunksLeadPlainly = (r : RspSetup) (h : History) (tag : ℕ) (body : List ℕ) (f : Free) → IsChunkBody body → is_plain h (on_body r h tag body f no_draw) ≡ true

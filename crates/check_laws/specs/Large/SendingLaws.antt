@@ -1,4 +1,4 @@
--- Which requests and answers go on while a large request is sent by chunks. This project's own.
+-- Which requests and answers go on while a large request is sent in chunks. This project's own.
 use Rattle.std.specs.Prelude.{◌≡◌, ◌<◌, ◌+◌, ◌-◌, ◌⊎◌, ◌↔◌, ℕ, List, [], ◌∷◌, drop, length, take, true, false, Option, Some, None, Ok}
 use Rattle.chunking.specs.Cutting.{chunk_end, nth_chunk}
 use Rattle.mctp_framing.specs.Gathering.{Gathered}
@@ -36,7 +36,7 @@ use Rattle.check_laws.specs.Large.Sending.Beginning.{ByItself}
 abbrev pub first_body : Kept → (whole : List ℕ) → List ℕ
 first_body k whole = clear_body (canonical_request (ChunkSend (nth_chunk (common_of k.requester).to_responder.transfer (next_handle k.requester) whole 0)))
 
--- What is kept behind it.
+-- What is kept after it.
 abbrev pub begun_sending : Kept → ℕ → (body whole : List ℕ) → Sending
 begun_sending k tag body whole = record {
   before = k;
@@ -48,7 +48,7 @@ begun_sending k tag body whole = record {
   round = new_round tag body;
 }
 
--- It begins a round where a large request may be begun, and is cut from bytes of a length that goes by chunks.
+-- It begins a round where a large request may be begun, and is cut from bytes of a length that is sent in chunks.
 abbrev pub BeginsSending : Kept → Gathered → Sending → Type 0
 BeginsSending k (Whole route body) next =
     IsBody body × (route.owner ≡ true) × (may_begin k.round body ≡ true) × (route.tag ≡ following_tag k.round)
@@ -56,13 +56,13 @@ BeginsSending k (Whole route body) next =
     × (first_body k whole ≡ body) × (next ≡ begun_sending k route.tag body whole))
 BeginsSending k _ next = ⊥
 
--- It is kept behind it.
+-- It is kept after it.
 abbrev pub SendingBegins : Type 0
 SendingBegins = (w : Configuration) (q : ReqSetup) (older : List (List ℕ)) (packet : List ℕ) (p : PacketFields) (k : Kept) (next : Sending)
     → parsed packet ≡ Ok p → is_request w.responder.eid q.eid p ≡ true
     → Keeps w q older k → BeginsSending k (gathered_from w.responder.eid q.eid older p) next → IsSendingOf w q (packet ∷ older) next
 
--- Where some walk goes on with a packet and a large request is under way behind it, it begins one from what is kept.
+-- Where some walk goes on with a packet and a large request is under way after it, it begins one from what is kept.
 abbrev pub BegunIsSending : Type 0
 BegunIsSending = (w : Configuration) (q : ReqSetup) (older : List (List ℕ)) (packet : List ℕ) (p : PacketFields) (k : Kept) (d : Dialogue) (whole : List ℕ)
     → parsed packet ≡ Ok p → is_request w.responder.eid q.eid p ≡ true
@@ -74,7 +74,7 @@ abbrev pub OwedMayBegin : Type 0
 OwedMayBegin = (w : Configuration) (q : ReqSetup) (older : List (List ℕ)) (k : Kept) (sent : Sent) (asked : RequestMessage)
     → Keeps w q older k → k.owed ≡ Some sent → begins_large sent.aim ≡ true → asked_in sent.aim ≡ Some asked → MayBegin k (ByItself asked)
 
--- Behind no packets both a large request is under way and none is.
+-- After no packets both a large request is under way and none is.
 abbrev pub SendingIsAlone : Type 0
 SendingIsAlone = (w : Configuration) (q : ReqSetup) (older : List (List ℕ)) (s : Sending) (k : Kept) → IsSendingOf w q older s → Keeps w q older k → ⊥
 
@@ -105,11 +105,11 @@ AsksSending s (Whole route body) next = IsBody body × (route.owner ≡ true) ×
 AsksSending s More next = next ≡ s
 AsksSending s (Dropped cause) next = ⊥
 
--- Behind the last chunk, and behind GET_VERSION, nothing large is under way.
+-- After the last chunk, and after GET_VERSION, nothing large is under way.
 abbrev pub whole_kept : Sending → History → ℕ → List ℕ → Kept
 whole_kept s h tag body = record { setup = s.before.setup; requester = h; owed = None; responder = s.responder; round = Some (new_round tag body) }
 
--- The last chunk, with which all bytes spell the request that is asked, and that may be sent.
+-- The last chunk, with which all bytes encode the request that is asked, and that may be sent.
 abbrev pub LastSending : Sending → ℕ → List ℕ → Kept → Type 0
 LastSending s tag body next =
     (may_begin (Some s.round) body ≡ true) × (tag ≡ following_tag (Some s.round))
@@ -141,7 +141,7 @@ abbrev pub AsksEnding : Sending → Gathered → Kept → Type 0
 AsksEnding s (Whole route body) next = IsBody body × (route.owner ≡ true) × (LastSending s route.tag body next ⊎ ConnectsSending s route.tag body next)
 AsksEnding s _ next = ⊥
 
--- It is kept behind it, in the first case and in the second.
+-- It is kept after it, in the first case and in the second.
 abbrev pub SendingAsks : Type 0
 SendingAsks = (w : Configuration) (q : ReqSetup) (older : List (List ℕ)) (packet : List ℕ) (p : PacketFields) (s next : Sending)
     → parsed packet ≡ Ok p → is_request w.responder.eid q.eid p ≡ true
@@ -200,7 +200,7 @@ RepliesSending w s (Whole route body) next =
 RepliesSending w s More next = next ≡ s
 RepliesSending w s (Dropped cause) next = ⊥
 
--- It is kept behind it.
+-- It is kept after it.
 abbrev pub SendingReplies : Type 0
 SendingReplies = (w : Configuration) (q : ReqSetup) (older : List (List ℕ)) (packet : List ℕ) (p : PacketFields) (s next : Sending)
     → parsed packet ≡ Ok p → is_request w.responder.eid q.eid p ≡ false → is_answer w.responder.eid q.eid p ≡ true

@@ -29,8 +29,8 @@ use Rattle.check_laws.specs.Large.SendingLaws.{first_body}
 
 -- ---- The first chunk.
 
--- A length that goes by chunks: chunks are in common, it is over the responder's transfer size, and at most its max size
--- and 4,096.
+-- A length that is sent in chunks: chunks are in common, it is over the responder's transfer size, and at most its max
+-- size and 4,096.
 pub record IsLargeSize (common : Common) (size : ℕ) : Type 0 where
   pub chunk : common.chunk ≡ true
   pub over : common.to_responder.transfer < size
@@ -41,8 +41,8 @@ pub record IsLargeSize (common : Common) (size : ℕ) : Type 0 where
 abbrev pub first_shown : Kept → (size : ℕ) → (bytes : List ℕ) → List ℕ
 first_shown k size bytes = clear_body (canonical_request (ChunkSend (record { last = false; handle = next_handle k.requester; number = 0; large = Some size; chunk = bytes })))
 
--- A body is the first chunk of some bytes exactly where it is that, with a length that goes by chunks, and as many bytes
--- as a first chunk holds.
+-- A body is the first chunk of some bytes exactly when it is that, with a length that is sent in chunks, and as many
+-- bytes as a first chunk holds.
 abbrev pub FirstIsShown : Type 0
 FirstIsShown = (k : Kept) (body bytes : List ℕ) (size : ℕ)
     → let common = common_of k.requester in
@@ -59,7 +59,7 @@ more_of s = min (chunk_end (transfer_of s) (number_of s + 1)) s.size - length s.
 abbrev pub piece_shown : Sending → (more : List ℕ) → List ℕ
 piece_shown s more = clear_body (canonical_request (ChunkSend (record { last = is_last s (number_of s + 1); handle = handle_of s; number = number_of s + 1; large = None; chunk = more })))
 
--- A body is the next chunk of some bytes that may stand exactly where it is that, with so many bytes, and the bytes so
+-- A body is the next chunk of some bytes that may stand exactly when it is that, with so many bytes, and the bytes so
 -- far are then those and these.
 abbrev pub PieceIsShown : Type 0
 PieceIsShown = (w : Configuration) (q : ReqSetup) (older : List (List ℕ)) (s : Sending) (body bytes : List ℕ) → IsSendingOf w q older s
@@ -83,20 +83,20 @@ pub record CanOpen (k : Kept) : Type 0 where
   pub most : 12 + length k.setup.hint + hash_len (connection_terms k.requester) ≤ (common_of k.requester).to_responder.max
   pub short : 12 + length k.setup.hint + hash_len (connection_terms k.requester) ≤ MAX_MESSAGE_SIZE
 
--- Where some length goes by chunks, some command may begin a large request exactly then: a context may be as long as one
--- likes.
+-- Where some length is sent in chunks, some command may begin a large request exactly then: a context may be as long as
+-- one likes.
 abbrev pub OpenIsShown : Type 0
 OpenIsShown = (k : Kept) (size : ℕ) → IsSetUp k.setup → IsLargeSize (common_of k.requester) size
     → ((command : Command) × (asked : RequestMessage) × MayBegin k (ByCommand command asked)) ↔ CanOpen k
 
--- At the values that a request shows its command sends it by chunks.
+-- At the values that a request shows its command sends it in chunks.
 abbrev pub IsCommandedLarge : Kept → RequestMessage → Type 0
 IsCommandedLarge k asked =
     (command : Command) × (k.owed ≡ None) × (command_shown asked ≡ Some command) × AreAllowed k.setup k.requester asked
     × (asks false k.setup k.requester command (values_shown asked) no_draw
     ≡ Adds (Told command (piece_sent (common_of k.requester) k.requester asked (next_handle k.requester) 0) no_draw))
 
--- So whole bytes are judged: they spell the request that is owed, or one that its command sends by chunks.
+-- So whole bytes are judged: they encode the request that is owed, or one that its command sends in chunks.
 abbrev pub WholeIsShown : Type 0
 WholeIsShown = (k : Kept) (whole : List ℕ) → IsSetUp k.setup
     → ((b : Beginning) × MayBegin k b × (whole ≡ canonical_request (asked_of b)) × MaySend k b whole)

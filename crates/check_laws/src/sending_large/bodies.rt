@@ -12,7 +12,7 @@ use spdm_codec::write_request;
 use spdm_grammar::{ChunkView, Request};
 use spdm_grammar::names::message_type::SPDM;
 
-// A byte of a body, and 0 behind its end.
+// A byte of a body, and 0 after its end.
 fn byte_at(body: &[u8], at: usize) -> u8
     ensures { result ≡ slice_index body.now at }
 {

@@ -1,8 +1,8 @@
 use crate::Piece;
 use crate::sending_large::pieces::Pieces;
 
-/// A large request that is sent by chunks, from its first chunk to its last one: its chunks so far,
-/// and whether the next one is owed. It takes no memory.
+/// A large request that is sent in chunks, from its first chunk to its last one: its chunks so far, and whether the
+/// next one is owed. Never allocates.
 #[derive(Drop)]
 pub struct LargeRequest {
     pub(crate) pieces: Pieces,
@@ -23,8 +23,8 @@ impl LargeRequest {
     ghost use Rattle.check_laws.specs.Large.Sending.{IsSendingOf, Sending, number_of};
     ghost use Rattle.check_laws.specs.Large.SendingLaws.{with_ack_due};
 
-    /// A body came where a large request may be begun: that which it begins, if it is the first chunk
-    /// of one, under this handle, cut for a responder with this transfer size and this max size.
+    /// A body came where a large request may be begun: that which it begins, if it is the first chunk of one, under
+    /// this handle, cut for a responder with this transfer size and this max size.
     pub fn begin(transfer: usize, max: usize, handle: u8, body: &[u8]) -> Option<LargeRequest>
         ensures { (k : Kept) → (common_of k.requester).chunk ≡ true
             → (common_of k.requester).to_responder.transfer ≡ transfer
@@ -35,8 +35,8 @@ impl LargeRequest {
         Some(LargeRequest { pieces, due: false })
     }
 
-    /// An answer came, which the requester takes for the acknowledgement of the last chunk, unless the
-    /// next one is owed already.
+    /// An answer came, which the requester takes for the acknowledgement of the last chunk, unless the next one is owed
+    /// already.
     pub fn acknowledge(&mut self)
         ensures { (s : Sending) (tag : ℕ) (answer : List ℕ) (h : responder_history.History)
             (round : Round) → StandsFor self.old s → StandsFor self.new (record s {
@@ -48,9 +48,8 @@ impl LargeRequest {
         self.due = true;
     }
 
-    /// A body came, by which a round may begin, under the next tag: whether it is the chunk that is
-    /// owed, and whether that is the last one. Then all bytes are there. Where it is another body,
-    /// nothing changes.
+    /// A body came, by which a round may begin, under the next tag: whether it is the chunk that is owed, and whether
+    /// that is the last one. Then all bytes are there. Where it is another body, nothing changes.
     pub fn next(&mut self, body: &[u8]) -> Piece
         ensures { (w : Configuration) (q : ReqSetup) (older : List (List ℕ)) (s : Sending) (tag : ℕ)
             → IsSendingOf w q older s → StandsFor self.old s

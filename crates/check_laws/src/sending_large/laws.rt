@@ -1,26 +1,25 @@
-//! What goes on while a large request is sent by chunks, each law as the contract of a function that does
-//! nothing.
+//! What goes on while a large request is sent in chunks, each law as the contract of a function that does nothing.
 
 ghost use Rattle.check_laws.specs.Large.SendingAnswers.{ChunksLeadPlainly, SendingAsksChunk};
 ghost use Rattle.check_laws.specs.Large.SendingLaws.{BegunIsSending, OwedMayBegin, SendingAsks, SendingBegins, SendingConnects, SendingEnds, SendingIsAlone, SendingIsAsked, SendingIsReplied, SendingReplies, SendingStays, SendingTellsApart, SendingTellsWhy};
 ghost use Rattle.check_laws.specs.Large.SendingShown.{FirstIsShown, LastIsWhole, OpenIsShown, PieceIsShown, WholeIsShown};
 
-/// What is kept behind the first chunk of a large request.
+/// What is kept after the first chunk of a large request.
 pub fn sending_begins()
     ensures { SendingBegins }
 {}
 
-/// Where a large request is under way behind a packet, the packet begins one.
+/// Where a large request is under way after a packet, the packet begins one.
 pub fn begun_is_sending()
     ensures { BegunIsSending }
 {}
 
-/// What is kept behind a copy, and behind a chunk that is not the last one.
+/// What is kept after a copy, and after a chunk that is not the last one.
 pub fn sending_asks()
     ensures { SendingAsks }
 {}
 
-/// What is kept behind the last chunk, and behind GET_VERSION.
+/// What is kept after the last chunk, and after GET_VERSION.
 pub fn sending_ends()
     ensures { SendingEnds }
 {}
@@ -30,7 +29,7 @@ pub fn sending_is_asked()
     ensures { SendingIsAsked }
 {}
 
-/// What is kept behind an answer.
+/// What is kept after an answer.
 pub fn sending_replies()
     ensures { SendingReplies }
 {}
@@ -45,23 +44,23 @@ pub fn sending_stays()
     ensures { SendingStays }
 {}
 
-/// Why a packet is refused meanwhile hangs on no byte of the large request.
+/// Why a packet is refused meanwhile depends on no byte of the large request.
 pub fn sending_tells_why()
     ensures { SendingTellsWhy }
 {}
 
-/// No verify data of a request are alone wrong meanwhile, and those of an answer are where they are
-/// without the large request.
+/// No verify data of a request are alone wrong meanwhile, and those of an answer are where they are without the large
+/// request.
 pub fn sending_tells_apart()
     ensures { SendingTellsApart }
 {}
 
-/// A first chunk is told by what it shows: the length, and its bytes.
+/// A first chunk is determined by what it shows: the length, and its bytes.
 pub fn first_is_shown()
     ensures { FirstIsShown }
 {}
 
-/// Each chunk behind it is told by its bytes.
+/// Each chunk after it is determined by its bytes.
 pub fn piece_is_shown()
     ensures { PieceIsShown }
 {}
@@ -76,7 +75,7 @@ pub fn open_is_shown()
     ensures { OpenIsShown }
 {}
 
-/// Whole bytes are told by the request that they spell, and by the values that this shows.
+/// Whole bytes are determined by the request that they encode, and by the values that this shows.
 pub fn whole_is_shown()
     ensures { WholeIsShown }
 {}
@@ -91,7 +90,7 @@ pub fn sending_connects()
     ensures { SendingConnects }
 {}
 
-/// Behind no packets both a large request is under way and none is.
+/// After no packets both a large request is under way and none is.
 pub fn sending_is_alone()
     ensures { SendingIsAlone }
 {}
@@ -101,7 +100,7 @@ pub fn sending_asks_chunk()
     ensures { SendingAsksChunk }
 {}
 
-/// Such a chunk begins no large answer, and ends none.
+/// Such a chunk begins no large response, and ends none.
 pub fn chunks_lead_plainly()
     ensures { ChunksLeadPlainly }
 {}

@@ -3,8 +3,8 @@ use spdm_basis::Frame;
 use spdm_grammar::ChunkView;
 use spdm_grammar::names::MAX_MESSAGE_SIZE;
 
-/// What a body is that comes where the next chunk of a large request is owed: that chunk, and more
-/// follow; the last one; or another body.
+/// What a body is that comes where the next chunk of a large request is owed: that chunk, and more follow; the last
+/// one; or another body.
 #[derive(Clone, Copy, Debug, PartialEq, Eq)]
 pub enum Piece {
     Between,
@@ -12,8 +12,8 @@ pub enum Piece {
     Other,
 }
 
-/// A large request of which not all chunks came: its told length, and its bytes so far. Any bytes that
-/// begin so may stand for it.
+/// A large request of which not all chunks came: its told length, and its bytes so far. Any bytes that begin so may
+/// stand for it.
 #[derive(Drop)]
 pub struct Pieces {
     pub(crate) transfer: usize,
@@ -33,8 +33,8 @@ impl Pieces {
     ghost use Rattle.check_laws.specs.Large.Pieces.{IsFirstOf, IsNextOf, IsPieces};
     ghost use Rattle.check_laws.specs.Large.Sending.{IsSendingOf, Sending};
 
-    /// A body came where a large request may be begun: its first chunk, if it is one under this
-    /// handle, cut for a responder with this transfer size and this max size.
+    /// A body came where a large request may be begun: its first chunk, if it is one under this handle, cut for a
+    /// responder with this transfer size and this max size.
     pub fn first(transfer: usize, max: usize, handle: u8, body: &[u8]) -> Option<Pieces>
         ensures { (k : Kept) → (common_of k.requester).chunk ≡ true
             → (common_of k.requester).to_responder.transfer ≡ transfer
@@ -70,8 +70,7 @@ impl Pieces {
         })
     }
 
-    /// A body came where the next chunk is owed. Where it is that chunk, its bytes are held; else
-    /// nothing changes.
+    /// A body came where the next chunk is owed. Where it is that chunk, its bytes are held; else nothing changes.
     pub fn next(&mut self, body: &[u8]) -> Piece
         ensures { (w : Configuration) (q : ReqSetup) (older : List (List ℕ)) (s : Sending)
             → IsSendingOf w q older s → IsPieces self.old s
