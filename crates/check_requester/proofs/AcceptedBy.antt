@@ -65,7 +65,7 @@ rest_none (Some id) = refl
 in_session : (x y : Option ℕ) (id : ℕ) → x ≡ Some id → None ≡ cond (is_some x) None y
 in_session x y id is = sym (ap (λ (v : Option ℕ). cond (is_some v) None y) is)
 
--- The ReqSessionID of a record that is awaited behind, where none was before.
+-- The ReqSessionID of a record that is awaited after, where none was before.
 abbrev pub accepted_shown : (before behind : Option Sent) → Option ℕ
 accepted_shown before behind = cond (is_some (session_awaited before)) None (session_awaited behind)
 

@@ -1,4 +1,4 @@
--- What is kept behind the message that a requester owes.
+-- What is kept after the message that a requester owes.
 use Rattle.std.proofs.Common.{◌≡◌, ◌≤◌, ◌<◌, ◌-◌, ◌^◌, ◌∙◌, ℕ, List, refl, sym, ap, subst, length, Bool, true, false, Option, Some, None, arith}
 use Rattle.std.specs.Prelude.{is_some, not}
 use Rattle.std.proofs.lemmas.Bool.{false≢true}

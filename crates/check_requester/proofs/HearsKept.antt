@@ -1,4 +1,4 @@
--- What is kept of a requester behind an answer that it heard.
+-- What is kept of a requester after an answer that it heard.
 use Rattle.std.proofs.Common.{arith, ◌≤◌, ◌+◌, ◌≡◌, ◌==◌, ◌<◌, ◌-◌, ◌^◌, ℕ, List, [], ◌∷◌, refl, sym, ap, ◌∙◌, subst, length, Bool, true, false, Option, Some, None, is_some, cond}
 use Rattle.std.proofs.lemmas.Bool.{false≢true, not-true}
 use Rattle.std.proofs.lemmas.Option.{none-some, same_Some}
@@ -144,7 +144,7 @@ module _ (w : Configuration) (q : ReqSetup) (older : List (List ℕ)) (k : Kept)
     facts : HaveIds h × (next_tag h ≡ following_tag (Some round))
     facts = settled_facts (Some round) h h None None askers refl settled
 
-    -- What is owed behind an outcome, and the history with it.
+    -- What is owed after an outcome, and the history with it.
     record Follows (x : Outcome) : Type 0 where
       owes : is_some (kept_of (at (after h x))).owed ≡ is_some (sent_by x)
       whole : owing (kept_of (at (after h x))).owed (kept_of (at (after h x))).requester ≡ after h x
@@ -260,7 +260,7 @@ module _ (w : Configuration) (q : ReqSetup) (older : List (List ℕ)) (k : Kept)
   pub deaf_accepted : (old : Asker) → IsAsker old q k → old.owes ≡ true → None ≡ accepted_from k tag answer
   deaf_accepted old asker owing = sym (deaf_accepts w q older k behind round tag answer keeps is one (sym asker.owes ∙ owing))
 
-  -- and else what it awaits behind, where it awaited no record before.
+  -- and else what it awaits after, where it awaited no record before.
   pub heard_accepted : (old new : Asker) (before : Bool) (result : Option ℕ) → IsAsker old q k → old.owes ≡ false → length k.requester < 2 ^ 64 - 1
       → ((p : ReqSetup) (h : History) → IsKeptSetup old.setup p → length h < 2 ^ 64 - 1 → StandsFor old.asking p h → IsHeardAs p h tag answer new.owes new.asking new.room)
       → ((p : ReqSetup) (h : History) → StandsFor old.asking p h → before ≡ is_some (session_awaited (outstanding h)))

@@ -167,7 +167,7 @@ asker_still q k old new asker setup owes stands = record {
 
 -- ---- Where a message is owed.
 
--- Its request, and that it goes by chunks.
+-- Its request, and that it is sent in chunks.
 asked_large : (x : Sent) (aim : Aim) → x.aim ≡ aim → begins_large aim ≡ true → (a : RequestMessage) × (asked_in x.aim ≡ Some a)
 asked_large x (Plain a) is large = absurd (false≢true large)
 asked_large x (ByChunks a handle number) is large = (a, ap asked_in is)

@@ -34,7 +34,7 @@ taken m a b less =
     let sum : a + (b - a) ≡ b = omega arith in
     ap (λ (n : ℕ). take n m) (sym sum) ∙ take-add a (b - a) m
 
--- Behind the first bytes come the next ones.
+-- After the first bytes come the next ones.
 drop_taken : (a : ℕ) (m : List ℕ) → drop (length (take a m)) m ≡ drop a m
 drop_taken zero m = refl
 drop_taken (suc a) [] = refl
@@ -180,7 +180,7 @@ module _ (q : ReqSetup) (h : History) (asked : RequestMessage) (handle : ℕ) wh
           by_none false is None not d = absurd d
           by_none false is (Some tag) not d = absurd (false≢true (sym not))
 
--- What stands in the body of a chunk behind the first one.
+-- What stands in the body of a chunk after the first one.
 pub rest_is : (h : History) (handle : ℕ) (m : List ℕ) (n : ℕ) → drop 13 (cut_body h handle m (n + 1)) ≡ slice_range m (chunk_start (common_of h).to_responder.transfer (n + 1)) (chunk_end (common_of h).to_responder.transfer (n + 1))
 rest_is h handle m n =
     let T : ℕ = (common_of h).to_responder.transfer in

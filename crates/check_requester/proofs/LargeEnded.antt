@@ -171,7 +171,7 @@ module _ (w : Configuration) (q : ReqSetup) (older : List (List ℕ)) (s : Sendi
   pub counted : (count number : ℕ) → number ≡ number_of s → count ≡ number + 1 → count + 1 ≡ chunk_count (common_of k.requester).to_responder.transfer whole
   counted count number is more = ap (λ (n : ℕ). n + 1) (more ∙ ap (λ (n : ℕ). n + 1) is) ∙ eqb-true (number_of s + 1 + 1) (count_of (transfer_of s) s.size) last ∙ ap (count_of (transfer_of s)) (sym stand.0)
 
-  -- The requester behind so many acknowledgements.
+  -- The requester after so many acknowledgements.
   pub behind_all : (new : Asker) (b : Beginning) → new.setup ≡ seen.setup → new.owes ≡ false → ((acks : List Ack) → number_in acks ≡ number_of s + 1 → StandsFor new.asking q (behind (asked_of b) whole (handle_of s) acks (begun_with k b whole)))
       → IsAsker new q (record k { requester = requester_of s b whole; owed = None })
   behind_all new b setup owes stands =

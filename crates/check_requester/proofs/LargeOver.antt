@@ -1,4 +1,4 @@
--- GET_VERSION over a large request that is sent by chunks.
+-- GET_VERSION over a large request that is sent in chunks.
 use Rattle.std.proofs.Common.{◌≡◌, ◌+◌, ℕ, suc, List, [], ◌∷◌, refl, sym, subst, true, false, Option, Some, None, inl, inr, add-one}
 use Rattle.std.proofs.lemmas.Bool.{false≢true}
 use Rattle.requester_core.specs.Joined.{IsDone, StandsFor}

@@ -37,7 +37,7 @@ use Rattle.world_machine.specs.Setup.{Configuration}
 
 -- ---- The message that is owed.
 
--- It goes by chunks.
+-- It is sent in chunks.
 pub record IsFirst (x : Sent) : Type 0 where
   pub asked : RequestMessage
   pub handle : ℕ

@@ -48,7 +48,7 @@ abbrev pub HasHandle : ℕ → Aim → Type 0
 HasHandle n (ByChunks asked handle number) = handle ≡ n
 HasHandle n _ = Unit {0}
 
--- A first chunk that is sent behind this history has its next tag and its next handle.
+-- A first chunk that is sent after this history has its next tag and its next handle.
 abbrev pub IsAt : History → Sent → Type 0
 IsAt h s = begins_large s.aim ≡ true → (s.tag ≡ next_tag h) × HasHandle (next_handle h) s.aim
 

@@ -131,7 +131,7 @@ plain_shows q h EndSession is = absurd is
 plain_shows q h (ChunkSend chunk) is = absurd is
 plain_shows q h (ChunkGet handle number) is = absurd is
 
--- A request that goes by chunks is within the responder's greatest length.
+-- A request that is sent in chunks is within the responder's greatest length.
 pub chunks_short : (q : ReqSetup) (h : History) (asked : RequestMessage) (handle number : ℕ) (content : Content) → HasSizes q → Holds q h → IsAwaited q h asked → IsPiece (connection_terms h).common asked handle number content → length (canonical_request asked) ≤ 4096
 chunks_short q h GetVersion handle number content sizes holds is piece = omega arith
 chunks_short q h (GetCapabilities caps) handle number content sizes holds is piece = omega arith

@@ -111,7 +111,7 @@ module _ (q : ReqSetup) (h : History) (c : Command) (its : asks_session c ≡ tr
   done_stands : (f : Free) (tag : ℕ) (out : List ℕ) (new : Asking) → IsDone q h (asks false q h c f no_draw) tag out new → StandsFor new q (Told c (with_pad f.pad) no_draw ∷ h)
   done_stands f tag out new did = subst (λ (o : Outcome). StandsFor new q (after h o)) (asks_it f (done_right f tag out new did)) did.stands
 
-  -- By its result, and by whether the record is taken behind it.
+  -- By its result, and by whether the record is taken after it.
   pub err_sent : (f : Free) (r : Result ℕ CommandFault) (out body : List ℕ) (new last : Asking) → is_err r ≡ true → IsCommanded q h (asks false q h c f no_draw) r out new → IsSentBy q h c body false last
   err_sent f (Ok tag) out body new last is did = absurd (false≢true is)
   err_sent f (Err why) out body new last is did = fails_sent f why body last did.0

@@ -11,7 +11,7 @@ use Rattle.capture_machine.specs.Difference.{Why, asks_apart, request_why}
 use Rattle.capture_machine.specs.Difference.Why.{BadVerify}
 use Rattle.capture_machine.specs.Rounds.{Dialogue}
 
--- Whether it begins a round whole: then what is kept is that of the history behind it.
+-- Whether it begins a round whole: then what is kept is that of the history after it.
 abbrev pub IsAskedBy : ReqSetup → Kept → (body : List ℕ) → Bool → (new : Asker) → Type 0
 IsAskedBy q k body true new = (after : History) × SendsKept k body after × IsAsker new q (gone_on k after)
 IsAskedBy q k body false new = (after : History) → SendsKept k body after → ⊥

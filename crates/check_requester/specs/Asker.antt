@@ -39,8 +39,8 @@ pub record IsAsker (seen : Asker) (q : ReqSetup) (k : Kept) : Type 0 where
   pub stands : StandsFor seen.asking q (owing k.owed k.requester)
   pub owes : seen.owes ≡ is_some k.owed
 
--- Some walk over these packets, the newest first, leads to what this is kept of, and no large request is under way. A large
--- answer may be fetched, or none is.
+-- Some walk over these packets, the newest first, leads to what this is kept of, and no large request is under way. A
+-- large response may be fetched, or none is.
 abbrev pub Carries : Configuration → ReqSetup → (older : List (List ℕ)) → Kept → Type 0
 Carries w q older k =
     (fetching : Option (List ℕ)) × Walks w q older (record (restored k) { fetching = fetching }) × (kept_of (restored k) ≡ k)
@@ -51,20 +51,20 @@ Carries w q older k =
 abbrev pub is_first_chunk : (body : List ℕ) → Bool
 is_first_chunk body = slice_index body 2 == CHUNK_SEND && (slice_index body 5 == 0 && slice_index body 6 == 0)
 
--- A body is the message that is owed behind this history, with some padding, and leads to this history.
+-- A body is the message that is owed after this history, with some padding, and leads to this history.
 abbrev pub SendsOwed : ReqSetup → (bare : History) → Sent → (body : List ℕ) → (after : History) → Type 0
 SendsOwed q bare sent body after =
     (pad : List ℕ) × (length pad ≤ 16) × (begins_large sent.aim ≡ false)
     × (body_of (sent_with q.psk (session_of (session_asked sent.aim) bare) pad sent).content ≡ body)
     × (after ≡ with_next (Some (sent_with q.psk (session_of (session_asked sent.aim) bare) pad sent)) bare)
 
--- Whether it is: what is kept is that of the history behind it, or of the same one.
+-- Whether it is: what is kept is that of the history after it, or of the same one.
 abbrev pub IsSentOwed : ReqSetup → (bare : History) → Sent → (body : List ℕ) → Bool → (new : Asking) → Type 0
 IsSentOwed q bare sent body true new = (after : History) × SendsOwed q bare sent body after × StandsFor new q after
 IsSentOwed q bare sent body false new =
     ((after : History) → SendsOwed q bare sent body after → ⊥) × StandsFor new q (with_next (Some sent) bare)
 
--- What is kept behind the message that was owed.
+-- What is kept after the message that was owed.
 abbrev pub gone_on : Kept → (after : History) → Kept
 gone_on k after = record k { requester = after; owed = None }
 

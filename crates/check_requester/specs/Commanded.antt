@@ -24,7 +24,7 @@ is_in_clear (Measure None op) = true
 is_in_clear _ = false
 
 -- Whether the command sends this body at these values, whole in one message: then what is kept is that of the history
--- behind it.
+-- after it.
 abbrev pub IsToldAs : ReqSetup → History → Command → Free → (body : List ℕ) → Bool → (new : Asking) → Type 0
 IsToldAs q h command f body true new =
     (sent : Sent) × (asks false q h command f no_draw ≡ Adds (Told command sent no_draw))

@@ -1,4 +1,4 @@
--- What is kept behind an answer that a requester hears. This project's own.
+-- What is kept after an answer that a requester hears. This project's own.
 use Rattle.std.specs.Prelude.{◌≡◌, ◌==◌, ℕ, List, Bool, true, false, Some, is_some, slice_index}
 use Rattle.requester_core.specs.Joined.{StandsFor}
 use Rattle.requester_core.specs.declared.joined.Asking.{Asking}
@@ -18,7 +18,7 @@ use Rattle.check_laws.specs.RepliesShown.{answered, heard_from, no_values}
 use Rattle.capture_machine.specs.LargeAnswers.{asks_chunk, is_fetching, is_for_chunk}
 use Rattle.capture_machine.specs.Rounds.{Round, no_draw}
 
--- An answer in this round, behind which the responder has this history: the requester heard it.
+-- An answer in this round, after which the responder has this history: the requester heard it.
 abbrev pub heard_kept : Kept → History → ℕ → Round → (answer : List ℕ) → Kept
 heard_kept k behind tag round answer = kept_of (record (restored k) {
   requester = heard_from k tag answer;

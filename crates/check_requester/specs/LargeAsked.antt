@@ -96,8 +96,8 @@ IsHeldTo h request whole number at =
     (at ≡ length (take (chunk_end (common_of h).to_responder.transfer number) request))
     × (take at whole ≡ take (chunk_end (common_of h).to_responder.transfer number) request)
 
--- The request is these bytes, and behind as many acknowledgements, whatever they were, the requester has this history; or
--- the request is none of these bytes.
+-- The request is these bytes, and after as many acknowledgements, whatever they were, the requester has this history;
+-- or the request is none of these bytes.
 abbrev pub IsCarried : ReqSetup → History → RequestMessage → (handle : ℕ) → (whole : List ℕ) → (count : ℕ) → Bool → (new : Asking) → Type 0
 IsCarried q h asked handle whole count true new =
     (whole ≡ canonical_request asked) × ((acks : List Ack) → number_in acks ≡ count → StandsFor new q (behind asked whole handle acks h))
@@ -105,7 +105,7 @@ IsCarried q h asked handle whole count false new = whole ≡ canonical_request a
 
 -- ---- The end.
 
--- Open sends by chunks at the values in these fields, which are allowed: its first chunk is outstanding, and in `room`.
+-- Open sends in chunks at the values in these fields, which are allowed: its first chunk is outstanding, and in `room`.
 abbrev pub IsOpenedLarge : ReqSetup → History → ExchangeMessage → Bool → (new : Asking) → (room : List ℕ) → Type 0
 IsOpenedLarge q h exchange true new room =
     let asked = exchange_for q (values_in exchange) exchange.summary in

@@ -12,7 +12,7 @@ use Rattle.spdm_machine.specs.Terms.{hash_len}
 use Rattle.capture_machine.specs.Difference.{is_apart, is_padded}
 use Rattle.capture_machine.specs.Opening.{inner_asking, opens_asking}
 
--- A record is apart from this PSK_FINISH, which is sent behind this history: `is_finish_apart` by what it hangs on.
+-- A record is apart from this PSK_FINISH, which is sent after this history: `is_finish_apart` by what it depends on.
 abbrev pub finish_apart : ReqSetup → History → (sealed : List ℕ) → Option (ℕ × List ℕ) → Bool
 finish_apart q h sealed None = false
 finish_apart q h sealed (Some finish) =
@@ -20,7 +20,7 @@ finish_apart q h sealed (Some finish) =
     && is_padded sealed (inner_asking q (session_of finish.0 h) sealed)
     && is_apart (hash_len (session_terms (session_of finish.0 h))) finish.1 (inner_asking q (session_of finish.0 h) sealed)
 
--- The session of this PSK_FINISH is shown so behind this history.
+-- The session of this PSK_FINISH is shown so after this history.
 abbrev pub IsFinishShown : History → Option (ℕ × List ℕ) → Option SessionView → Type 0
 IsFinishShown h None shown = shown ≡ None
 IsFinishShown h (Some finish) shown = (view : SessionView) × (shown ≡ Some view) × (Some view ≡ shown_of (session_of finish.0 h))

@@ -10,14 +10,14 @@ use Rattle.requester_machine.specs.Setup.{ReqSetup}
 use Rattle.spdm_grammar.specs.declared.names.request_code.TheConstants.{END_SESSION, GET_MEASUREMENTS, HEARTBEAT, KEY_UPDATE}
 use Rattle.capture_machine.specs.CapturedRequests.{Tells}
 
--- Whether this command sends a body: then what is kept is that of the history behind it.
+-- Whether this command sends a body: then what is kept is that of the history after it.
 abbrev pub IsSentBy : ReqSetup → History → Command → (body : List ℕ) → Bool → (new : Asking) → Type 0
 IsSentBy q h command body true new = (after : History) × Tells q h command body after × StandsFor new q after
 IsSentBy q h command body false new = (after : History) → Tells q h command body after → ⊥
 
 -- ---- The command of a record.
 
--- The command of a session that asks a request with this code, these two bytes behind it.
+-- The command of a session that asks a request with this code, these two bytes after it.
 abbrev pub request_told : (id code first second : ℕ) → Option Command
 request_told id code first second =
     if code == HEARTBEAT then Some (Beat id)
@@ -26,7 +26,7 @@ request_told id code first second =
     else (if code == END_SESSION then Some (End id)
     else None)))
 
--- The command of a session by which an inner message is sent, if one is: what is behind its type and its code is not
+-- The command of a session by which an inner message is sent, if one is: what is after its type and its code is not
 -- judged.
 abbrev pub command_told : (id : ℕ) → (inner : List ℕ) → Option Command
 command_told id inner =

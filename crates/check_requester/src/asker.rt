@@ -5,16 +5,15 @@ use psk_session::InnerPair;
 use spdm_basis::{OutOfMemory, Psk, RecordFrame};
 use std::alloc::Global;
 
-/// A requester of a capture, while no large message is under way: what it was told and took, and
-/// whether it owes a message. It judges bodies by the requester's own code. All its memory is taken
-/// when it is made.
+/// A requester of a capture, while no large message is under way: what it was told and took, and whether it owes a
+/// message. It judges bodies by the requester's own code. Allocates only when constructed.
 #[derive(Drop)]
 pub struct Asker {
     pub(crate) setup: AskerSetup,
     pub(crate) asking: Asking,
     pub(crate) owes: bool,
-    // Room for the body that the requester sends, for the inner messages of a record that came and
-    // of its own, and for two that are compared.
+    // Room for the body that the requester sends, for the inner messages of a record that came and of its own, and for
+    // two that are compared.
     pub(crate) room: Body,
     pub(crate) inner: RecordFrame,
     pub(crate) own: RecordFrame,
@@ -57,8 +56,8 @@ impl Asker {
         self.owes
     }
 
-    /// Takes a body of at most 4,161 bytes as the message that is owed: whether it is that, with
-    /// some padding where it is a record. Else nothing changes.
+    /// Takes a body of at most 4,161 bytes as the message that is owed: whether it is that, with some padding where it
+    /// is a record. Else nothing changes.
     pub fn goes_on(&mut self, body: &[u8]) -> bool
         ensures { (w : Configuration) (q : ReqSetup) (older : List (List ℕ)) (k : Kept)
             → Carries w q older k → length older < 2 ^ 64 - 1 → length body.now ≤ 4161
@@ -80,8 +79,8 @@ impl Asker {
         true
     }
 
-    /// The ReqSessionID of the session whose record is outstanding, where nothing is owed; none where that is
-    /// no record.
+    /// The ReqSessionID of the session whose record is outstanding, where nothing is owed; `None` where that is no
+    /// record.
     pub fn sent(&self) -> Option<u16>
         ensures { (q : ReqSetup) (k : Kept) → IsAsker self.now q k → k.owed ≡ None
             → result ≡ session_in (outstanding k.requester) }

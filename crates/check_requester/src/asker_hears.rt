@@ -24,12 +24,12 @@ use spdm_grammar::names::request_code::CHUNK_GET;
 pub struct Heard {
     /// The ReqSessionID of the PSK_EXCHANGE whose answer it takes, if it takes one.
     pub accepted: Option<u16>,
-    /// Whether it asks for a chunk of a large answer, or awaits the one that it asked for.
+    /// Whether it asks for a chunk of a large response, or awaits the one that it asked for.
     pub fetches: bool,
 }
 
-// Hears a body that came under a tag, and tells whether a message is sent upon it, which has no
-// padding, and whose body is then in place of what `room` holds.
+// Overwrites `room` with Hears a body that came under a tag, and tells whether a message is sent upon it, which has no
+// padding, and whose body is then.
 fn hear(asking: &mut Asking, setup: &AskerSetup, room: &mut Body, tag: u8, body: &[u8]) -> bool
     ensures { (q : ReqSetup) (h : History) → IsKeptSetup setup.now q → length h < 2 ^ 64 - 1
         → StandsFor asking.old q h → IsHeardAs q h tag body.now result asking.new room.new }
@@ -49,8 +49,7 @@ fn awaited_anew(asking: &Asking, before: bool) -> Option<u16>
     asking.session_awaited()
 }
 
-// Whether what is outstanding asks for a chunk, where it was sent upon what came last, and `room` has
-// its body.
+// Whether what is outstanding asks for a chunk, where it was sent upon what came last, and `room` has its body.
 fn asks_chunk(asking: &Asking, room: &Body) -> bool
     ensures { (q : ReqSetup) (bare : History) (sent : Sent) → TookFor bare sent.aim
         → ShowsChunk sent.aim (body_of sent.content) → room.now ≡ body_of sent.content
@@ -100,10 +99,9 @@ impl Asker {
     ghost use Rattle.capture_machine.specs.Rounds.{Round};
     ghost use Rattle.world_machine.specs.Setup.{Configuration};
 
-    /// The requester hears an answer under the tag of the round under way, while it awaits a chunk of a
-    /// large answer or not: what it does upon it is told. What it sends by itself then is owed. While it
-    /// owes a message it hears nothing: the request of the round has had its answer. Fewer than 2^64 - 2
-    /// packets came.
+    /// The requester hears an answer under the tag of the round under way, while it awaits a chunk of a large response
+    /// or not: what it does upon it is told. What it sends by itself then is owed. While it owes a message it hears
+    /// nothing: the request of the round has had its answer. Fewer than 2^64 - 2 packets came.
     pub fn hears(&mut self, tag: u8, answer: &[u8], awaits: bool) -> Heard
         ensures kept { (w : Configuration) (q : ReqSetup) (older : List (List ℕ)) (k : Kept)
             (behind : responder_history.History) (round : Round) → Carries w q older k

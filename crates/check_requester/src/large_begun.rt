@@ -30,8 +30,8 @@ fn is_refused_late(fault: CommandFault) -> bool
     )
 }
 
-// Whether Open has all that it needs, but for its kind of summary and its length: it is told with a kind
-// that there is none of, and is refused for that.
+// Whether Open has all that it needs, but for its kind of summary and its length: it is told with a kind that there is
+// none of, and is refused for that.
 fn has_room(asking: &mut Asking, setup: &AskerSetup, room: &mut Body) -> bool
     ensures room { (q : ReqSetup) (h : History) → IsKeptSetup setup.now q → length h < 2 ^ 64 - 1
         → StandsFor asking.old q h → result ≡ true → HasRoom h }
@@ -127,8 +127,8 @@ impl Asker {
         self.first_chunk(self.asking.next_handle(), body)
     }
 
-    /// The large request that a body begins, if one may be begun, and it is the first chunk of one. What
-    /// is kept of the requester stays.
+    /// The large request that a body begins, if one may be begun, and it is the first chunk of one. What is kept of the
+    /// requester stays.
     pub fn begins_large(&mut self, body: &[u8]) -> Option<LargeRequest>
         ensures told { (w : Configuration) (q : ReqSetup) (older : List (List ℕ)) (k : Kept)
             → Keeps w q older k → length older < 2 ^ 64 - 1 → IsAsker self.old q k

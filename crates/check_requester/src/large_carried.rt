@@ -12,7 +12,7 @@ ghost use Rattle.capture_machine.specs.LargeRequests.{common_of};
 use check_laws::{byte_at, bytes_from};
 use requester_core::{Asking, Body};
 
-// Where the bytes of a chunk stand in the body of CHUNK_SEND: behind the length in the first one.
+// Where the bytes of a chunk stand in the body of CHUNK_SEND: after the length in the first one.
 const FIRST_BYTES: usize = 17;
 
 const NEXT_BYTES: usize = 13;
@@ -31,8 +31,8 @@ fn stand_at(whole: &[u8], at: usize, bytes: &[u8]) -> bool
     bytes_from(whole, at).starts_with(bytes)
 }
 
-// Goes on to so many further chunks of the large request whose first chunk is outstanding: whether their
-// bytes are those of `whole` from a place on.
+// Goes on to so many further chunks of the large request whose first chunk is outstanding: whether their bytes are
+// those of `whole` from a place on.
 fn carries_rest(
     asking: &mut Asking,
     room: &mut Body,
@@ -61,8 +61,8 @@ fn carries_rest(
     true
 }
 
-/// Goes on to each chunk, so many behind the first one, of the large request whose first chunk is
-/// outstanding, and in `room`: whether the request has these bytes.
+/// Goes on to each chunk, so many after the first one, of the large request whose first chunk is outstanding, and in
+/// `room`: whether the request has these bytes.
 pub(crate) fn carries(asking: &mut Asking, room: &mut Body, whole: &[u8], count: u32) -> bool
     ensures { (q : ReqSetup) (h : History) (asked : RequestMessage) (handle : ℕ)
         → IsFirstOut asking.old room.old q h asked handle

@@ -36,7 +36,7 @@ fn exchange_of(request: Request<'_>) -> Option<Exchange<'_>>
     }
 }
 
-// The PSK_EXCHANGE that a message spells, if it is one.
+// The PSK_EXCHANGE that a message encodes, if it is one.
 fn exchange_in(message: &[u8]) -> Option<Exchange<'_>>
     ensures { MatchOption result (exchange_shown (request_in 0 message.now) ≡ None)
         (λ exchange. exchange_shown (request_in 0 message.now) ≡ Some (exchange_message exchange)) }
@@ -47,8 +47,8 @@ fn exchange_in(message: &[u8]) -> Option<Exchange<'_>>
     }
 }
 
-// Whether Open sends a PSK_EXCHANGE by chunks at the values in the fields of this one: its first chunk is
-// written in place of what `room` holds.
+// Whether Open sends a PSK_EXCHANGE in chunks at the values in the fields of this one: its first chunk overwrites
+// `room`.
 fn opens_large(
     asking: &mut Asking,
     setup: &AskerSetup,
@@ -107,8 +107,8 @@ impl Asker {
         carries(&mut self.asking, &mut self.room, whole, count)
     }
 
-    /// Whether the large request ends with these bytes, of which the last chunk came behind the one of
-    /// this number: then what is kept is that of the history behind it. Else nothing is said of that.
+    /// Whether the large request ends with these bytes, of which the last chunk came after the one of this number: then
+    /// what is kept is that of the history after it. Else nothing is said of that.
     pub fn ends_large(&mut self, whole: &[u8], number: u16) -> bool
         ensures { (w : Configuration) (q : ReqSetup) (older earlier : List (List ℕ)) (s : Sending)
             → IsSendingOf w q older s → Keeps w q earlier s.before → length earlier < 2 ^ 64 - 1
@@ -124,8 +124,8 @@ impl Asker {
         carries(&mut self.asking, &mut self.room, whole, count)
     }
 
-    /// Begins anew over the large request of which the chunk of this number was sent last: what is kept
-    /// is that of a history behind GET_VERSION.
+    /// Starts over over the large request of which the chunk of this number was sent last: what is kept is that of a
+    /// history after GET_VERSION.
     pub fn connects_over(&mut self, number: u16)
         ensures { (w : Configuration) (q : ReqSetup) (older earlier : List (List ℕ)) (s : Sending)
             → IsSendingOf w q older s → Keeps w q earlier s.before → number ≡ number_of s

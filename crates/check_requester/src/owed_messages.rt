@@ -26,8 +26,7 @@ pub fn is_first_chunk(body: &[u8]) -> bool
     byte_at(body, 2) == CHUNK_SEND && byte_at(body, 5) == 0 && byte_at(body, 6) == 0
 }
 
-// Whether a message is outstanding, whose body is written in place of what `room` holds. Which values
-// are free does not matter.
+// Whether a message is outstanding, whose body overwrites `room`. Which values are free does not matter.
 pub(crate) fn write_outstanding(asking: &mut Asking, setup: &AskerSetup, room: &mut Body) -> bool
     ensures waits { (q : ReqSetup) (h : History) → IsKeptSetup setup.now q
         → length h < 2 ^ 64 - 1 → StandsFor asking.old q h → result ≡ is_some (outstanding h) }
@@ -61,8 +60,8 @@ fn take_record(asking: &mut Asking, pair: &mut InnerPair, body: &[u8]) -> bool
     }
 }
 
-// Takes a body of at most 4,161 bytes as the message that is owed: whether it is that, with some
-// padding where it is a record.
+// Takes a body of at most 4,161 bytes as the message that is owed: whether it is that, with some padding where it is a
+// record.
 pub(crate) fn sends_owed(
     asking: &mut Asking,
     setup: &AskerSetup,

@@ -91,8 +91,7 @@ fn is_apart(size: usize, one: &[u8], other: &[u8]) -> bool
     same_bytes(one.split_at(front).0, other.split_at(front).0)
 }
 
-// The inner message of a record is apart from another, and the record has at most 16 bytes of
-// padding.
+// The inner message of a record is apart from another, and the record has at most 16 bytes of padding.
 fn is_padded_apart(size: usize, own: &[u8], inner: &[u8], sealed: &[u8]) -> bool
     ensures { result ≡ (difference.is_padded sealed.now inner.now
         && difference.is_apart size own.now inner.now) }
@@ -126,9 +125,8 @@ fn finish_view(asking: &Asking) -> Option<SessionView>
     }
 }
 
-// Whether a record is apart from the PSK_FINISH that is outstanding in this record, where that was
-// sent by itself upon what came last. The inner messages of both are opened in place of what `own`
-// and `inner` hold.
+// Whether a record is apart from the PSK_FINISH that is outstanding in this record, where that was sent by itself upon
+// what came last. The inner messages of both are opened in place of what `own` and `inner` hold.
 pub(crate) fn is_finish_apart(
     asking: &Asking,
     record: &[u8],

@@ -22,9 +22,8 @@ impl Asker {
     ghost use Rattle.capture_machine.specs.Opening.{opens_asking};
     ghost use Rattle.world_machine.specs.Setup.{Configuration};
 
-    /// Takes a body of at most 4,161 bytes as a request that begins a round whole: whether it does,
-    /// as the message that is owed, as GET_VERSION, or as that of a command. Else nothing is said
-    /// of what is kept.
+    /// Takes a body of at most 4,161 bytes as a request that begins a round whole: whether it does, as the message that
+    /// is owed, as GET_VERSION, or as that of a command. Else nothing is said of what is kept.
     pub fn asks(&mut self, body: &[u8]) -> bool
         ensures { (w : Configuration) (q : ReqSetup) (older : List (List ℕ)) (k : Kept)
             → Carries w q older k → length older < 2 ^ 64 - 1 → length body.now ≤ 4161
@@ -141,8 +140,8 @@ impl Asker {
         !write_outstanding(&mut self.asking, &self.setup, &mut self.room)
     }
 
-    // Judges a record that comes so, which is opened once: what it opens to tells the command, and
-    // where it does not open, none sends it.
+    // Judges a record that comes so, which is opened once: what it opens to tells the command, and where it does not
+    // open, none sends it.
     fn judge_record(&mut self, sealed: &[u8]) -> Result<(), Why>
         ensures { (w : Configuration) (q : ReqSetup) (older : List (List ℕ)) (k : Kept)
             → Carries w q older k → length older < 2 ^ 64 - 1 → length sealed.now ≤ 4160
@@ -166,8 +165,8 @@ impl Asker {
         }
     }
 
-    /// Judges a body of at most 4,161 bytes as a request in turn that is no copy: it begins a round
-    /// whole, or why it is refused. Where it is refused, nothing is said of what is kept.
+    /// Judges a body of at most 4,161 bytes as a request in turn that is no copy: it begins a round whole, or why it is
+    /// refused. Where it is refused, nothing is said of what is kept.
     pub fn judge(&mut self, body: &[u8]) -> Result<(), Why>
         ensures { (w : Configuration) (q : ReqSetup) (older : List (List ℕ)) (k : Kept)
             → Carries w q older k → length older < 2 ^ 64 - 1 → length body.now ≤ 4161

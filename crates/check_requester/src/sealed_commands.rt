@@ -31,7 +31,7 @@ fn session_number(id: u16) -> u8
     (id % 256) as u8
 }
 
-// The command of a session that asks a request with this code, these two bytes behind it.
+// The command of a session that asks a request with this code, these two bytes after it.
 fn request_in(session: u8, code: u8, first: u8, second: u8) -> Option<Command<'static>>
     ensures { TellsCommand result (request_told session code first second) }
 {
@@ -121,8 +121,7 @@ pub(crate) fn sends_opened(
     }
 }
 
-// Whether some command sends this record, where nothing is outstanding: the inner message is opened
-// in place of what `inner` holds.
+// Whether some command sends this record, where nothing is outstanding: the inner message is opened into `inner`.
 pub(crate) fn sends_sealed(
     asking: &mut Asking,
     setup: &AskerSetup,
