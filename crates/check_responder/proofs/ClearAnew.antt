@@ -60,7 +60,7 @@ module _ (r : RspSetup) (tag : ℕ) (m reply : List ℕ) where
     abbrev turn : History → Free → Turn
     turn g f = turn_of r (clear_place g) m f
 
-    -- The history behind these drops, and the values that the answer shows there.
+    -- The history after these drops, and the values that the answer shows there.
     abbrev gone : List ℕ → History
     gone ids = with_dropped h ids
 
@@ -80,7 +80,7 @@ module _ (r : RspSetup) (tag : ℕ) (m reply : List ℕ) where
     large_is : (ids : List ℕ) (f : Free) → body_of (at (gone ids) f) ≡ clear_body reply → is_large (entry (gone ids) f) ≡ shows_large (response_of reply)
     large_is ids f body = sym (turn_tells r (clear_place (gone ids)) m f) ∙ ap (λ (l : List ℕ). shows_large (response_of l)) (reply_is ids f body)
 
-    -- A chunk of a large answer begins no session.
+    -- A chunk of a large response begins no session.
     none_begun : (ids : List ℕ) (f : Free) → body_of (at (gone ids) f) ≡ clear_body reply → takes CHUNK_GET (turn (gone ids) f) ≡ true → id_begun (response_of reply) ≡ None
     none_begun ids f body gets =
         let t : Turn = turn (gone ids) f in

@@ -100,7 +100,7 @@ given_from : (same shown large told get at pending : Bool) → same ≡ false �
     → cond same given.Whole (cond shown given.Large (cond (told && not pending) given.Last given.Whole)) ≡ cond large given.Large (cond (get && not at) given.Last given.Whole)
 given_from same shown large told get at pending a b c d = rw (a, b, c, d) refl
 
--- Whether an answer is pending hangs on no chunk.
+-- Whether an answer is pending depends on no chunk.
 chunk_pending : (b : Bool) (q : Place) → has_pending (cond b (inside q) q) ≡ has_pending q
 chunk_pending true q = refl
 chunk_pending false q = refl

@@ -234,7 +234,7 @@ module _ (r : RspSetup) (tag : ℕ) (m reply : List ℕ) where
         ∙ ap (λ (ids : List ℕ). after (with_dropped h ids) (at (with_dropped h ids) (shown (with_dropped h ids)))) no_drops
         ∙ ap (λ (f : Free). after h (at h f)) (shown_again h again)
 
--- Behind an answer that is given it is kept of the history that it leads to.
+-- After an answer that is given it is kept of the history that it leads to.
 pub kept_behind : (K : History → Type 0) (to : Given → History) (g : History) (result : Option Given) → ((x : Given) → result ≡ Some x → to x ≡ g) → IfSome result (λ x. K g) → IfSome result (λ x. K (to x))
 kept_behind K to g None is kept = tt
 kept_behind K to g (Some x) is kept = subst K (sym (is x refl)) kept

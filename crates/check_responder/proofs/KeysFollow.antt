@@ -1,4 +1,4 @@
--- Which keys are kept behind a body that was handed in, with the key of the answer to it.
+-- Which keys are kept after a body that was handed in, with the key of the answer to it.
 use Rattle.std.proofs.Common.{◌≡◌, ◌≢◌, ◌≤◌, ◌⊎◌, ◌==◌, ◌&&◌, ◌||◌, ◌-◌, ◌∙◌, ℕ, List, [], ◌∷◌, refl, sym, ap, subst, drop, Bool, true, false, Option, Some, None, cond, inl, inr, arith}
 use Rattle.std.proofs.lemmas.Bool.{false≢true, not-true}
 use Rattle.std.proofs.lemmas.Bool.Decides.{nat_tests}
@@ -75,7 +75,7 @@ module _ (keys new : AnswerKeys) (r : RspSetup) (h : History) (ids : List ℕ) (
   leads : LeadsHere
   leads = record_leads r g tag m f d
 
-  -- What is taken behind drops is taken without them.
+  -- What is taken after drops is taken without them.
   taken_before : is_taken_in r s (repeats (ended_of g) m) m ≡ true → (s ≡ session_named h body) × (is_taken_in r (session_named h body) (repeats (ended_of h) m) m ≡ true)
   taken_before taken = by_drop (dropped_session (id_in_record m) h ids)
     where

@@ -1,4 +1,4 @@
--- Under which of the kept keys an answer opens, and which are kept behind a body.
+-- Under which of the kept keys an answer opens, and which are kept after a body.
 use Rattle.std.proofs.Common.{◌≡◌, ◌≢◌, ◌⊎◌, ◌==◌, ◌&&◌, ◌||◌, ◌∙◌, ℕ, List, [], ◌∷◌, refl, sym, ap, subst, Bool, true, false, Option, Some, None, is_some, is_none, cond, inl, inr, arith, eqb-true}
 use Rattle.std.proofs.lemmas.Bool.{false≢true}
 use Rattle.std.proofs.lemmas.Bool.Decides.{nat_tests}

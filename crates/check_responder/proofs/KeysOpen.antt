@@ -22,7 +22,7 @@ use Rattle.check_responder.specs.AnswerKeys.{IsComingKey, IsKeyOfTurn, is_taken_
 use Rattle.check_responder.specs.Opening.{IsByKey}
 use Rattle.capture_machine.specs.Opening.{any_free, opens_again, opens_ended, opens_in_session, opens_next, opens_to, turn_in}
 
--- Whether bytes open under a key is told so.
+-- Whether bytes open under a key is reported so.
 abbrev pub OpensBy : AnswerKey → (sealed : List ℕ) → Bool → Type 0
 OpensBy key sealed b = (choice : Choice) (p : Purpose) (number : ℕ) (id : List ℕ) → IsAnswerKey key choice p number id → b ≡ is_none (record_fault choice p number id sealed)
 
@@ -32,7 +32,7 @@ pub reply_opens : (r : RspSetup) (s : Events) (t : Turn) (sealed : List ℕ) (ke
 unfolding opens_to
 reply_opens r s t sealed key b its opens = opens (session_terms s).choice (reply_purpose r.psk s t) (reply_number s t) (id_bytes s) its
 
--- What is told of the key of such an answer, where it opens so.
+-- What is reported of the key of such an answer, where it opens so.
 pub reply_key : (r : RspSetup) (s : Events) (t : Turn) (sealed : List ℕ) (key : AnswerKey) (is : Bool) → IsKeyOfReply key r.psk s t → opens_to r s t sealed ≡ is → IsByKey (Some key) sealed is
 unfolding opens_to
 reply_key r s t sealed key is its same = ((session_terms s).choice, reply_purpose r.psk s t, reply_number s t, id_bytes s, its, sym same)

@@ -1,4 +1,4 @@
--- An answer in the clear to a record is told from what it leads to.
+-- An answer in the clear to a record is determined by what it leads to.
 use Rattle.std.proofs.Common.{◌≡◌, ◌≢◌, ◌⊎◌, inl, inr, suc, ◌∙◌, ℕ, List, [], ◌∷◌, refl, sym, ap, subst, drop, Bool, true, false, arith}
 use Rattle.std.specs.Prelude.{slice_index}
 use Rattle.responder_machine.specs.Answer.{Free}

@@ -1,4 +1,4 @@
--- What the answer to a record brings is told from its inner message.
+-- What the answer to a record brings is determined by its inner message.
 use Rattle.std.proofs.Common.{◌≡◌, ◌≤◌, ◌<◌, ◌+◌, ◌∙◌, ◌==◌, ◌&&◌, ◌||◌, ◌↔◌, ℕ, List, [], ◌∷◌, refl, sym, ap, length, drop, take, Bool, true, false, Some, None, cond, inl, inr, is_some, not, arith}
 use Rattle.std.proofs.lemmas.Bool.{eq-eqb, eqb-true, false≢true}
 use Rattle.std.proofs.lemmas.Bool.Decides.{nat_tests}
@@ -199,7 +199,7 @@ module _ (r : RspSetup) (h : History) (tag : ℕ) (request : List ℕ) (taken : 
     abbrev part : List ℕ
     part = let text = answered_text r here (turn_in r here request) sealed in take (little_number 2 text) (drop 2 text)
 
-    -- What it brings is told from its text.
+    -- What it brings is determined by its text.
     pub part_is : IsRecordGiven r h tag request f (record_body sealed) → given_shown part ≡ given_of h at
     part_is given =
         let brief : length (inner_reply turn) < 65536 = (let few = session_short r here (opened r.psk here request) f given.short given.allowed.reply in omega (arith, few)) in

@@ -1,4 +1,4 @@
--- While a large request is sent no answer begins a large answer, and none ends one.
+-- While a large request is sent no answer begins a large response, and none ends one.
 use Rattle.std.proofs.Common.{◌≡◌, ◌∙◌, ◌&&◌, ℕ, List, refl, sym, ap, Bool, true, false, not}
 use Rattle.std.proofs.lemmas.Bool.{false≢true}
 use Rattle.requester_machine.specs.Setup.{ReqSetup}
@@ -29,7 +29,7 @@ not_both : (b : Bool) → not b ≡ true → b ≡ true → ⊥
 not_both true off on = false≢true off
 not_both false off on = false≢true on
 
--- Nor the last chunk of a large answer.
+-- Nor the last chunk of a large response.
 plain_ends : (h : History) (o : Outcome) → is_plain h o ≡ true → ends_large h o ≡ true → ⊥
 plain_ends h (Same body) plain ends = false≢true ends
 plain_ends h (Unopened body) plain ends = false≢true ends

@@ -105,7 +105,7 @@ IsAnswerer seen r h = connected.StandsFor seen.connection r h
 
 -- ---- What an answer shows.
 
--- The history behind an answer that is shown so.
+-- The history after an answer that is shown so.
 abbrev pub history_shown : RspSetup → History → ℕ → (body answer : List ℕ) → History
 history_shown r h tag body answer = after (with_dropped h (drops_shown_by r h tag body answer)) (outcome_shown r h tag body answer)
 

@@ -47,7 +47,7 @@ abbrev pub tells_get : Heard → Bool
 tells_get (heard.Answered code) = code == CHUNK_GET
 tells_get _ = false
 
--- By what is told of it, by the reply, and by whether a large answer is pending behind it.
+-- By what is reported of it, by the reply, and by whether a large response is pending after it.
 abbrev pub given_by : Heard → (reply : List ℕ) → (pending : Bool) → Given
 given_by told reply pending =
     if is_same told then given.Whole
@@ -60,7 +60,7 @@ abbrev pub is_whole_given : Given → Bool
 is_whole_given given.Whole = true
 is_whole_given _ = false
 
--- It begins a large answer.
+-- It begins a large response.
 abbrev pub is_large_given : Option Given → Bool
 is_large_given (Some given.Large) = true
 is_large_given _ = false
@@ -117,7 +117,7 @@ IsAskedBy r h m reply whole bytes.Never = (f : Free) → AnswersSo r h m reply f
 
 -- ---- What an answer shows.
 
--- Beside four sessions past their handshake the first that may have been dropped.
+-- Beside four established sessions the first that may have been dropped.
 abbrev pub first_of_held : History → List ℕ
 first_of_held h = if held_of h == 4 then first_dropped h (1 ∷ 2 ∷ 3 ∷ 4 ∷ []) else []
 
@@ -133,7 +133,7 @@ history_given r h tag m reply given.Whole = history_shown r h tag (clear_body m)
 history_given r h tag m reply given.Large = after (with_dropped h (drops_before h (clear_body m))) (large_shown r h tag (clear_body m) (clear_body reply))
 history_given r h tag m reply given.Last = after h (last_shown r h tag (clear_body m) (clear_body reply))
 
--- It gives the last chunk of a large answer, by what it shows.
+-- It gives the last chunk of a large response, by what it shows.
 abbrev pub EndsLarge : RspSetup → History → ℕ → (body answer : List ℕ) → Type 0
 EndsLarge r h tag body answer =
     LeadsAt r h tag body (last_shown r h tag body answer) (values_shown_by r h tag body answer)

@@ -13,13 +13,13 @@ use Rattle.check_responder.specs.declared.given.Judged.{Judged}
 use Rattle.check_responder.specs.declared.given.Judged.TheVariants as judged
 use Rattle.capture_machine.specs.Rounds.{Dialogue, Round}
 
--- An answer may not be given by what it shows: whole, as one that begins a large answer, or as one that ends one.
+-- An answer may not be given by what it shows: whole, as one that begins a large response, or as one that ends one.
 pub record IsGivenNever (r : RspSetup) (d : Dialogue) (round : Round) (answer : List ℕ) : Type 0 where
   pub whole : IsShownAnswer r d.responder round.tag round.body answer → ⊥
   pub large : IsShownLarge r d.responder round.tag round.body answer → ⊥
   pub last : EndsLarge r d.responder round.tag round.body answer → ⊥
 
--- What is said of an answer; where it goes whole, the history behind it is kept.
+-- What is said of an answer; where it goes whole, the history after it is kept.
 abbrev pub IsGiven : RspSetup → Dialogue → Round → (answer : List ℕ) → Judged → (new : Answerer) → Type 0
 IsGiven r d round answer (judged.Given given.Whole) new =
     IsShownAnswer r d.responder round.tag round.body answer × IsAnswerer new r (history_shown r d.responder round.tag round.body answer)

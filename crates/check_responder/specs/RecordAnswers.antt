@@ -1,4 +1,4 @@
--- How the program judges an answer to a record: what it brings is told from its inner message. This project's own.
+-- How the program judges an answer to a record: what it brings is determined by its inner message. This project's own.
 use Rattle.std.specs.Prelude.{◌≡◌, ◌==◌, ◌&&◌, ◌↔◌, if◌then◌else◌, Bool, ℕ, List, slice_index, drop, Option, Some, None}
 use Rattle.responder_machine.specs.Answer.{Free}
 use Rattle.responder_machine.specs.History.{History}

@@ -48,14 +48,14 @@ HasFewBlocks r = (op : ℕ) → length (record_of (asked op (inventory_of r))) �
 abbrev pub shows_last : (response : List ℕ) → Bool
 shows_last response = slice_index response 1 == CHUNK_RESPONSE && slice_index response 2 == 1
 
--- At these values, which are allowed, a record is answered so, by no part of a large answer that is judged otherwise.
+-- At these values, which are allowed, a record is answered so, by no part of a large response that is judged otherwise.
 pub record IsRecordAnswered (r : RspSetup) (h : History) (tag : ℕ) (request : List ℕ) (f : Free) (answer : List ℕ) : Type 0 where
   pub allowed : IsAllowed h (session_place (session_of (id_in_record request) h)) f
   pub short : length (record_answer r (session_of (id_in_record request) h) request f) ≤ MAX_MESSAGE_SIZE
   pub plain : is_plain h (on_record r h tag request f no_draw) ≡ true
   pub body : body_of (on_record r h tag request f no_draw) ≡ answer
 
--- At these values, which are allowed, a record is answered so, by whatever part of a large answer.
+-- At these values, which are allowed, a record is answered so, by whatever part of a large response.
 pub record IsRecordGiven (r : RspSetup) (h : History) (tag : ℕ) (request : List ℕ) (f : Free) (answer : List ℕ) : Type 0 where
   pub allowed : IsAllowed h (session_place (session_of (id_in_record request) h)) f
   pub short : length (record_answer r (session_of (id_in_record request) h) request f) ≤ MAX_MESSAGE_SIZE

@@ -72,8 +72,8 @@ fn measurements_length(inventory: &Inventory, op: u8, values: &FreeValues<'_>) -
     MEASUREMENTS_FIELDS_LEN + blocks_len + values.measured_opaque.len()
 }
 
-/// The length of the answer to a request, in bytes, if values are free in it, and 0 for any other, at a
-/// place where this hash was chosen.
+/// The length of the answer to a request, in bytes, if values are free in it, and 0 for any other, at a place where
+/// this hash was chosen.
 pub(crate) fn free_length(
     setup: &Setup<'_>,
     hash: HashAlg,

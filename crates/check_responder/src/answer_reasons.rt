@@ -20,9 +20,9 @@ use session_keys::behind_type;
 use spdm_basis::RecordFrame;
 use spdm_grammar::Why;
 
-// Whether an answer that is in turn is in the clear, or a record that opens, as far as it is told before it is
-// judged. The body is the request that it answers, which was not handed in yet, and of which this is had. What
-// `room` holds before and after does not matter. Fewer than 2^64 - 1 messages came.
+// Whether an answer that is in turn is in the clear, or a record that opens, as far as it is told before it is judged.
+// The body is the request that it answers, which was not handed in yet, and of which this is had. `room` is scratch
+// space. Fewer than 2^64 - 1 messages came.
 fn opening_of(
     keys: &AnswerKeys,
     connection: &Connection,
@@ -50,8 +50,7 @@ fn why_by(opens: bool) -> Why
     if opens { Why::BadReply } else { Why::BadRecord }
 }
 
-/// Why an answer is refused of which this was told, with what is had of its request. What `room` holds before and
-/// after does not matter.
+/// Why an answer is refused of which this was told, with what is had of its request. `room` is scratch space.
 pub fn why_so(told: Opening, coming: &Coming, answer: &[u8], room: &mut RecordFrame) -> Why
     ensures { (r : RspSetup) (d : Dialogue) (round : Round)
         → IsReason r d round coming.now answer.now told
@@ -106,8 +105,8 @@ impl Answerer {
         )
     }
 
-    /// Why an answer to this body is refused, but for wrong verify data: had before it is judged, where nothing is
-    /// had of the body yet. Fewer than 2^64 - 1 messages came.
+    /// Why an answer to this body is refused, but for wrong verify data: had before it is judged, where nothing is had
+    /// of the body yet. Fewer than 2^64 - 1 messages came.
     pub fn reply_why(&mut self, keys: &AnswerKeys, body: &[u8], answer: &[u8]) -> Why
         ensures told { (r : RspSetup) (d : Dialogue) (round : Round)
             → IsAnswerer self.old r d.responder → messages_of d.responder < 2 ^ 64 - 1
@@ -121,8 +120,7 @@ impl Answerer {
         why_so(told, &coming, answer, &mut self.record)
     }
 
-    /// The key of the answer to this body, had before it is judged. Fewer than 2^64 - 1 messages
-    /// came.
+    /// The key of the answer to this body, had before it is judged. Fewer than 2^64 - 1 messages came.
     pub fn coming_key(&mut self, body: &[u8]) -> Option<AnswerKey>
         ensures key { (r : RspSetup) (h : History) → IsAnswerer self.old r h
             → messages_of h < 2 ^ 64 - 1 → IsComingKey r h body.now result }

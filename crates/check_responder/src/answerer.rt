@@ -17,8 +17,8 @@ use spdm_grammar::names::request_code::CHUNK_GET;
 use spdm_grammar::names::response_code::{CHUNK_SEND_ACK, ERROR};
 use spdm_grammar::names::CHUNK_SEND_ACK_FIELDS_LEN;
 
-/// What is kept of the responder towards one requester: its connection, and room to answer in. It lies in place,
-/// and takes no memory.
+/// What is kept of the responder towards one requester: its connection, and room to answer in. Fixed size; never
+/// allocates.
 #[derive(Drop)]
 pub struct Answerer {
     /// The responder towards the requester.
@@ -68,8 +68,7 @@ fn tells_get(heard: Heard) -> bool
     }
 }
 
-// What an answer brings, by what is told of it, by the reply, and by whether a large answer is pending
-// behind it.
+// What an answer brings, by what is reported of it, by the reply, and by whether a large response is pending after it.
 fn given_by(heard: Heard, reply: &[u8], pending: bool) -> Given
     ensures { result ≡ given_by heard reply.now pending }
 {
@@ -95,8 +94,8 @@ fn is_whole(given: Given) -> bool
     }
 }
 
-/// What is said of a reply, where this answer was given: that is told of it, and whether a large answer is
-/// pending behind it. Verify data have so many bytes.
+/// What is said of a reply, where this answer was given: that is told of it, and whether a large response is pending
+/// after it. Verify data have so many bytes.
 pub(crate) fn judged_by(
     heard: Heard,
     given: &[u8],
@@ -134,7 +133,7 @@ impl Answerer {
     ghost use Rattle.check_responder.specs.Answerer.{AreBounded, IsAnswerer};
     ghost use Rattle.check_responder.specs.ClearAnswers.{IsJudgedAt, IsLongWith, given_in};
 
-    /// Where nothing came yet.
+    /// The initial state, before any message.
     pub fn new(setup: &Setup<'_>) -> Answerer
         ensures { (r : RspSetup) → IsSetUp setup.now r → IsAnswerer result r [] }
     {
@@ -146,8 +145,8 @@ impl Answerer {
         }
     }
 
-    /// Judges an answer to a clear message at these values. The whole answer to the message passes 4,096
-    /// bytes where that to `asked` does. Fewer than 2^64 - 1 messages came.
+    /// Judges an answer to a clear message at these values. The whole answer to the message passes 4,096 bytes where
+    /// that to `asked` does. Fewer than 2^64 - 1 messages came.
     pub fn answers_at(
         &mut self,
         setup: &Setup<'_>,

@@ -33,8 +33,8 @@ fn is_acknowledged(last: bool, reply: &[u8]) -> bool
     last && byte_at(reply, 1) == CHUNK_SEND_ACK
 }
 
-/// Which bytes have the request whose answer an answer to a clear message gives, where this hash was chosen.
-/// A large request is written in place of what `whole` holds.
+/// Which bytes have the request whose answer an answer to a clear message gives, where this hash was chosen. A large
+/// request overwrites `whole`.
 pub(crate) fn asked_by(
     setup: &Setup<'_>,
     connection: &Connection,

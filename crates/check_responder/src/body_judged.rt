@@ -43,8 +43,8 @@ impl Answerer {
         Judged::Refused
     }
 
-    /// Judges a body as the answer to another one of which this is had, by what it shows. What `text` holds
-    /// before and after does not matter. Fewer than 2^64 - 1 messages came.
+    /// Judges a body as the answer to another one of which this is had, by what it shows. `text` is scratch space.
+    /// Fewer than 2^64 - 1 messages came.
     pub fn judges_with(
         &mut self,
         setup: &Setup<'_>,

@@ -18,7 +18,7 @@ use spdm_grammar::names::{MAX_PADDING, MAX_SESSIONS};
 // The most bytes of application data.
 const MOST_DATA: usize = 1024;
 
-// Whether a session is past its handshake.
+// Whether a session is established.
 #[tactic(auto, unfolding(responder_machine::specs::Heard::view_of))]
 fn is_held(view: Option<SessionView>) -> bool
     ensures { (s : Events) → IsViewOf view s
@@ -54,8 +54,7 @@ fn are_few(reply: &[u8], pad: &[u8]) -> bool
     reply.len() <= MOST_DATA && pad.len() <= MAX_PADDING
 }
 
-/// Whether a responder may choose these values at a place where this hash was chosen. Fewer than 2^64
-/// messages came.
+/// Whether a responder may choose these values at a place where this hash was chosen. Fewer than 2^64 messages came.
 pub(crate) fn are_allowed(connection: &Connection, hash: HashAlg, values: &FreeValues<'_>) -> bool
     ensures least { result ≡ true → 1 ≤ values.now.id }
     ensures most { result ≡ true → values.now.id ≤ 4 }

@@ -28,7 +28,7 @@ fn rsp_id_in(response: &[u8]) -> u16
     LittleEndian::read_u16(&id)
 }
 
-/// RspSessionID of the session that a response begins; none where it is no PSK_EXCHANGE_RSP.
+/// RspSessionID of the session that a response begins; `None` where it is no PSK_EXCHANGE_RSP.
 pub(crate) fn id_begun(response: &[u8]) -> Option<u16>
     ensures { result ≡ id_begun response.now }
 {
@@ -39,7 +39,7 @@ pub(crate) fn id_begun(response: &[u8]) -> Option<u16>
     }
 }
 
-// Beside four sessions past their handshake the first that may have been dropped unseen.
+// Beside four established sessions the first that may have been dropped unseen.
 fn first_of_held(connection: &Connection) -> Option<u16>
     ensures { (r : RspSetup) (h : History) → StandsFor connection.now r h
         → IsDropped (first_of_held h) result }
@@ -62,8 +62,8 @@ fn first_of_held(connection: &Connection) -> Option<u16>
     None
 }
 
-/// The session that an answer to a clear message, which is no repeat, shows as dropped before it; none
-/// where it shows none.
+/// The session that an answer to a clear message, which is no repeat, shows as dropped before it; `None` where it shows
+/// none.
 pub(crate) fn dropped_before(connection: &Connection, reply: &[u8]) -> Option<u16>
     ensures { (r : RspSetup) (h : History) → StandsFor connection.now r h
         → IsDropped (dropped_before h reply.now) result }

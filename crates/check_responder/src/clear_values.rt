@@ -80,7 +80,7 @@ pub(crate) fn chunk_of(message: &[u8], hash_len: usize) -> Option<ChunkView<'_>>
     }
 }
 
-// Writes bytes, and more behind them, in place of what `whole` holds; whether they have room there.
+// Overwrites `whole` with bytes, and more after them; whether they have room there.
 fn join(first: &[u8], more: &[u8], whole: &mut Frame) -> bool
     ensures fits { length first.now + length more.now ≤ MAX_MESSAGE_SIZE → result ≡ true }
     ensures value { result ≡ true → whole.new ≡ first.now ++ more.now }
@@ -183,8 +183,8 @@ fn chunk_values<'a>(
     whole_values(setup, at, so_far, chunk, least, reply)
 }
 
-// The values that an answer to a clear message shows which is no repeat, where the requester has this transfer
-// size and these bytes of a large request came so far. None where there is no such answer at them.
+// The values that an answer to a clear message shows which is no repeat, where the requester has this transfer size and
+// these bytes of a large request came so far. `None` where there is no such answer at them.
 fn read_clear<'a>(
     setup: &Setup<'_>,
     connection: &Connection,
@@ -210,8 +210,7 @@ fn read_clear<'a>(
     }
 }
 
-/// The values that an answer to a clear message shows which is no repeat. None where there is no such answer
-/// at them.
+/// The values that an answer to a clear message shows which is no repeat. `None` where there is no such answer at them.
 pub(crate) fn clear_values<'a>(
     setup: &Setup<'_>,
     connection: &Connection,

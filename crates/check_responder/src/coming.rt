@@ -2,8 +2,8 @@ use check_laws::byte_at;
 use responder_session::AnswerKey;
 use spdm_basis::RecordFrame;
 
-/// What is had of a request before its answer is judged: the key of that answer, where the request is a
-/// record that is taken, and then its inner message too. It lies in place.
+/// What is had of a request before its answer is judged: the key of that answer, where the request is a record that is
+/// taken, and then its inner message too. Fixed size; never allocates.
 #[derive(Drop)]
 pub struct Coming {
     pub(crate) key: Option<AnswerKey>,

@@ -1,11 +1,11 @@
 /// What an answer in a capture brings.
 #[derive(Clone, Copy, Debug, PartialEq, Eq)]
 pub enum Given {
-    /// It goes whole; or it is a repeat, or a chunk of a large answer, but for the last one.
+    /// It goes whole; or it is a repeat, or a chunk of a large response, but for the last one.
     Whole,
     /// LargeResponse.
     Large,
-    /// The last chunk of a large answer.
+    /// The last chunk of a large response.
     Last,
 }
 

@@ -11,7 +11,7 @@ use crate::{Answerer, Given, Judged};
 use responder_core::{FreeValues, Setup};
 use spdm_basis::Frame;
 
-/// Whether it brings a large answer.
+/// Whether it brings a large response.
 pub(crate) fn brings_large(judged: Judged) -> bool
     ensures { result ≡ is_large_given (given_in judged) }
 {
@@ -40,7 +40,7 @@ impl Answerer {
     ghost use Rattle.check_laws.specs.AnswersShown.{clear_values};
     ghost use Rattle.check_laws.specs.LargeShown.{IsShownLarge};
 
-    // What `answers_at` would say, where no large answer is pending in the clear.
+    // What `answers_at` would say, where no large response is pending in the clear.
     fn says_at(
         &self,
         setup: &Setup<'_>,
@@ -142,8 +142,8 @@ impl Answerer {
         judged
     }
 
-    /// Whether an answer to a clear message begins a large answer, by what it shows: it is LargeResponse, plain or
-    /// in an acknowledgement, and no repeat. No large answer is pending in the clear. The connection stays.
+    /// Whether an answer to a clear message begins a large response, by what it shows: it is LargeResponse, plain or in
+    /// an acknowledgement, and no repeat. No large response is pending in the clear. The connection stays.
     pub fn tells_large(&mut self, setup: &Setup<'_>, tag: u8, message: &[u8], reply: &[u8]) -> bool
         ensures told { (r : RspSetup) (h : History) → IsSetUp setup.now r → IsAnswerer self.old r h
             → has_pending (clear_place h) ≡ false → messages_of h < 2 ^ 64 - 1

@@ -10,12 +10,11 @@ use spdm_basis::RecordFrame;
 pub enum Opening {
     /// This is told of it.
     Told(bool),
-    /// It opens exactly where it does under the key that is had of its request.
+    /// It opens exactly when it does under the key that is had of its request.
     ByKey,
 }
 
-// Whether a record opens under the key that is had of a request. What `room` holds before and after does not
-// matter.
+// Whether a record opens under the key that is had of a request. `room` is scratch space.
 fn opens_coming(coming: &Coming, sealed: &[u8], room: &mut RecordFrame) -> bool
     ensures { (is : Bool) → IsByKey coming.now.key sealed.now is → result ≡ is }
 {
@@ -25,8 +24,7 @@ fn opens_coming(coming: &Coming, sealed: &[u8], room: &mut RecordFrame) -> bool
     }
 }
 
-/// Whether a record opens, of which this is told, with what is had of its request. What `room` holds before and
-/// after does not matter.
+/// Whether a record opens, of which this is told, with what is had of its request. `room` is scratch space.
 pub(crate) fn opens_so(
     told: Opening,
     coming: &Coming,

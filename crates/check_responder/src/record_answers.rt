@@ -156,8 +156,8 @@ impl Answerer {
         is_sent(heard, self.record.as_slice(), sealed)
     }
 
-    // Whether a record with this inner message is answered by this one at these values, where its session
-    // has this hash.
+    // Whether a record with this inner message is answered by this one at these values, where its session has this
+    // hash.
     fn gives(
         &mut self,
         setup: &Setup<'_>,
@@ -213,8 +213,8 @@ impl Answerer {
         }
     }
 
-    /// Whether a record with this inner message, in a live session, is answered by this one at the values that
-    /// its text shows.
+    /// Whether a record with this inner message, in a live session, is answered by this one at the values that its text
+    /// shows.
     pub(crate) fn gives_shown(
         &mut self,
         setup: &Setup<'_>,

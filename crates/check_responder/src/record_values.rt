@@ -22,7 +22,7 @@ fn inner_size(text: &[u8]) -> usize
     LittleEndian::read_u16(&[byte_at(text, 0), byte_at(text, 1)]) as usize
 }
 
-// What a text has behind that length.
+// What a text has after that length.
 fn behind_size(text: &[u8]) -> &[u8]
     ensures { result.now ≡ drop 2 text.now }
 {
@@ -104,8 +104,8 @@ fn inner_values<'a>(
     values_in(setup, at, behind_type(request), values, behind_type(inner))
 }
 
-/// The values that the text of a record shows which answers an inner message, where the others are the least
-/// ones. None where the answer at them is longer than any, or has longer opaque data.
+/// The values that the text of a record shows which answers an inner message, where the others are the least ones.
+/// `None` where the answer at them is longer than any, or has longer opaque data.
 pub(crate) fn text_values<'a>(
     setup: &Setup<'_>,
     at: AnswerPlace,

@@ -22,8 +22,8 @@ use spdm_grammar::names::error_number::{LARGE_RESPONSE, RESPONSE_TOO_LARGE};
 use spdm_grammar::names::response_code::ERROR;
 use spdm_grammar::{HashAlg, Request};
 
-/// What an answer is read by at a place: the hash that was chosen, the transfer size of the requester, and
-/// how many bytes stand round an answer.
+/// What an answer is read by at a place: the hash that was chosen, the transfer size of the requester, and how many
+/// bytes stand round an answer.
 #[derive(Clone, Copy)]
 pub(crate) struct AnswerPlace {
     pub(crate) hash: HashAlg,
@@ -162,8 +162,8 @@ pub(crate) fn field_values<'a>(
     }
 }
 
-/// The values that a response to a message shows, where the others are the least ones. None where the answer
-/// at them is longer than any, or has longer opaque data.
+/// The values that a response to a message shows, where the others are the least ones. `None` where the answer at them
+/// is longer than any, or has longer opaque data.
 pub(crate) fn values_in<'a>(
     setup: &Setup<'_>,
     at: AnswerPlace,

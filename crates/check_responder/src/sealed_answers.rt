@@ -71,8 +71,8 @@ impl Answerer {
     ghost use Rattle.capture_machine.specs.Opening.{turn_in};
     ghost use Rattle.capture_machine.specs.Rounds.{no_draw};
 
-    // What this record brings as the answer to one with this inner message that its session takes; its text is
-    // written with the key of the answer, in place of what `text` holds.
+    // What this record brings as the answer to one with this inner message that its session takes; its text is written
+    // with the key of the answer, overwriting `text`.
     fn answers_taken(
         &mut self,
         setup: &Setup<'_>,
@@ -123,9 +123,8 @@ impl Answerer {
         self.sends(setup, request, &least_free(), sealed)
     }
 
-    /// What this record brings as the answer to one of which this is had, by what it shows; None where it is not
-    /// right. What `text` holds before and after does not matter. Fewer than 2^64 - 1 messages came. Behind an
-    /// answer that is not right nothing is kept.
+    /// What this record brings as the answer to one of which this is had, by what it shows; None where it is not right.
+    /// `text` is scratch space. Fewer than 2^64 - 1 messages came. After an answer that is not right nothing is kept.
     pub(crate) fn answers_sealed(
         &mut self,
         setup: &Setup<'_>,

@@ -22,7 +22,7 @@ fn asks_summary(request: &Request<'_>) -> bool
     }
 }
 
-// The response that bytes spell.
+// The response that bytes encode.
 fn read_sound(reply: &[u8], hash_len: usize, summary: bool) -> Option<Response<'_>>
     ensures value { option_map response_message result ≡ response_in hash_len summary reply.now }
     ensures short { IfSome result (λ response. HasShortFields (response_message response)) }

@@ -96,7 +96,7 @@ fn longer_opaque<'a>(values: FreeValues<'a>, more: usize) -> Option<FreeValues<'
     Some(with_opaque(values, zeros(more)))
 }
 
-/// Values that make the answer to a request so many bytes longer; none where they would be too long.
+/// Values that make the answer to a request so many bytes longer; `None` where they would be too long.
 pub(crate) fn lengthened<'a>(
     values: FreeValues<'a>,
     hash: HashAlg,

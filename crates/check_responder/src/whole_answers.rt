@@ -46,8 +46,8 @@ impl Answerer {
         brings_large(self.answers_at(setup, tag, message, asked, values, reply))
     }
 
-    // Whether a clear message that is no repeat leads to LargeResponse at the values in the fields of the whole
-    // answer; what that does not show stands in these.
+    // Whether a clear message that is no repeat leads to LargeResponse at the values in the fields of the whole answer;
+    // what that does not show stands in these.
     fn leads_with(
         &mut self,
         setup: &Setup<'_>,
@@ -85,9 +85,9 @@ impl Answerer {
         }
     }
 
-    /// Whether a clear message that is no repeat leads to this LargeResponse at the values that it and its whole
-    /// answer show. Which bytes are pending behind it is not told. Fewer than 2^64 - 1 messages came. Behind a
-    /// reply that is wrong nothing is kept.
+    /// Whether a clear message that is no repeat leads to this LargeResponse at the values that it and its whole answer
+    /// show. Which bytes are pending after it is not told. Fewer than 2^64 - 1 messages came. After a reply that is
+    /// wrong nothing is kept.
     pub fn leads_to_large(
         &mut self,
         setup: &Setup<'_>,
