@@ -20,7 +20,7 @@ chunks_from transfer handle message k within =
     drop_more all k d inside
     ∙ ap (λ (c : ChunkMessage). c ∷ drop (k + 1) all) (get_or-map-range_with_len (nth_chunk transfer handle message) 0 (chunk_count transfer message) k k d within (omega arith))
 
--- nothing is left behind the last chunk
+-- nothing is left after the last chunk
 pub no_chunks_from : (transfer handle : ℕ) (message : List ℕ) (k : ℕ) → chunk_count transfer message ≤ k → drop k (chunks_of transfer handle message) ≡ []
 no_chunks_from transfer handle message k end =
     let past : length (chunks_of transfer handle message) ≤ k = rw (length-chunks_of transfer handle message) end in

@@ -1,5 +1,5 @@
--- Worked rows: a message of 27 bytes at transfer size 42 has chunks of 26 bytes and of 1; one of 48 has
--- chunks of 26 and 22; and sequences of chunks with the answer for each.
+-- Worked rows: a message of 27 bytes at transfer size 42 has chunks of 26 bytes and of 1; one of 48 has chunks of 26
+-- and 22; and sequences of chunks with the answer for each.
 use Rattle.std.proofs.Common.{◌≡◌, refl, ℕ, Bool, true, false, List, [], ◌∷◌, length, map}
 use Rattle.std.specs.Prelude.{Some, None}
 use Rattle.std.specs.List.{range_with_len}

@@ -1,5 +1,5 @@
--- Chunks collected into large messages (DSP0274, "CHUNK_SEND" and "CHUNK_RESPONSE"). The order of the tests
--- and the greatest length of a message are this project's own.
+-- Chunks collected into large messages (DSP0274, "CHUNK_SEND" and "CHUNK_RESPONSE"). The order of the tests and the
+-- greatest length of a message are this project's own.
 --
 -- Each list of chunks below has the newest first.
 use Rattle.std.specs.Prelude.{◌==◌, ◌+◌, ◌&&◌, ◌||◌, ℕ, Bool, not, nat_lt, List, [], ◌∷◌, ◌++◌, length, min, if◌then◌else◌, Option, Some, None}
@@ -9,8 +9,8 @@ use Rattle.spdm_grammar.specs.declared.ChunkFault.{ChunkFault}
 use Rattle.spdm_grammar.specs.declared.ChunkFault.TheVariants.{WrongHandle, WrongNumber, WrongSize, TooLarge, EarlyLast, MissingLast}
 use Rattle.spdm_grammar.specs.declared.names.TheConstants.{MAX_MESSAGE_SIZE}
 
--- The chunks of the message under way, of all accepted ones: none after one with the last mark; else those
--- back to the newest of number 0.
+-- The chunks of the message under way, of all accepted ones: none after one with the last mark; else those back to the
+-- newest of number 0.
 abbrev pub under_way : (accepted : List ChunkMessage) → List ChunkMessage
 under_way [] = []
 under_way (c ∷ earlier) = if c.last then [] else (if c.number == 0 then c ∷ [] else c ∷ under_way earlier)
@@ -35,15 +35,13 @@ abbrev pub first_fault : List (Bool × ChunkFault) → Option ChunkFault
 first_fault [] = None
 first_fault (test ∷ tests) = if test.0 then Some test.1 else first_fault tests
 
--- The chunk is empty, or passes the told length behind the bytes held, or has fewer than 26 bytes without
--- the last mark.
+-- The chunk is empty, or passes the told length after the bytes held, or has fewer than 26 bytes without the last mark.
 abbrev pub has_wrong_size : (told held : ℕ) → ChunkMessage → Bool
 has_wrong_size told held c =
     (length c.chunk == 0) || nat_lt told (held + length c.chunk) || (not c.last && nat_lt (length c.chunk) 26)
 
--- The rule of sizes and marks that a chunk breaks, by the told length and the number of bytes held: its
--- size is wrong; it has the last mark before the told length is reached; the told length is reached
--- without the mark.
+-- The rule of sizes and marks that a chunk breaks, by the told length and the number of bytes held: its size is wrong;
+-- it has the last mark before the told length is reached; the told length is reached without the mark.
 abbrev pub size_rule : (told held : ℕ) → ChunkMessage → Option ChunkFault
 size_rule told held c = first_fault (
     (has_wrong_size told held c, WrongSize)
@@ -51,14 +49,13 @@ size_rule told held c = first_fault (
     ∷ (not c.last && (held + length c.chunk == told), MissingLast)
     ∷ [])
 
--- The rule that a chunk of number 0 breaks: it tells more than the greatest length or more than 4,096; or
--- that of sizes and marks.
+-- The rule that a chunk of number 0 breaks: it tells more than the greatest length or more than 4,096; or that of sizes
+-- and marks.
 abbrev pub first_rule : (max : ℕ) → ChunkMessage → Option ChunkFault
 first_rule max c = if nat_lt (min max MAX_MESSAGE_SIZE) (told_by c) then Some TooLarge else size_rule (told_by c) 0 c
 
--- The rule that a chunk of another number breaks, by the chunks of its message before it: there are none;
--- it has another handle; its number is not one above that of the chunk before it; or that of sizes and
--- marks.
+-- The rule that a chunk of another number breaks, by the chunks of its message before it: there are none; it has
+-- another handle; its number is not one above that of the chunk before it; or that of sizes and marks.
 abbrev pub later_rule : (before : List ChunkMessage) → ChunkMessage → Option ChunkFault
 later_rule [] c = Some WrongNumber
 later_rule (d ∷ earlier) c =

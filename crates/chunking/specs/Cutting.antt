@@ -1,13 +1,13 @@
--- A large message as chunks (DSP0274, "CHUNK_SEND request message format" and "CHUNK_RESPONSE response
--- message format").
+-- A large message as chunks (DSP0274, "CHUNK_SEND request message format" and "CHUNK_RESPONSE response message
+-- format").
 use Rattle.std.specs.Prelude.{◌==◌, ◌<◌, ◌≤◌, ◌+◌, ◌-◌, ◌*◌, zero, suc, ℕ, List, [], ◌∷◌, map, length, slice_range, if◌then◌else◌, Some, None}
 use Rattle.std.specs.Int.{div_ceil}
 use Rattle.std.specs.List.{range_with_len}
 use Rattle.spdm_grammar.specs.declared.names.TheConstants.{MIN_DATA_TRANSFER_SIZE, MAX_MESSAGE_SIZE}
 use Rattle.spdm_grammar.specs.Message.{ChunkMessage}
 
--- How many bytes a chunk that is not the first holds: a message of the transfer size, less the 12 bytes
--- that stand before the chunk's bytes.
+-- How many bytes a chunk that is not the first holds: a message of the transfer size, less the 12 bytes that stand
+-- before the chunk's bytes.
 abbrev pub unit_of : (transfer : ℕ) → ℕ
 unit_of transfer = transfer - 12
 
@@ -24,8 +24,8 @@ chunk_end transfer k = k * unit_of transfer + unit_of transfer - 4
 abbrev pub chunk_count : (transfer : ℕ) → (message : List ℕ) → ℕ
 chunk_count transfer message = div_ceil (length message + 4) (unit_of transfer)
 
--- Chunk number k of a message, counted from 0. The last one has the last mark, and the first one tells the
--- length of the message.
+-- Chunk number k of a message, counted from 0. The last one has the last mark, and the first one tells the length of
+-- the message.
 abbrev pub nth_chunk : (transfer handle : ℕ) → (message : List ℕ) → ℕ → ChunkMessage
 nth_chunk transfer handle message k =
     record {
@@ -45,8 +45,8 @@ abbrev pub chunks_before : (transfer handle : ℕ) → (message : List ℕ) → 
 chunks_before transfer handle message zero = []
 chunks_before transfer handle message (suc k) = nth_chunk transfer handle message k ∷ chunks_before transfer handle message k
 
--- What has to hold of a message for its chunks to be collected again: it goes by chunks at this transfer
--- size, and is at most as long as the collector and this project allow.
+-- What has to hold of a message for its chunks to be collected again: it is sent in chunks at this transfer size, and
+-- is at most as long as the collector and this project allow.
 pub record IsCollectable (max transfer : ℕ) (message : List ℕ) : Type 0 where
   pub low : MIN_DATA_TRANSFER_SIZE ≤ transfer
   pub large : transfer < length message + 16

@@ -1,5 +1,5 @@
--- What a collector keeps, what one chunk does to it, and the accepted chunks that it stands for. This
--- project's own. The rules themselves are those of collecting.
+-- What a collector keeps, what one chunk does to it, and the accepted chunks that it stands for. This project's own.
+-- The rules themselves are those of collecting.
 use Rattle.std.specs.Prelude.{◌≡◌, ◌==◌, ◌+◌, ℕ, not, List, [], ◌∷◌, ◌++◌, length, if◌then◌else◌, Option, Some, None}
 use Rattle.spdm_grammar.specs.Message.{ChunkMessage}
 use Rattle.spdm_grammar.specs.declared.ChunkFault.{ChunkFault}
@@ -7,8 +7,7 @@ use Rattle.spdm_grammar.specs.declared.ChunkFault.TheVariants.{WrongHandle, Wron
 use Rattle.chunking.specs.Collecting.{Collection, first_rule, size_rule, told_by, told_size, joined, under_way, answer_from}
 use Rattle.chunking.specs.declared.unfinished.Unfinished.{Unfinished}
 
--- The greatest length of a message, what the next chunk of the unfinished message must follow, and the
--- bytes so far.
+-- The greatest length of a message, what the next chunk of the unfinished message must follow, and the bytes so far.
 pub record Kept : Type 0 where
   pub max : ℕ
   pub unfinished : Option Unfinished
@@ -61,8 +60,8 @@ answer_to k c =
     if c.number == 0 then answer_from (first_rule k.max c) c c.chunk
     else answer_later k.unfinished k c
 
--- What is unfinished is what the newest chunk of the message under way leads to, with the bytes of its
--- chunks; or no message is under way.
+-- What is unfinished is what the newest chunk of the message under way leads to, with the bytes of its chunks; or no
+-- message is under way.
 abbrev pub StandsForMessage : Option Unfinished → (bytes : List ℕ) → (before : List ChunkMessage) → Type 0
 StandsForMessage None bytes before = before ≡ []
 StandsForMessage (Some u) bytes [] = ⊥

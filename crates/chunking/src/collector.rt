@@ -12,8 +12,8 @@ use spdm_grammar::names::MAX_MESSAGE_SIZE;
 use spdm_grammar::{ChunkFault, ChunkView};
 use std::marker::Model;
 
-/// Collects chunks into large messages (DSP0274, "CHUNK_SEND" and "CHUNK_RESPONSE"). It keeps at most one
-/// unfinished message. Contracts see what it keeps as a `Kept`.
+/// Collects chunks into large messages (DSP0274, "CHUNK_SEND" and "CHUNK_RESPONSE"). It keeps at most one unfinished
+/// message. Contracts see what it keeps as a `Kept`.
 #[derive(Drop)]
 pub struct Collector {
     max: u32,
@@ -33,7 +33,7 @@ impl Model for Collector {
     ghost invariant = { λ c. IfSome c.unfinished (λ u. u.told ≤ MAX_MESSAGE_SIZE) };
 }
 
-/// What a chunk led to.
+/// The outcome of a chunk.
 #[derive(Clone, Copy, Debug, PartialEq, Eq)]
 pub enum Collected<'a> {
     /// It completed this message, which lies in the collector.
@@ -44,7 +44,7 @@ pub enum Collected<'a> {
     Refused(ChunkFault),
 }
 
-// What a chunk led to; a whole message lies in the collector.
+// The outcome of a chunk; a whole message lies in the collector.
 #[derive(Clone, Copy, Debug)]
 pub(crate) enum Step {
     Whole,
@@ -67,12 +67,11 @@ impl Collector {
 
     /// Takes a chunk. A refused one changes nothing.
     ///
-    /// The tests stand in this order. Number 0 begins a new message, and drops what was unfinished where
-    /// it is accepted; `TooLarge`: the size that it tells is above `max` or 4,096. Any other number:
-    /// `WrongNumber` where nothing is unfinished, `WrongHandle`, `WrongNumber` where it is not the next.
-    /// Then `WrongSize`: the chunk is empty, or the sum of the bytes passes the told size, or a chunk
-    /// without the last mark has fewer than 26 bytes. `EarlyLast`: the last mark with a sum below the told
-    /// size. `MissingLast`: the told size is reached without the mark.
+    /// Checked in this order. Number 0 begins a new message, and drops what was unfinished where it is accepted;
+    /// `TooLarge`: the size that it tells is above `max` or 4,096. Any other number: `WrongNumber` where nothing is
+    /// unfinished, `WrongHandle`, `WrongNumber` where it is not the next. Then `WrongSize`: the chunk is empty, or the
+    /// sum of the bytes passes the told size, or a chunk without the last mark has fewer than 26 bytes. `EarlyLast`:
+    /// the last mark with a sum below the told size. `MissingLast`: the told size is reached without the mark.
     pub fn take(&mut self, chunk: ChunkView<'_>) -> Collected<'_>
         ensures answer { (accepted : List ChunkMessage) → StandsFor self.old accepted
             → collection_of result ≡ collected self.old.max accepted (chunk_message chunk.entry) }
@@ -120,7 +119,7 @@ impl Collector {
         self.bytes.clear();
     }
 
-    /// An equal collector. An end keeps it, so that a large message that it ignores can be taken back.
+    /// Returns a copy. An end keeps it, so that a large message that it ignores can be taken back.
     pub fn copy(&self) -> Collector
         ensures { result ≡ self.now }
     {

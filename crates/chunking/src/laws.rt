@@ -1,5 +1,4 @@
-//! Laws of the definitions: each is the contract of a function that does nothing. Call one where a proof
-//! needs it.
+//! Laws of the definitions: each is the contract of a function that does nothing. Call one where a proof needs it.
 ghost use Rattle.std.specs.Prelude.{◌≡◌, ◌==◌, ◌≤◌, ◌<◌, ◌+◌, ◌-◌, ◌∷◌, ◌++◌, [], if◌then◌else◌, ℕ, List, None, length, map};
 ghost use Rattle.std.specs.List.{concat};
 ghost use Rattle.spdm_grammar.specs.Message.{ChunkMessage};
@@ -27,8 +26,8 @@ pub fn first_chunk_begins_anew()
         → collected max accepted c ≡ collected max [] c }
 {}
 
-/// The chunks of a message, taken in order whatever chunks were accepted before: each but the last is
-/// answered that more is awaited, the last completes exactly that message, and all are accepted.
+/// The chunks of a message, taken in order whatever chunks were accepted before: each but the last is answered that
+/// more is awaited, the last completes exactly that message, and all are accepted.
 pub fn cut_is_collected()
     ensures answer { (max transfer handle : ℕ) (message : List ℕ) (earlier : List ChunkMessage)
         (k : ℕ) → IsCollectable max transfer message → k < chunk_count transfer message
@@ -42,8 +41,8 @@ pub fn cut_is_collected()
         ≡ chunks_before transfer handle message (k + 1) ++ earlier }
 {}
 
-/// Whatever chunks are given, an accepted one has a number below 158, and it counts the chunks of its
-/// message before it. So at most 158 chunks make a message.
+/// Whatever chunks are given, an accepted one has a number below 158, and it counts the chunks of its message before
+/// it. So at most 158 chunks make a message.
 pub fn few_chunks()
     ensures few { (max : ℕ) (given : List ChunkMessage) (c : ChunkMessage)
         → broken_rule max (under_way (accepted_of max given)) c ≡ None → c.number < 158 }

@@ -51,9 +51,9 @@ impl Model for Splitter {
 }
 
 impl Splitter {
-    /// Cuts a message, which it copies: a first chunk of `transfer` less 16 bytes, next ones of `transfer`
-    /// less 12, and the rest. `TransferTooSmall` comes exactly where `transfer` is below 42, and then
-    /// `Fits` exactly where the message is not longer than `transfer` less 16.
+    /// Cuts a message, which it copies: a first chunk of `transfer` less 16 bytes, next ones of `transfer` less 12, and
+    /// the rest. Returns `TransferTooSmall` exactly when `transfer` is below 42, and then `Fits` exactly when the
+    /// message is not longer than `transfer` less 16.
     pub fn new(message: &[u8], transfer: u32, handle: u8) -> Result<Splitter, SplitFault>
         requires { length message.now ≤ MAX_MESSAGE_SIZE }
         ensures chunks { IfOk result (λ splitter. splitter
@@ -81,7 +81,7 @@ impl Splitter {
         })
     }
 
-    /// The next chunk, and `None` exactly where all were taken.
+    /// The next chunk, and `None` exactly when all were taken.
     pub fn current(&self) -> Option<ChunkView<'_>>
         ensures { chunk_given result ≡ slice_get self.now 0 }
     {
@@ -102,8 +102,8 @@ impl Splitter {
     }
 }
 
-/// The chunk of this number of a message, counted from 0, as a splitter gives it. `None` comes where the transfer
-/// size is below 42, and where the message has no such chunk.
+/// The chunk of this number of a message, counted from 0, as a splitter gives it. `None` comes where the transfer size
+/// is below 42, and where the message has no such chunk.
 pub fn nth_chunk(message: &[u8], transfer: u32, handle: u8, number: u16) -> Option<ChunkView<'_>>
     requires { length message.now ≤ MAX_MESSAGE_SIZE }
     ensures { MIN_DATA_TRANSFER_SIZE ≤ transfer → number < chunk_count transfer message.now
