@@ -8,7 +8,7 @@ use Rattle.frame_stream.specs.Frames.{spelled}
 use Rattle.frame_stream.specs.Frames.GivenFrame.{PacketOf}
 use Rattle.frame_stream.specs.Packets.{AreShort, packet_frames}
 
--- the frames up to one, its own, and those behind it
+-- the frames up to one, its own, and those after it
 pub frames_at : (i : ℕ) (packets : List (List ℕ)) (packet : List ℕ) → Some packet ≡ slice_get packets i →
     packet_frames packets ≡ packet_frames (take i packets) ++ (spelled (PacketOf packet) ++ packet_frames (drop (suc i) packets))
 frames_at i [] packet is = absurd (none-some packet (sym is))

@@ -1,4 +1,4 @@
--- Bytes in front of what a source has left.
+-- Bytes before what a source has left.
 use Rattle.std.proofs.Common.{◌≡◌, ◌∙◌, ◌++◌, ◌≤◌, inl, inr, ℕ, List, [], Option, Some, None, refl, ap, sym, arith}
 use Rattle.std.proofs.lemmas.Option.{none-some, same_Some}
 use Rattle.spdm_basis.specs.Stream.{HasFault, IsAtEnd}

@@ -6,7 +6,7 @@ use Rattle.frame_stream.specs.declared.filling.Stop.{Stop}
 use Rattle.frame_stream.specs.declared.filling.Stop.TheVariants as stop
 use Rattle.frame_stream.specs.declared.reader.FrameReader.{FrameReader}
 
--- bytes that were split, behind those in front of them
+-- bytes that were split, after those before them
 joined : (front ahead rest : List ℕ) (count : ℕ) → (front ++ take count ahead) ++ (drop count ahead ++ rest) ≡ front ++ (ahead ++ rest)
 joined front ahead rest count =
     append_assoc front (take count ahead) (drop count ahead ++ rest)
@@ -39,7 +39,7 @@ moved_more old mid supplied new first before after most m s t =
       limit = t.limit ∙ s.limit ∙ m.limit;
     }
 
--- one behind the other
+-- one after the other
 pub moved_both : (old mid new : FrameReader) (first before after : Option (List ℕ)) → IsMoved old first mid before → IsMoved mid before new after → IsMoved old first new after
 moved_both old mid new first before after m n = record {
   more = m.more ++ n.more;

@@ -22,14 +22,14 @@ gives_all old mid new bs more first then = λ left e.
     let b = then a.0 a.1 in
     (b.0, b.1, a.2 ∙ ap (λ (rest : List ℕ). bs ++ rest) b.2 ∙ sym (append_assoc bs more b.0))
 
--- from the place behind the beginning of a text on the rest is to come, and so it is behind more bytes, over which the
+-- from the place after the beginning of a text on the rest is to come, and so it is after more bytes, over which the
 -- place goes on
 pub so_far_more : (text own : List ℕ) (place behind : Place) → ((bytes : List ℕ) → text_of (text ++ bytes) ≡ text ++ to_come place bytes) →
     ((bytes : List ℕ) → to_come place (own ++ bytes) ≡ own ++ to_come behind bytes) → (bytes : List ℕ) → text_of ((text ++ own) ++ bytes) ≡ (text ++ own) ++ to_come behind bytes
 so_far_more text own place behind so_far goes bytes =
     ap text_of (append_assoc text own bytes) ∙ so_far (own ++ bytes) ∙ ap (λ (l : List ℕ). text ++ l) (goes bytes) ∙ sym (append_assoc text own (to_come behind bytes))
 
--- the input behind the own part of a piece
+-- the input after the own part of a piece
 parted : (text got : List ℕ) (own : ℕ) (left rest : List ℕ) → left ≡ (text ++ got) ++ rest → left ≡ (text ++ take own got) ++ (drop own got ++ rest)
 parted text got own left rest e =
     e ∙ ap (λ (l : List ℕ). (text ++ l) ++ rest) (sym (take-append-drop own got)) ∙ ap (λ (l : List ℕ). l ++ rest) (sym (append_assoc text (take own got) (drop own got)))

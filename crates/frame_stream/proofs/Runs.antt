@@ -43,14 +43,14 @@ one_more_read old first frames mid before frame new after so_far read =
 
 -- ---- What a stream is.
 
--- the frames stand in front of it
+-- the frames precede it
 pub stream_begins : (kinds : Kinds) (most : ℕ) (old : FrameReader) (first : Option (List ℕ)) (frames : List GivenFrame) (new : FrameReader) (after : Option (List ℕ)) → IsFresh kinds most old → AreRead old first frames new after →
     (left : List ℕ) → left_of old first ≡ Some left → Begin kinds frames left
 stream_begins kinds most old first frames new after fresh read left e =
     let given = read.gives left e in
     record { rest = given.0; parts = given.2; allowed = subst (λ (k : Kinds). AreFrames k frames) fresh.kinds read.allowed }
 
--- and what is left behind them is as the reader has it before itself
+-- and what is left after them is as the reader has it before itself
 pub record IsBehind (Is : Kinds → (limit at : ℕ) → List ℕ → Type 0) (kinds : Kinds) (most : ℕ) (frames : List GivenFrame) (left : List ℕ) : Type 0 where
   pub rest : List ℕ
   pub parts : left ≡ all_spelled frames ++ rest

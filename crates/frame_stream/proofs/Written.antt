@@ -5,7 +5,7 @@ use Rattle.spdm_basis.specs.Stream.{Takes, TakesPrefix}
 pub takes_both : (old mid new : Option (List ℕ)) (bs more : List ℕ) → Takes old bs mid → Takes mid more new → Takes old (bs ++ more) new
 takes_both old mid new bs more first then = λ held e. then (held ++ bs) (first held e) ∙ ap (λ (l : List ℕ). Some l) (append_assoc held bs more)
 
--- a prefix of the second, behind the first
+-- a prefix of the second, after the first
 pub takes_then_prefix : (old mid new : Option (List ℕ)) (bs more : List ℕ) → Takes old bs mid → TakesPrefix mid more new → TakesPrefix old (bs ++ more) new
 takes_then_prefix old mid new bs more first then = (
   bs ++ then.0,

@@ -14,15 +14,15 @@ kind_of (PacketOf bytes) = 1
 kind_of (TicksOf seconds) = 2
 kind_of (CommandOf line) = 3
 
--- Bytes behind their length, which has two bytes, the lower first.
+-- Bytes after their length, which has two bytes, little-endian.
 abbrev pub counted : List ℕ → List ℕ
 counted bytes = length bytes % 256 ∷ length bytes / 256 ∷ bytes
 
--- A number of four bytes, the lowest first.
+-- A number of four bytes, little-endian.
 abbrev pub four_bytes : ℕ → List ℕ
 four_bytes n = n % 256 ∷ n / 256 % 256 ∷ n / 65536 % 256 ∷ n / 16777216 ∷ []
 
--- What stands behind the kind.
+-- What follows the kind.
 abbrev pub content_of : GivenFrame → List ℕ
 content_of (PacketOf bytes) = counted bytes
 content_of (TicksOf seconds) = four_bytes seconds
@@ -51,12 +51,12 @@ abbrev pub AreFrames : Kinds → List GivenFrame → Type 0
 AreFrames kinds [] = Unit {0}
 AreFrames kinds (frame ∷ others) = IsFrame kinds frame × AreFrames kinds others
 
--- The bytes of frames, one behind the other.
+-- The bytes of frames, one after the other.
 abbrev pub all_spelled : List GivenFrame → List ℕ
 all_spelled [] = []
 all_spelled (frame ∷ others) = spelled frame ++ all_spelled others
 
--- These frames stand in front of a stream.
+-- These frames precede a stream.
 pub record Begin (kinds : Kinds) (frames : List GivenFrame) (stream : List ℕ) : Type 0 where
   pub rest : List ℕ
   pub parts : stream ≡ all_spelled frames ++ rest
@@ -77,8 +77,8 @@ IsWrong kinds (kind ∷ bytes) = may_be kinds kind ≡ false
 abbrev pub HasNoFrame : Kinds → List ℕ → Type 0
 HasNoFrame kinds bytes = (frame : GivenFrame) (rest : List ℕ) → IsFrame kinds frame → bytes ≡ spelled frame ++ rest → ⊥
 
--- Of a stream at most `limit` bytes are read; the frame that begins at this byte stands in front of the bytes that are
--- left. It is bad: its kind is wrong, or it is cut by the end of input.
+-- Of a stream at most `limit` bytes are read; the frame that begins at this byte precedes the bytes that are left. It
+-- is bad: its kind is wrong, or it is cut by the end of input.
 abbrev pub IsBad : Kinds → (limit at : ℕ) → List ℕ → Type 0
 IsBad kinds limit at bytes =
     IsWrong kinds (take (limit - at) bytes)
@@ -102,7 +102,7 @@ Ends kinds limit at bytes Done = bytes ≡ []
 Ends kinds limit at bytes (Bad place) = (place ≡ at) × IsBad kinds limit at bytes
 Ends kinds limit at bytes TooLong = IsLong kinds limit at bytes
 
--- A stream: its whole frames in order, and how it ends behind them.
+-- A stream: its whole frames in order, and how it ends after them.
 pub record IsStream (kinds : Kinds) (limit : ℕ) (stream : List ℕ) (frames : List GivenFrame) (ending : Ending) : Type 0 where
   pub rest : List ℕ
   pub parts : stream ≡ all_spelled frames ++ rest

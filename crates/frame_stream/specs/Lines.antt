@@ -4,8 +4,8 @@ use Rattle.frame_stream.specs.Text.{text_from}
 use Rattle.frame_stream.specs.declared.line.Place.{Place}
 use Rattle.frame_stream.specs.declared.line.Place.TheVariants.{Begins, AfterE, AfterN, AfterD, Other, Ended}
 
--- The rest of the text, where these bytes follow: of a line of which `e`, `en` or `end` was seen it is what stands
--- behind that.
+-- The rest of the text, where these bytes follow: of a line of which `e`, `en` or `end` was seen it is what follows
+-- that.
 abbrev pub to_come : Place → List ℕ → List ℕ
 to_come Begins bytes = text_from true bytes
 to_come AfterE bytes = drop 1 (text_from true (101 ∷ bytes))

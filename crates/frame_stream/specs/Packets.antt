@@ -3,7 +3,7 @@ use Rattle.std.specs.Prelude.{◌<◌, ◌^◌, ◌++◌, ℕ, List, [], ◌∷�
 use Rattle.frame_stream.specs.Frames.{spelled}
 use Rattle.frame_stream.specs.Frames.GivenFrame.{PacketOf}
 
--- Packets as frames, one behind the other.
+-- Packets as frames, one after the other.
 abbrev pub packet_frames : List (List ℕ) → List ℕ
 packet_frames [] = []
 packet_frames (packet ∷ others) = spelled (PacketOf packet) ++ packet_frames others

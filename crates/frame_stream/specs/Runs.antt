@@ -12,7 +12,7 @@ pub record IsFresh (allowed : Kinds) (most : ℕ) (reader : FrameReader) : Type 
   pub limit : reader.limit ≡ most
   pub taken : reader.taken ≡ 0
 
--- These frames were read in order: they stood in front of what was left.
+-- These frames were read in order: they stood before what was left.
 pub record AreRead (old : FrameReader) (before : Option (List ℕ)) (frames : List GivenFrame) (new : FrameReader) (after : Option (List ℕ)) : Type 0 where
   pub allowed : AreFrames old.kinds frames
   pub gives : Gives (left_of old before) (all_spelled frames) (left_of new after)

@@ -12,7 +12,7 @@ use Rattle.frame_stream.specs.declared.reader.FrameReader.{FrameReader}
 use Rattle.frame_stream.specs.declared.filling.Stop.{Stop}
 use Rattle.frame_stream.specs.declared.filling.Stop.TheVariants as stop
 
--- Bytes that were read already, in front of those that a source tells it has left.
+-- Bytes that were read already, before those that a source tells it has left.
 abbrev pub in_front : List ℕ → Option (List ℕ) → Option (List ℕ)
 in_front bytes None = None
 in_front bytes (Some left) = Some (bytes ++ left)
@@ -31,7 +31,7 @@ frame_as Packet bytes = PacketOf bytes
 frame_as (Tick seconds) bytes = TicksOf seconds
 frame_as Command bytes = CommandOf bytes
 
--- A frame was read: it stood in front of what was left.
+-- A frame was read: it stood before what was left.
 pub record IsRead (old : FrameReader) (before : Option (List ℕ)) (is : GivenFrame) (new : FrameReader) (after : Option (List ℕ)) : Type 0 where
   pub allowed : IsFrame old.kinds is
   pub gives : Gives (left_of old before) (spelled is) (left_of new after)
@@ -109,7 +109,7 @@ IsShort old before failed fails stop.TooLong =
     (old.taken ≡ old.limit) × ((left : List ℕ) → left_of old before ≡ Some left → 0 < length left)
 IsShort old before failed fails stop.ReadFault = HasFault failed fails
 
--- Bytes stand in front of more bytes.
+-- Bytes precede more bytes.
 abbrev pub IsCutShort : List ℕ → List ℕ → Type 0
 IsCutShort bytes all = (behind : List ℕ) × (all ≡ bytes ++ behind) × (0 < length behind)
 
@@ -122,7 +122,7 @@ IsStopped size old before new failed fails stop.TooLong =
     × ((left : List ℕ) → whole_of old before ≡ Some left → IsCutShort new.frame left)
 IsStopped size old before new failed fails stop.ReadFault = HasFault failed fails
 
--- The frame of this kind is whole, and what stands behind it is left.
+-- The frame of this kind is whole, and what follows it is left.
 pub record IsWhole (old : FrameReader) (before : Option (List ℕ)) (new : FrameReader) (after : Option (List ℕ)) (frame : GivenFrame) : Type 0 where
   pub is : new.frame ≡ spelled frame
   pub fit : IsFrame old.kinds frame
@@ -132,7 +132,7 @@ pub record IsWhole (old : FrameReader) (before : Option (List ℕ)) (new : Frame
 abbrev pub beginning_of : FrameReader → ℕ
 beginning_of reader = reader.taken - length reader.frame
 
--- The size of the frame whose length is the two bytes behind the kind.
+-- The size of the frame whose length is the two bytes after the kind.
 abbrev pub size_in : List ℕ → ℕ
 size_in frame = 3 + slice_index frame 1 + 256 * slice_index frame 2
 

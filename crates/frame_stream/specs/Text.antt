@@ -1,4 +1,4 @@
--- The two parts of an input: a text up to the line `end`, and the stream behind it. This project's own.
+-- The two parts of an input: a text up to the line `end`, and the stream after it. This project's own.
 use Rattle.std.specs.Prelude.{ℕ, List, [], ◌∷◌, ◌==◌, ◌&&◌, Bool, true, false, length, drop, if◌then◌else◌}
 
 -- The line `end` with its line feed.
@@ -11,9 +11,9 @@ begin_with [] bytes = true
 begin_with (p ∷ others) [] = false
 begin_with (p ∷ others) (b ∷ bytes) = b == p && begin_with others bytes
 
--- The text in front of bytes, of which the first begins a line or not. Where a line begins and it is `end` with a line
--- feed, the text ends with this line; each other byte belongs to it, and a line begins behind each line feed. So the
--- text is all bytes where there is no such line, and where `end` lacks its line feed at the very end.
+-- The text before bytes, of which the first begins a line or not. Where a line begins and it is `end` with a line feed,
+-- the text ends with this line; each other byte belongs to it, and a line begins after each line feed. So the text is
+-- all bytes where there is no such line, and where `end` lacks its line feed at the very end.
 abbrev pub text_from : (begins : Bool) → List ℕ → List ℕ
 text_from begins [] = []
 text_from begins (b ∷ bytes) =
@@ -24,6 +24,6 @@ text_from begins (b ∷ bytes) =
 abbrev pub text_of : List ℕ → List ℕ
 text_of input = text_from true input
 
--- The stream of an input: all bytes behind its text.
+-- The stream of an input: all bytes after its text.
 abbrev pub stream_of : List ℕ → List ℕ
 stream_of input = drop (length (text_of input)) input

@@ -7,7 +7,7 @@ use std::marker::Model;
 /// The longest frame: its kind, its length and 65,535 bytes.
 pub(crate) const LONGEST: usize = 65_538;
 
-/// The bytes of a frame, for which the memory was taken at the start. Contracts see them as a list.
+/// The bytes of a frame, allocated at construction. Contracts see them as a list.
 #[derive(Drop)]
 pub(crate) struct FrameBytes {
     bytes: Vec<u8>,
@@ -47,7 +47,7 @@ impl FrameBytes {
         self.bytes[index]
     }
 
-    // What stands behind the kind and the length.
+    // What follows the kind and the length.
     pub(crate) fn content(&self) -> &[u8]
         ensures { result.now ≡ drop 3 self.now }
     {
@@ -61,7 +61,7 @@ impl FrameBytes {
         self.bytes.clear();
     }
 
-    // Adds bytes at the end. They fit.
+    // Appends bytes. They fit.
     pub(crate) fn append(&mut self, more: &[u8])
         requires { length self.old + length more.now ≤ LONGEST }
         ensures { self.new ≡ self.old ++ more.now }

@@ -12,11 +12,11 @@ pub struct Kinds {
 /// What a frame is. The bytes of a packet or of a command lie in the reader.
 #[derive(Clone, Copy, Debug, PartialEq, Eq)]
 pub enum FrameKind {
-    /// A packet: kind 1, a length of two bytes, the lower first, and so many bytes.
+    /// A packet: kind 1, a length of two bytes, little-endian, and so many bytes.
     Packet,
-    /// Seconds that passed: kind 2 and four bytes, the lowest first.
+    /// Seconds that passed: kind 2 and four bytes, little-endian.
     Tick(u32),
-    /// A line with a command: kind 3, a length of two bytes, the lower first, and so many bytes.
+    /// A line with a command: kind 3, a length of two bytes, little-endian, and so many bytes.
     Command,
 }
 

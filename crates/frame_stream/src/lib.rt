@@ -1,7 +1,6 @@
-//! Streams of frames behind a text: what the commands share that read packets from a stream.
+//! Streams of frames after a text: what the commands share that read packets from a stream.
 //!
-//! Read first: `IsFrame` in `specs/Frames.antt`, the bytes of a frame. The call is
-//! `FrameReader::next`.
+//! Read first: `IsFrame` in `specs/Frames.antt`, the bytes of a frame. The call is `FrameReader::next`.
 #![tactic(auto)]
 
 mod ahead;

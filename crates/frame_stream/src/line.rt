@@ -18,7 +18,7 @@ pub(crate) enum Place {
 }
 
 impl Place {
-    // Behind a byte that does not go on with `end`.
+    // After a byte that does not go on with `end`.
     fn behind(byte: u8) -> Place
         ensures rest { (bytes : List ℕ) → to_come result bytes ≡ text_from (byte == 10) bytes }
     {
@@ -29,7 +29,7 @@ impl Place {
         }
     }
 
-    /// The place behind one more byte.
+    /// The place after one more byte.
     pub(crate) fn after(self, byte: u8) -> Place
         requires { self ≢ Place.Ended }
         ensures { (bytes : List ℕ) → to_come self (byte ∷ bytes) ≡ byte ∷ to_come result bytes }
@@ -44,8 +44,7 @@ impl Place {
     }
 }
 
-/// How many bytes of a piece belong to the text, and the place behind them: all of them, unless the text
-/// ends.
+/// How many bytes of a piece belong to the text, and the place after them: all of them, unless the text ends.
 pub(crate) fn own_part(place: Place, piece: &[u8]) -> (usize, Place)
     requires { place ≢ Place.Ended }
     ensures count { result.0 ≤ length piece.now }

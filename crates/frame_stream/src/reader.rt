@@ -11,8 +11,8 @@ use std::alloc::Global;
 // The most bytes of a stream that are read: 2^40.
 const STREAM_LIMIT: u64 = 1_099_511_627_776;
 
-/// A reader of the frames of a stream. All its memory is taken when it is made: for one frame, and for bytes that are
-/// read ahead.
+/// A reader of the frames of a stream. Allocates only when constructed: for one frame, and for bytes that are read
+/// ahead.
 #[derive(Drop)]
 pub struct FrameReader {
     pub(crate) kinds: Kinds,
@@ -22,7 +22,7 @@ pub struct FrameReader {
     pub(crate) taken: u64,
     // The bytes of the frame that is being read, or was read last.
     pub(crate) frame: FrameBytes,
-    // The bytes behind it that were read.
+    // The bytes after it that were read.
     pub(crate) ahead: Ahead,
     pub(crate) ghost within: { taken ≤ limit },
     pub(crate) ghost inside: { length frame ≤ taken },
@@ -74,11 +74,11 @@ impl FrameReader {
         self.frame.content()
     }
 
-    /// Reads the next frame, of which the bytes of a packet or a command lie in the reader then. `None` where the stream
-    /// ends between two frames. `BadFrame` comes exactly where the next frame has a kind that is not among those of the
-    /// reader or is cut by the end of input, in the bytes that are read at most; and `TooLong` exactly where it is neither
-    /// bad nor whole in these bytes, and the stream has one more. `ReadFault` comes only by the count of the source. After
-    /// a fault no clause says what the reader stands for. It takes no memory.
+    /// Reads the next frame, of which the bytes of a packet or a command lie in the reader then. `None` where the
+    /// stream ends between two frames. Returns `BadFrame` exactly when the next frame has a kind that is not among
+    /// those of the reader or is cut by the end of input, in the bytes that are read at most; and `TooLong` exactly
+    /// when it is neither bad nor whole in these bytes, and the stream has one more. `ReadFault` is returned only if
+    /// the source's `faults` count rose. After a fault no clause says what the reader stands for. Never allocates.
     pub fn next<S: Source>(&mut self, source: &mut S) -> Result<Option<FrameKind>, FrameFault>
         ensures next { IfOk result (λ kind. IsNext self.old (S.remaining source.old) kind self.new
             (S.remaining source.new)) }
@@ -126,7 +126,7 @@ impl FrameReader {
         }
     }
 
-    // Reads the seconds behind their kind.
+    // Reads the seconds after their kind.
     fn seconds<S: Source>(&mut self, source: &mut S) -> Result<u32, FrameFault>
         requires kind { self.old.frame ≡ 2 ∷ [] }
         requires allowed { may_be self.old.kinds 2 ≡ true }
@@ -143,7 +143,7 @@ impl FrameReader {
         Ok(self.number())
     }
 
-    // The four bytes behind the kind as a number.
+    // The four bytes after the kind as a number.
     fn number(&self) -> u32
         requires { length self.now.frame ≡ 5 }
         ensures { drop 1 self.now.frame ≡ four_bytes result }
@@ -155,7 +155,7 @@ impl FrameReader {
         first + second * 0x100 + third * 0x1_0000 + fourth * 0x100_0000
     }
 
-    // Reads the bytes of a packet or of a command behind its kind.
+    // Reads the bytes of a packet or of a command after its kind.
     fn counted<S: Source>(&mut self, source: &mut S) -> Result<(), FrameFault>
         requires head { length self.old.frame ≡ 1 }
         requires allowed { IsCountedKind self.old }
@@ -176,7 +176,7 @@ impl FrameReader {
         Ok(())
     }
 
-    // The size of the frame whose length is the two bytes behind the kind.
+    // The size of the frame whose length is the two bytes after the kind.
     fn size(&self) -> usize
         requires { length self.now.frame ≡ 3 }
         ensures size { result ≡ size_in self.now.frame }

@@ -10,7 +10,7 @@ use std::alloc::Global;
 // How many bytes are asked for at a time.
 const PIECE: usize = 4096;
 
-/// The text of an input, and the bytes of the stream behind it that were read with it.
+/// The text of an input, and the bytes of the stream after it it that were read with it.
 #[derive(Drop)]
 pub struct Text {
     pub text: Bytes,
@@ -18,8 +18,8 @@ pub struct Text {
 }
 
 /// Reads the text of an input: its bytes up to and with the first line that is `end`, or all of them. It has at most
-/// `limit` bytes: `TooLong` comes exactly where there are more. After a fault the bytes read so far are gone from the
-/// source. `ReadFault` comes only by the count of the source.
+/// `limit` bytes: returns `TooLong` exactly when there are more. After a fault the bytes read so far are gone from the
+/// source. `ReadFault` is returned only if the source's `faults` count rose.
 pub fn read_text<S: Source>(alloc: Global, source: &mut S, limit: usize) -> Result<Text, InFault>
     ensures text { IfOk result (λ read. IsTextOf (S.remaining source.old) read.text read.before
         (S.remaining source.new)) }

@@ -23,8 +23,8 @@ fn write_counted<K: Sink>(sink: &mut K, kind: u8, bytes: &[u8]) -> Result<(), Ou
     }
 }
 
-/// Writes a packet of at most 65,535 bytes as a frame: kind 1, its length in two bytes, the lower first, and its bytes.
-/// After `WriteFault`, which comes only by the count of the sink, a prefix of the frame was written. It takes no memory.
+/// Writes a packet of at most 65,535 bytes as a frame: kind 1, its length in two bytes, little-endian, and its bytes.
+/// After `WriteFault` (only if the sink's `faults` count rose) a prefix of the frame was written. Never allocates.
 pub fn write_packet_frame<K: Sink>(sink: &mut K, packet: &[u8]) -> Result<(), OutFault>
     requires { length packet.now < 2 ^ 16 }
     ensures whole { OnOk result (Takes (K.contents sink.old) (1 ∷ counted packet.now)
@@ -37,7 +37,7 @@ pub fn write_packet_frame<K: Sink>(sink: &mut K, packet: &[u8]) -> Result<(), Ou
     write_counted(sink, PACKET, packet)
 }
 
-/// Writes a line of at most 65,535 bytes as a frame: kind 4, its length in two bytes, the lower first, and its bytes. The
+/// Writes a line of at most 65,535 bytes as a frame: kind 4, its length in two bytes, little-endian, and its bytes. The
 /// fault is that of `write_packet_frame`.
 pub fn write_line_frame<K: Sink>(sink: &mut K, line: &[u8]) -> Result<(), OutFault>
     requires { length line.now < 2 ^ 16 }
