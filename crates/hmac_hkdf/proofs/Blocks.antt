@@ -23,7 +23,7 @@ written out block at count h e = elim (cases_lt (length out - at) (length block)
       rw (whole, is, all, drop-drop (length block) at out, append_assoc) refl
 ]
 
--- one block more behind the blocks so far
+-- one block more after the blocks so far
 pub one_more : (blocks block out : List ℕ) (at : ℕ) → length blocks ≡ at → at ≤ length out →
     take at (take (length out) blocks ++ drop at out) ++ take (length out - at) block ++ drop (at + length block) (take (length out) blocks ++ drop at out)
     ≡ take (length out) (blocks ++ block) ++ drop (at + length block) out

@@ -11,8 +11,8 @@ pub record Runs (mac : RunningMac) (hash : HashAlg) : Type 0 where
   pub inner : function_of mac.inner ≡ hash
   pub outer : function_of mac.outer ≡ hash
 
--- Both hashes of HMAC under this hash function and key: the inner one was given the masked key and the
--- text so far, the outer one its masked key.
+-- Both hashes of HMAC under this hash function and key: the inner one was given the masked key and the text so far, the
+-- outer one its masked key.
 pub record HoldsMac (hash : HashAlg) (mac : RunningMac) (key text : List ℕ) : Type 0 where
   pub inner : Holds mac.inner (masked 0x36 (padded_key (hash_of hash) key) ++ text)
   pub outer : Holds mac.outer (masked 0x5c (padded_key (hash_of hash) key))

@@ -5,8 +5,8 @@ use crate::mac::hmac;
 use std::marker::Model;
 use thiserror::Error;
 
-/// A stream of draws of 32 bytes each, numbered, as functions of a seed. Contracts see the seed and the
-/// number of the next draw.
+/// A stream of draws of 32 bytes each, numbered, as functions of a seed. Contracts see the seed and the number of the
+/// next draw.
 #[derive(Drop)]
 pub struct DrawStream {
     seed: [u8; 32],
@@ -65,8 +65,8 @@ impl DrawStream {
         }
     }
 
-    /// Goes on to the draw after the next one. `Spent` comes exactly where the number is 2^64 - 1, and
-    /// changes nothing.
+    /// Goes on to the draw after the next one. Returns `Spent` exactly when the number is 2^64 - 1, and changes
+    /// nothing.
     pub fn advance(&mut self) -> Result<(), Spent>
         ensures spent { IsErr result ↔ (self.old.number ≡ 2 ^ 64 - 1) }
         ensures ok { OnOk result (self.new ≡ record self.old { number = self.old.number + 1 }) }

@@ -46,8 +46,8 @@ fn write_block(out: &mut [u8], at: usize, block: &[u8])
     out[at..at + count].copy_from_slice(&block[..count]);
 }
 
-/// Fills `out` with bytes derived from a pseudorandom key and `info` (RFC 5869, section 2.3). The key has
-/// the length of the hash, and `out` is at most 255 hashes long.
+/// Fills `out` with bytes derived from a pseudorandom key and `info` (RFC 5869, section 2.3). The key has the length of
+/// the hash, and `out` is at most 255 hashes long.
 #[tactic(auto, unfolding(crate::specs::Hkdf::block_of, crate::specs::Hkdf::blocks_of, crate::specs::Hkdf::expand))]
 pub fn expand_by(hash: HashAlg, prk: &HashBytes, info: &[u8], out: &mut [u8])
     requires prk { length prk.now ≡ hash_size hash }
@@ -65,8 +65,8 @@ pub fn expand_by(hash: HashAlg, prk: &HashBytes, info: &[u8], out: &mut [u8])
     }
 }
 
-/// Fills `out` with bytes derived over SHA-256 from a pseudorandom key and `info` (RFC 5869, section
-/// 2.3). `out` is at most 8,160 bytes long.
+/// Fills `out` with bytes derived over SHA-256 from a pseudorandom key and `info` (RFC 5869, section 2.3). `out` is at
+/// most 8,160 bytes long.
 pub fn expand(prk: &[u8; 32], info: &[u8], out: &mut [u8])
     requires { length out.old ≤ 8160 }
     ensures { out.new ≡ expand (hash_of Sha256) prk.now info.now (length out.old) }

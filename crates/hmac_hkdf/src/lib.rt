@@ -1,8 +1,7 @@
-//! HMAC (RFC 2104) and HKDF (RFC 5869) over SHA-256 and SHA-384, and the stream of draws that an end
-//! takes its random bytes from. No call takes memory.
+//! HMAC (RFC 2104) and HKDF (RFC 5869) over SHA-256 and SHA-384, and the stream of draws that an end takes its random
+//! bytes from. No call allocates.
 //!
-//! Read first: `expand` in `specs/Hkdf.antt`, the output of HKDF. Calls are `hmac`, `expand` and
-//! `DrawStream::advance`.
+//! Read first: `expand` in `specs/Hkdf.antt`, the output of HKDF. Calls are `hmac`, `expand` and `DrawStream::advance`.
 #![tactic(auto)]
 
 mod draws;

@@ -115,8 +115,7 @@ impl RunningMac {
     }
 }
 
-/// The HMAC of `text` under `key`, which may have any length (RFC 2104, section 2). It has as many bytes
-/// as the hash.
+/// The HMAC of `text` under `key`, which may have any length (RFC 2104, section 2). It has as many bytes as the hash.
 pub fn hmac_by(hash: HashAlg, key: &[u8], text: &[u8]) -> HashBytes
     ensures value { result ≡ hmac (hash_of hash) key.now text.now }
     ensures size { length result ≡ hash_size hash }
