@@ -22,14 +22,14 @@ pub two_updates : (h : Hash) (first : List ℕ) → secret_at h first 2 ≡ upda
 unfolding secret_at
 two_updates h first = refl
 
--- The key of records after one key update, spelled out.
+-- The key of records after one key update, encoded out.
 pub key_after_an_update : (hash : HashAlg) (aead : AeadAlg) (psk t2 : List ℕ) → key_of hash aead (application_record psk t2 Response 1) ≡
     record_key (hash_of hash) aead (updated_secret (hash_of hash)
     (application_direction_secret (hash_of hash) (master_secret (hash_of hash) (handshake_secret (hash_of hash) psk)) Response ((hash_of hash).digest t2)))
 unfolding secret_at
 key_after_an_update hash aead psk t2 = refl
 
--- The key of the requester's verify data, spelled out.
+-- The key of the requester's verify data, encoded out.
 pub key_of_verify_data : (hash : HashAlg) (aead : AeadAlg) (psk t1 : List ℕ) → key_of hash aead (verify psk t1 Request) ≡
     finished_key (hash_of hash) (handshake_direction_secret (hash_of hash) (handshake_secret (hash_of hash) psk) Request ((hash_of hash).digest t1))
 unfolding secret_at

@@ -11,7 +11,7 @@ use Rattle.key_schedule.specs.declared.direction.Direction.{Direction}
 use Rattle.key_schedule.specs.declared.label.Label.{Label}
 use Rattle.key_schedule.specs.declared.label.Label.TheVariants.{Derived, Key, Iv, Finished, Update}
 
--- BinConcat: a length as two bytes, the lowest first, the text "spdm1.2 ", the text of a label, and a context.
+-- BinConcat: a length as two bytes, little-endian, the text "spdm1.2 ", the text of a label, and a context.
 abbrev pub bin_label : ℕ → Label → List ℕ → List ℕ
 bin_label len label context = to_le_bytes w16 len ++ codes "spdm1.2 " ++ label_text label ++ context
 

@@ -21,8 +21,8 @@ pub struct AppKeys {
 }
 
 impl AppKeys {
-    /// The first keys after a handshake, from its secrets and the hash of the transcript up to
-    /// PSK_FINISH_RSP. The hash has the length that the hash function fixes.
+    /// The first keys after a handshake, from its secrets and the hash of the transcript up to PSK_FINISH_RSP. The hash
+    /// has the length that the hash function fixes.
     #[tactic(auto, unfolding(crate::specs::Schedule::secret_at))]
     pub fn derive(handshake: &HandshakeKeys, th2: &HashBytes) -> AppKeys
         requires { length th2.now ≡ hash_size handshake.now.hash }

@@ -8,7 +8,7 @@ use arrayvec::ArrayVec;
 use hmac_hkdf::expand_by;
 use spdm_basis::{AeadAlg, HashAlg, HashBytes};
 
-// The text in front of each label (DSP0274, "BinConcat").
+// The text before each label (DSP0274, "BinConcat").
 const VERSION_TEXT: &[u8; 8] = b"spdm1.2 ";
 
 // What HKDF-Expand is told besides the secret: the length that is asked for, the text of the version,

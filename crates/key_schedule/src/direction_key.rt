@@ -10,9 +10,8 @@ use arrayvec::ArrayVec;
 use spdm_basis::{AeadAlg, HashAlg, HashBytes};
 use std::marker::Model;
 
-/// The key and the initialization vector of the records of one direction, and the secret from which
-/// they and their successors come (DSP0274, "Key schedule"). Contracts see the hash function, the
-/// AEAD, the secret and the epoch.
+/// The key and the initialization vector of the records of one direction, and the secret from which they and their
+/// successors come (DSP0274, "Key schedule"). Contracts see the hash function, the AEAD, the secret and the epoch.
 #[derive(Drop)]
 pub struct DirectionKey {
     hash: HashAlg,
@@ -83,8 +82,8 @@ impl DirectionKey {
         }
     }
 
-    /// The key that follows by a key update (DSP0274, "KEY_UPDATE"), with the next epoch. The
-    /// caller's epoch is below 2^64 - 1.
+    /// The key that follows by a key update (DSP0274, "KEY_UPDATE"), with the next epoch. The caller's epoch is below
+    /// 2^64 - 1.
     pub fn next(mut self) -> DirectionKey
         requires { self.epoch < 2 ^ 64 - 1 }
         ensures value { result ≡ record self {
@@ -99,8 +98,7 @@ impl DirectionKey {
         self
     }
 
-    /// Steps to the key that follows by a key update, as `next` does, in place. The caller's epoch
-    /// is below 2^64 - 1.
+    /// Steps to the key that follows by a key update, as `next` does, in place. The caller's epoch is below 2^64 - 1.
     #[tactic(auto, unfolding(crate::specs::Schedule::secret_at))]
     pub fn update(&mut self)
         requires { self.old.epoch < 2 ^ 64 - 1 }

@@ -13,8 +13,8 @@ use hmac_hkdf::hmac_by;
 use spdm_basis::{AeadAlg, HashAlg, HashBytes, Psk};
 use std::marker::Model;
 
-/// The secrets of a handshake (DSP0274, "Key schedule"). Contracts see the hash function, the AEAD, the
-/// handshake secret and the secret of each direction.
+/// The secrets of a handshake (DSP0274, "Key schedule"). Contracts see the hash function, the AEAD, the handshake
+/// secret and the secret of each direction.
 #[derive(Drop)]
 pub struct HandshakeKeys {
     hash: HashAlg,
@@ -45,8 +45,8 @@ impl Model for HandshakeKeys {
 }
 
 impl HandshakeKeys {
-    /// The secrets of a pre-shared key and of the hash of the transcript up to PSK_EXCHANGE_RSP without
-    /// its verify data. The hash has the length that `hash` fixes.
+    /// The secrets of a pre-shared key and of the hash of the transcript up to PSK_EXCHANGE_RSP without its verify
+    /// data. The hash has the length that `hash` fixes.
     pub fn derive(hash: HashAlg, aead: AeadAlg, psk: &Psk, th1: &HashBytes) -> HandshakeKeys
         requires { length th1.now ≡ hash_size hash }
         ensures hash { result.hash ≡ hash }
@@ -73,8 +73,8 @@ impl HandshakeKeys {
         }
     }
 
-    /// The verify data of PSK_EXCHANGE_RSP over the hash of a transcript, by the responder's finished key
-    /// (DSP0274, "PSK_EXCHANGE_RSP"). The hash has the length that the hash function fixes.
+    /// The verify data of PSK_EXCHANGE_RSP over the hash of a transcript, by the responder's finished key (DSP0274,
+    /// "PSK_EXCHANGE_RSP"). The hash has the length that the hash function fixes.
     #[tactic(auto, unfolding(crate::specs::Schedule::secret_at))]
     pub fn responder_verify(&self, th: &HashBytes) -> HashBytes
         requires { length th.now ≡ hash_size self.now.hash }
@@ -87,8 +87,8 @@ impl HandshakeKeys {
         verify_by(self.hash, &self.response, th)
     }
 
-    /// The verify data of PSK_FINISH over the hash of a transcript, by the requester's finished key
-    /// (DSP0274, "PSK_FINISH"). The hash has the length that the hash function fixes.
+    /// The verify data of PSK_FINISH over the hash of a transcript, by the requester's finished key (DSP0274,
+    /// "PSK_FINISH"). The hash has the length that the hash function fixes.
     #[tactic(auto, unfolding(crate::specs::Schedule::secret_at))]
     pub fn requester_verify(&self, th: &HashBytes) -> HashBytes
         requires { length th.now ≡ hash_size self.now.hash }
