@@ -12,7 +12,7 @@ use Rattle.world_machine.specs.World.{World, is_at, number_from, replaced, reque
 abbrev pub eid_of : Requesting → ℕ
 eid_of a = a.setup.eid
 
--- Requesters with other end points stay.
+-- Requesters with other endpoints stay.
 others_stay : (new : Requesting) (xs : List Asker) (rs : List Requesting) (eid : ℕ) → eid_of new ≡ eid → AllByRecursion (λ (b : Requesting). b.setup.eid ≢ eid) rs → AreAskers xs rs → AreAskers xs (with_requester new rs)
 others_stay new [] [] eid same apart are = tt
 others_stay new [] (a ∷ rs) eid same apart are = absurd are
@@ -48,7 +48,7 @@ first_hit x xs a rs are apart = record {
   );
 }
 
--- One behind the first has another end point.
+-- One after the first has another endpoint.
 pub behind_first : (k : ℕ) (rs : List Requesting) (a b : Requesting) → requester_at k rs ≡ Some b → AllByRecursion (λ (c : Requesting). c.setup.eid ≢ eid_of a) rs → eid_of b ≢ eid_of a
 behind_first k [] a b is apart = absurd (none-some b is)
 behind_first zero (c ∷ rs) a b is apart = subst (λ (d : Requesting). eid_of d ≢ eid_of a) (same_Some c b is) apart.0
@@ -144,7 +144,7 @@ same_eid new a = go (eid_of a == eid_of new) refl
     go true e = sym (eqb-true (eid_of a) (eid_of new) e)
     go false e = refl
 
--- The end points stay.
+-- The endpoints stay.
 pub same_eids : (new : Requesting) (rs : List Requesting) → eids_of (with_requester new rs) ≡ eids_of rs
 same_eids new [] = refl
 same_eids new (a ∷ rs) =

@@ -16,7 +16,7 @@ use Rattle.spdm_grammar.specs.Lines.{Line}
 use Rattle.spdm_grammar.specs.Lines.Line.{At}
 use Rattle.world_machine.specs.World.{World, WorldStep, happens, shown_lines}
 
--- A prefix of the lines in front of a packet for which there is no room, where no line is such a one.
+-- A prefix of the lines before a packet for which there is no room, where no line is such a one.
 pub full_prefix : (lines : List Line) (old new : Option (List ℕ)) → has_full lines ≡ false → TakesPrefix old (text_of lines) new → TakesPrefix old (text_of (before_full lines)) new
 full_prefix lines old new none p = subst (λ (l : List Line). TakesPrefix old (text_of l) new) (sym (before_all lines none)) p
 

@@ -1,5 +1,5 @@
--- The lines of an event name a packet for which there is no room exactly where more packets stand behind it than a run
--- may send.
+-- The lines of an event name a packet for which there is no room exactly when more packets follow it than a run may
+-- send.
 use Rattle.std.proofs.Common.{refl, ◌≡◌, ◌∙◌, ◌≤◌, ◌+◌, ◌++◌, ◌∷◌, [], ℕ, zero, suc, List, Bool, true, false, Option, Some, None, ap, sym, length, arith, map}
 use Rattle.std.proofs.lemmas.Bool.{le-ltb, lt-ltb, ltb-true}
 use Rattle.std.proofs.lemmas.List.{length-append, length-map}
@@ -22,7 +22,7 @@ use Rattle.world_machine.specs.World.{World, WorldStep, SentPacket, behind, data
 abbrev beyond : List SentPacket → Bool
 beyond sent = nat_lt packets_max (length sent)
 
--- That is so behind a step where it was so before it, or where its lines name one of them; and nowhere else.
+-- That is so after a step where it was so before it, or where its lines name one of them; and nowhere else.
 abbrev Joins : World → WorldStep → Type 0
 Joins w step = (beyond w.sent || has_full step.lines) ≡ beyond step.after.sent
 
@@ -52,7 +52,7 @@ count_packets n (p ∷ packets) =
     let e : n + (length packets + 1) ≡ n + length (p ∷ packets) = omega arith in
     one_more n (length packets) (has_full (packet_lines (n + 1) packets)) (count_packets (n + 1) packets) (nat_lt packets_max n) refl ∙ ap (nat_lt packets_max) e
 
--- Packets are sent behind lines that name none.
+-- Packets are sent after lines that name none.
 sends : (sent : List SentPacket) (front : List Line) (packets : List (List ℕ)) → has_full front ≡ false
     → (beyond sent || has_full (front ++ packet_lines (length sent) packets)) ≡ beyond (with_sent sent packets)
 sends sent front packets none =
@@ -160,7 +160,7 @@ happens_joins w (Pump count) = pumps_joins count w
 happens_joins w (Tick seconds) = none_more (beyond w.sent)
 happens_joins w Show = ap (λ (b : Bool). beyond w.sent || b) (shown_plain w) ∙ none_more (beyond w.sent)
 
--- Where no more packets stand than a run may send, an event is full exactly where its lines name one more.
+-- Where no more packets stand than a run may send, an event is full exactly when its lines name one more.
 pub full_is : (w : World) (entry : Entry) → length w.sent ≤ packets_max → has_full (entry_step w entry).lines ≡ is_full w entry
 full_is w entry within =
     ap (λ (b : Bool). b || has_full (happens w entry.happening).lines) (sym (le-ltb packets_max (length w.sent) within)) ∙ happens_joins w entry.happening

@@ -54,7 +54,7 @@ one_view view b is =
 
 -- ---- A requester.
 
--- What is past its handshake was accepted before.
+-- What is established was accepted before.
 was_accepted : (s : asking.Steps) → IsOrdered s → is_past_handshake (asking.stage_of s) ≡ true → asking.is_accepted s ≡ true
 was_accepted [] ordered past = absurd (false≢true past)
 was_accepted (Started n x ∷ []) ordered past = absurd (false≢true past)

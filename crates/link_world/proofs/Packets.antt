@@ -1,4 +1,4 @@
--- Packets that are sent one behind the other.
+-- Packets that are sent one after the other.
 use Rattle.std.proofs.Common.{refl, ◌≡◌, ◌∙◌, ◌≤◌, ◌+◌, ◌++◌, ◌∷◌, [], ℕ, zero, suc, List, Some, drop, Bool, cond, ap, sym, subst, length, arith, append_assoc, map}
 use Rattle.std.proofs.lemmas.List.{append-nil, length-append}
 use Rattle.std.specs.Prelude.{◌||◌}

@@ -122,7 +122,7 @@ passed_at k places d p none few is rests =
 pub none_at : (bytes : List ℕ) (k : ℕ) (places : List Place) → NoneWaits k places → false ≡ nat_lt k (length places) → None ≡ first_waiting (sent_of bytes places)
 none_at bytes k places none few = sym (none_there bytes k places none (ltb-false k (length places) (sym few)))
 
--- A packet was put behind the others.
+-- A packet was put after the others.
 pub record IsPushed (bytes more bytes' : List ℕ) (places places' : List Place) : Type 0 where
   pub start : ℕ
   pub end : ℕ

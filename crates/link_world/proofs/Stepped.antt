@@ -1,4 +1,4 @@
--- What comes of a step, from what the ends did and what was sent; and steps one behind the other.
+-- What comes of a step, from what the ends did and what was sent; and steps one after the other.
 use Rattle.std.proofs.Common.{refl, ◌≡◌, ◌∙◌, ◌≤◌, ◌++◌, ◌∷◌, [], ℕ, zero, suc, List, false, Option, Some, None, ap, sym, subst, length, append_assoc}
 use Rattle.std.proofs.lemmas.List.{append-nil}
 use Rattle.std.specs.Prelude.{Result, Ok, Err, IfErr, OnOk, is_ok}

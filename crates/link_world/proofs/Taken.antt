@@ -73,7 +73,7 @@ same_peers f [] keeps = refl
 same_peers f (c ∷ cs) keeps =
     ap (λ (s : RspSetup). s.peer ∷ peers_of (map f cs)) (keeps c) ∙ ap (λ (l : List ℕ). c.setup.peer ∷ l) (same_peers f cs keeps)
 
--- A packet changes no end point of a connection, and counts one message more where it brought one.
+-- A packet changes no endpoint of a connection, and counts one message more where it brought one.
 pub record Counts (r : Responding) (step : RspStep) : Type 0 where
   pub peers : peers_of step.after.connections ≡ peers_of r.connections
   pub taken : over_all served.all_taken step.after.connections ≡ over_all served.all_taken r.connections + one_if (is_some step.taken)
@@ -156,7 +156,7 @@ asked_counts h (asked.Warns code) agrees = none_more (shown.all_taken h)
 asked_counts h (asked.Resends sent) agrees = none_more (shown.all_taken h)
 asked_counts h (asked.Adds e) agrees = entry_counts h e (agrees e refl)
 
--- A packet counts one message more exactly where application data of the requester were answered.
+-- A packet counts one message more exactly when application data of the requester were answered.
 abbrev pub GivenCounts : Requesting → PacketStep → Type 0
 GivenCounts a step = shown.all_taken step.after.history ≡ shown.all_taken a.history + one_if (is_answered step.event)
 

@@ -42,7 +42,7 @@ HeardAs n told last taken = heard_lines n told last ≡ ToResponder told ∷ tak
 abbrev last_of : Responding → (taken : List (List ℕ)) → List ℕ
 last_of r taken = last_data (record r { taken = taken })
 
--- What is told of a turn in which data do not come: no data would be told.
+-- What is reported of a turn in which data do not come: no data would be told.
 not_both : (x : List ℕ) → x ≡ [] → x ≡ 0 ∷ [] → ⊥
 not_both x a b = cc (a, b)
 

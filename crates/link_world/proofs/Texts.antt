@@ -1,4 +1,4 @@
--- Lines one behind the other, and where a full link ends them.
+-- Lines one after the other, and where a full link ends them.
 use Rattle.std.proofs.Common.{refl, ◌≡◌, ◌∙◌, ◌≤◌, ◌+◌, ◌++◌, ◌∷◌, [], ℕ, List, Bool, true, false, cond, ap, sym, length, arith, append_assoc}
 use Rattle.std.proofs.lemmas.Bool.{false≢true, le-ltb, lt-ltb}
 use Rattle.std.specs.Prelude.{nat_lt, ◌||◌}
@@ -83,7 +83,7 @@ first_is_beyond n p full = lt-ltb packets_max (n + 1) (omega (arith, full))
 pub first_fits : (n : ℕ) → n + 1 ≤ packets_max → nat_lt packets_max (n + 1) ≡ false
 first_fits n room = le-ltb packets_max (n + 1) room
 
--- An id is spelled as its bytes.
+-- An id is encoded as its bytes.
 pub id_is : (id : SessionId) → hex_word (session_id_bytes id.req id.rsp) ≡ id_word id
 unfolding hex_word
 id_is id = refl

@@ -1,4 +1,4 @@
--- Texts that a sink takes one behind the other.
+-- Texts that a sink takes one after the other.
 use Rattle.std.proofs.Common.{◌≡◌, ◌∙◌, ◌++◌, [], ℕ, List, Option, Some, ap, sym, subst, append_assoc}
 use Rattle.std.proofs.lemmas.List.{append-nil}
 use Rattle.std.specs.Prelude.{OnErr, OnOk, Result, Ok, Err}

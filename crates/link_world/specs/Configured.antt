@@ -18,7 +18,7 @@ abbrev pub HaveNoFault : (responder : ℕ) → List ReqPart → Type 0
 HaveNoFault responder [] = Unit {0}
 HaveNoFault responder (q ∷ others) = HasRequesterFault responder q None × HaveNoFault responder others
 
--- The cause of a fault: the responder's comes before those of the requesters. Want of memory may come at any time.
+-- The cause of a fault: the responder's comes before those of the requesters. Allocation failure may come at any time.
 abbrev pub IsCause : ScriptConfig → WorldFault → Type 0
 IsCause c (Responder fault) = HasResponderFault c (Some fault)
 IsCause c (Requester fault) = HasResponderFault c None × HaveFirstFault c.responder.eid.number c.requesters fault

@@ -7,7 +7,7 @@ use Rattle.spdm_grammar.specs.declared.told.session_view.SessionView.{SessionVie
 use Rattle.spdm_machine.specs.Sessions.{is_past_handshake}
 use Rattle.world_machine.specs.Totals.{asked_live}
 
--- A session that is shown is held open where it is past its handshake.
+-- A session that is shown is held open where it is established.
 abbrev pub is_open : SessionView → Bool
 is_open view = is_past_handshake view.stage
 

@@ -22,7 +22,7 @@ AreAskersFault responder qs (Requester fault) = HaveFirstFault responder qs faul
 AreAskersFault responder qs (Responder fault) = ⊥
 AreAskersFault responder qs OutOfMemory = Unit {0}
 
--- A fault of an end, as that of the world; want of memory is the same of all.
+-- A fault of an end, as that of the world; allocation failure is the same of all.
 abbrev pub of_responder : RspConfigFault → WorldFault
 of_responder answering.OutOfMemory = OutOfMemory
 of_responder fault = Responder fault

@@ -1,4 +1,4 @@
--- Packets that are sent one behind the other, and a link that has no room for all. This project's own.
+-- Packets that are sent one after the other, and a link that has no room for all. This project's own.
 use Rattle.std.specs.Prelude.{◌≡◌, ◌≤◌, ◌++◌, ℕ, List, length, true, false, Result, Ok, Err}
 use Rattle.link_world.specs.Written.{before_full, has_full, text_of}
 use Rattle.link_world.specs.declared.sent.SendFault.{SendFault}

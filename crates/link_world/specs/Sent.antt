@@ -1,4 +1,4 @@
--- The packets that were sent, as the program keeps them: one behind the other in one memory.
+-- The packets that were sent, as the program keeps them: one after the other in one memory.
 use Rattle.std.specs.Prelude.{⊤, ◌≡◌, ◌≢◌, ◌≤◌, ℕ, zero, suc, List, [], ◌∷◌, map, length, slice_range, false}
 use Rattle.link_world.specs.declared.sent.Place.{Place}
 use Rattle.link_world.specs.declared.sent.SendFault.{SendFault}
@@ -27,7 +27,7 @@ NoneWaits zero places = ⊤
 NoneWaits (suc count) [] = ⊤
 NoneWaits (suc count) (p ∷ others) = (p.waits ≡ false) × NoneWaits count others
 
--- The cause of a fault: want of memory comes only where the link is not full.
+-- The cause of a fault: allocation failure comes only where the link is not full.
 abbrev pub IsCause : List SentPacket → SendFault → Type 0
 IsCause sent LinkFull = length sent ≡ packet_limit
 IsCause sent OutOfMemory = length sent ≢ packet_limit

@@ -19,7 +19,7 @@ use Rattle.world_machine.specs.Totals.{over_connections, over_requesters}
 use Rattle.world_machine.specs.Trace.{packets_max}
 use Rattle.world_machine.specs.World.{World, WorldStep, packet_lines, with_sent}
 
--- A requester and its end point.
+-- A requester and its endpoint.
 pub record IsAsker (seen : Asker) (a : Requesting) : Type 0 where
   pub eid : a.setup.eid ≡ seen.eid.number
   pub stands : asking.StandsFor seen.requester a
@@ -31,16 +31,16 @@ AreAskers [] (a ∷ others) = ⊥
 AreAskers (x ∷ rest) [] = ⊥
 AreAskers (x ∷ rest) (a ∷ others) = IsAsker x a × AreAskers rest others
 
--- A requester has this end point.
+-- A requester has this endpoint.
 abbrev pub has_eid : ℕ → Asker → Bool
 has_eid eid x = x.eid.number == eid
 
--- The end points of the requesters differ.
+-- The endpoints of the requesters differ.
 abbrev pub AreApart : List Requesting → Type 0
 AreApart [] = Unit {0}
 AreApart (a ∷ others) = AllByRecursion (λ (b : Requesting). b.setup.eid ≢ a.setup.eid) others × AreApart others
 
--- The end points of the requesters, and of those that the responder has connections with, in order.
+-- The endpoints of the requesters, and of those that the responder has connections with, in order.
 abbrev pub eids_of : List Requesting → List ℕ
 eids_of requesters = map (λ (a : Requesting). a.setup.eid) requesters
 
@@ -52,7 +52,7 @@ abbrev pub taken_in : List Requesting → List Connection → ℕ
 taken_in requesters connections =
     over_requesters (λ a. asked.all_taken a.history) requesters + over_connections (λ c. all_taken c.history) connections
 
--- A count as the program keeps it: it stands still at 2^64 - 1.
+-- A count as the program keeps it: it saturates at `u64::MAX`.
 abbrev pub counted : ℕ → ℕ
 counted n = min n (2 ^ 64 - 1)
 
@@ -106,7 +106,7 @@ pub record IsWhole (step : WorldStep) (old new : List ℕ) (seen : Link) : Type 
   pub text : new ≡ old ++ text_of step.lines
   pub stands : IsLink seen step.after
 
--- The link was full: the lines in front of that of the first packet for which there was no room were added.
+-- The link was full: the lines before that of the first packet for which there was no room were added.
 pub record IsCutOff (step : WorldStep) (old new : List ℕ) : Type 0 where
   pub full : has_full step.lines ≡ true
   pub text : new ≡ old ++ text_of (before_full step.lines)

@@ -5,7 +5,7 @@ use Rattle.spdm_grammar.specs.Lines.{Line}
 use Rattle.spdm_grammar.specs.Lines.Line.{Packet}
 use Rattle.world_machine.specs.Trace.{packets_max}
 
--- Lines one behind the other.
+-- Lines one after the other.
 abbrev pub text_of : List Line → List ℕ
 text_of [] = []
 text_of (line ∷ others) = line_text line ++ text_of others
@@ -20,7 +20,7 @@ abbrev pub has_full : List Line → Bool
 has_full [] = false
 has_full (line ∷ others) = is_beyond line || has_full others
 
--- The lines in front of the first such line.
+-- The lines before the first such line.
 abbrev pub before_full : List Line → List Line
 before_full [] = []
 before_full (line ∷ others) = if is_beyond line then [] else line ∷ before_full others

@@ -2,11 +2,11 @@ use spdm_basis::{Bytes, Line};
 use std::alloc::Global;
 use std::marker::Model;
 
-/// The lines of an event, as they are gathered. Contracts see them as their text.
+/// The trace lines of one event. In contracts, their text.
 #[derive(Drop)]
 pub(crate) struct EventText {
     pub(crate) text: Bytes,
-    // The line that is being made. It stands here so that no line clears a place of its own.
+    // Scratch space for the current line, kept here so that no line clears a buffer of its own.
     pub(crate) line: Line,
 }
 

@@ -15,9 +15,8 @@ fn source(packet: &[u8]) -> u8
     packet.get(2).copied().unwrap_or(0)
 }
 
-// What the ends do. The lines of it, but for those of the packets that are sent upon it, are added
-// at the end of a
-// text, and these packets are put in place of what `out` holds.
+// The endpoints' reactions. Their trace lines, except those of the packets sent, are appended to `text`, and the
+// packets sent overwrite `out`.
 impl Ends {
     ghost use Rattle.std.specs.Prelude.{◌≡◌, ◌<◌, Some, OnOk, length};
     ghost use Rattle.requester_core.specs.Joined.{command_of};
@@ -26,7 +25,7 @@ impl Ends {
     ghost use Rattle.requester_machine.specs.Requesting.{Requesting, requester_given};
     ghost use Rattle.world_machine.specs.World.{World, given, given_to_requester, given_to_responder, replied, requester_at, requester_of, told, number_at};
 
-    /// A requester is told a command. Nothing happens where there is none of this number.
+    /// Gives a command to a requester. Does nothing if there is none with this number.
     pub(crate) fn tell(
         &mut self,
         q: u8,
@@ -49,7 +48,7 @@ impl Ends {
         push_command(q, &answer, text)
     }
 
-    /// A packet is given to the end that its byte 1 names.
+    /// Delivers a packet to the endpoint in its byte 1.
     pub(crate) fn give(
         &mut self,
         packet: &[u8],
@@ -73,7 +72,7 @@ impl Ends {
         }
     }
 
-    // A packet is given to the responder.
+    // Delivers a packet to the responder.
     fn give_responder(
         &mut self,
         packet: &[u8],
@@ -90,7 +89,7 @@ impl Ends {
         push_heard(q, heard, self.responder.last_data(), text)
     }
 
-    // A packet is given to the requester at a place.
+    // Delivers a packet to the requester at this index.
     fn give_requester(
         &mut self,
         place: usize,
@@ -117,9 +116,7 @@ impl Ends {
         )
     }
 
-    /// Application data is queued for a requester at the responder. Nothing happens where there is
-    /// none of this
-    /// number.
+    /// Queues application data for a requester at the responder. Does nothing if there is none with this number.
     pub(crate) fn reply(
         &mut self,
         q: u8,
@@ -139,7 +136,7 @@ impl Ends {
         push_reply(&answer, text)
     }
 
-    /// Seconds pass at the responder.
+    /// Advances the responder's clock.
     pub(crate) fn tick(&mut self, seconds: u32)
         ensures { (w : World) → AreEnds self.old w
             → AreEnds self.new (record w { responder = ticks w.responder seconds }) }

@@ -9,7 +9,7 @@ use requester::Command;
 use script_text::LinkEvent;
 use spdm_basis::OutOfMemory;
 
-// Want of memory for a line.
+// Allocation failure for a line.
 fn no_memory(_: OutOfMemory) -> SendFault
     ensures { result ≡ SendFault.OutOfMemory }
 {
@@ -34,7 +34,7 @@ impl Link {
     ghost use Rattle.link_world.specs.Standing.{IsLink, IsStepped};
     ghost use Rattle.world_machine.specs.World.{World, delivers, given, happens, loses, packet_of, pumps, replied, requester_of, told};
 
-    // The requester of a number is told a command.
+    // Gives a command to the requester with this number.
     fn tell(&mut self, q: u8, command: Command<'_>, text: &mut EventText) -> Result<(), SendFault>
         ensures { (w : World) → IsLink self.old w → IsStepped
             (told w q (command_of command.entry) (requester_of q w)) result text.old text.new
@@ -46,7 +46,7 @@ impl Link {
         send_packets(&self.out, &mut self.sent, text)
     }
 
-    // Bytes are given to the end that they name.
+    // Delivers bytes to the endpoint that they name.
     fn inject(&mut self, bytes: &[u8], text: &mut EventText) -> Result<(), SendFault>
         ensures { (w : World) → IsLink self.old w
             → IsStepped (given w bytes.now) result text.old text.new self.new }
@@ -57,8 +57,7 @@ impl Link {
         send_packets(&self.out, &mut self.sent, text)
     }
 
-    // The packet of a number is given to its end, also where it no longer waits. From then on it
-    // waits no longer.
+    // Delivers the packet with this number to its endpoint, even if it no longer waits. It no longer waits then.
     fn deliver(&mut self, number: u32, text: &mut EventText) -> Result<(), SendFault>
         ensures { (w : World) → IsLink self.old w → IsStepped
             (delivers w number (packet_of number w.sent)) result text.old text.new self.new }
@@ -73,7 +72,7 @@ impl Link {
         send_packets(&self.out, &mut self.sent, text)
     }
 
-    // The packet of a number waits no longer.
+    // Drops the packet with this number from those that wait.
     fn lose(&mut self, number: u32, text: &mut EventText) -> Result<(), SendFault>
         ensures { (w : World) → IsLink self.old w → IsStepped
             (loses w number (packet_of number w.sent)) result text.old text.new self.new }
@@ -85,7 +84,7 @@ impl Link {
         }
     }
 
-    // The waiting packet of least number is given to its end, so often at most.
+    // Delivers the waiting packet of least number, at most `count` times.
     fn pump(&mut self, count: u32, text: &mut EventText) -> Result<(), SendFault>
         ensures { (w : World) → IsLink self.old w
             → IsStepped (pumps count w) result text.old text.new self.new }
@@ -99,7 +98,7 @@ impl Link {
         Ok(())
     }
 
-    // Application data is queued for a requester.
+    // Queues application data for a requester.
     fn reply(&mut self, q: u8, bytes: &[u8], text: &mut EventText) -> Result<(), SendFault>
         ensures { (w : World) → IsLink self.old w → IsStepped
             (replied w bytes.now (requester_of q w)) result text.old text.new self.new }
@@ -107,9 +106,8 @@ impl Link {
         line_added(self.ends.reply(q, bytes, text))
     }
 
-    /// An event happens, and its lines are added at the end of a text. The ends are not shown here.
-    /// After
-    /// `LinkFull` the lines in front of that of the packet for which there was no room were added.
+    /// Runs an event and appends its trace lines to `text`. `Show` prints nothing here. After `LinkFull` the lines
+    /// before that of the packet without room were appended.
     #[tactic(auto, unfolding(world_machine::specs::World::happens))]
     pub(crate) fn happen(
         &mut self,

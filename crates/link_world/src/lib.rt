@@ -1,8 +1,7 @@
-//! A link between a responder and its requesters: the ends, and the packets that were sent between
-//! them.
+//! A simulated link between a responder and its requesters: the endpoints, and the packets sent between them.
 //!
-//! Read first: `StandsFor` in `specs/Worlds.antt`, which world of definitions a world of the
-//! program stands for. The call is `World::step`.
+//! Read first: `StandsFor` in `specs/Worlds.antt`, which world of definitions a world of the program stands for. The
+//! call is `World::step`.
 #![tactic(auto)]
 
 mod ends;

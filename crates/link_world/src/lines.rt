@@ -16,7 +16,7 @@ use script_text::{
 use spdm_basis::{Bytes, OutOfMemory, SessionId};
 use spdm_grammar::{CommandFault, Event, Finished, Heard, ReplyFault};
 
-/// Adds the line in front of an event.
+/// Adds the line before an event.
 pub(crate) fn push_at(number: u32, text: &mut EventText) -> Result<(), OutOfMemory>
     ensures { OnOk result (text.new ≡ text.old ++ line_text (At number)) }
 {
@@ -79,7 +79,7 @@ pub(crate) fn push_packet(number: u32, bytes: &[u8], text: &mut Bytes) -> Result
     end_text_line(text)
 }
 
-// Puts the id of a session behind the words of the last line of a text.
+// Puts the id of a session after the words of the last line of a text.
 fn add_id(id: SessionId, text: &mut Bytes) -> Result<(), OutOfMemory>
     ensures { OnOk result (text.new ≡ with_word text.old (id_word id)) }
 {
@@ -122,9 +122,8 @@ fn push_record(q: u8, bytes: &[u8], text: &mut Bytes) -> Result<(), OutOfMemory>
     end_text_line(text)
 }
 
-/// Adds the lines of a packet that was given to the responder, from requester `q`. `last` are the
-/// application data
-/// that the responder took last.
+/// Adds the lines of a packet that was given to the responder, from requester `q`. `last` are the application data that
+/// the responder took last.
 pub(crate) fn push_heard(
     q: u8,
     heard: Heard,
@@ -142,8 +141,7 @@ pub(crate) fn push_heard(
     }
 }
 
-/// Adds the lines of a packet that was given to requester `q`. `last` are the application data or
-/// the measurement
+/// Adds the lines of a packet that was given to requester `q`. `last` are the application data or the measurement
 /// record that it took last.
 pub(crate) fn push_event(
     q: u8,

@@ -2,7 +2,7 @@ use crate::SentPackets;
 use crate::ends::Ends;
 use mctp_framing::PacketList;
 
-/// The ends of a world, and the packets that were sent between them.
+/// The endpoints of a world, and the packets sent between them.
 #[derive(Drop)]
 pub struct Link {
     pub(crate) ends: Ends,

@@ -21,7 +21,7 @@ use script_text::{ReqPart, ScriptConfig};
 use spdm_basis::Eid;
 use std::alloc::Global;
 
-// Why there is no responder, as why there is no world.
+// Converts a responder's fault.
 fn fault_of_responder(fault: RspConfigFault) -> WorldFault
     ensures { result ≡ of_responder fault }
 {
@@ -56,7 +56,7 @@ fn responder_of(
     }
 }
 
-// Why there is no requester, as why there is no world.
+// Converts a requester's fault.
 fn fault_of_requester(fault: ReqConfigFault) -> WorldFault
     ensures { result ≡ of_requester fault }
 {
@@ -118,7 +118,7 @@ fn askers_of(
     Ok(askers)
 }
 
-/// The ends of a configuration, and no packet.
+/// The endpoints of a configuration, and no packets.
 pub(crate) fn link_of(alloc: Global, config: &ScriptConfig, boot: u32) -> Result<Link, WorldFault>
     requires seed { IsSome config.now.seed }
     requires boot { boot ≤ 2 ^ 24 - 2 }

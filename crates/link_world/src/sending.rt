@@ -8,8 +8,8 @@ use crate::{SendFault, SentPackets};
 use mctp_framing::PacketList;
 use spdm_basis::Bytes;
 
-/// Packets are sent: they wait from now on, and their lines are added at the end of a text. After
-/// `LinkFull` those for which there was room were sent, and their lines were added.
+/// Sends packets: they wait from now on, and their lines are appended to `text`. After `LinkFull` those that had room
+/// were sent, and their lines appended.
 pub(crate) fn send_packets(
     packets: &PacketList,
     sent: &mut SentPackets,

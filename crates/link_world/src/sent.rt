@@ -7,7 +7,7 @@ use std::alloc::Global;
 use std::marker::Model;
 use thiserror::Error;
 
-// How many packets a link takes.
+// The capacity of a link, in packets.
 const PACKET_LIMIT: usize = 65_536;
 
 /// Why a packet was not sent.
@@ -28,14 +28,13 @@ struct Place {
     waits: bool,
 }
 
-/// The packets that were sent, in order, and which of them wait to be given to their ends. Each has
-/// a number, counted from 1. They stand in one memory, one behind the other. Contracts see them as
-/// the list of the definitions.
+/// The packets sent, in order, and which of them wait for delivery. Packets are numbered from 1 and stored
+/// contiguously. In contracts, the list of the definitions.
 #[derive(Drop)]
 pub struct SentPackets {
     bytes: Vec<u8>,
     places: Vec<Place>,
-    // None of the first so many waits.
+    // None of the first `passed` packets waits.
     passed: usize,
 }
 
@@ -50,7 +49,7 @@ impl Model for SentPackets {
 }
 
 impl SentPackets {
-    /// No packets. It takes no memory.
+    /// No packets. Never allocates.
     pub fn new(alloc: Global) -> SentPackets
         ensures { result ≡ [] }
     {
@@ -61,14 +60,14 @@ impl SentPackets {
         }
     }
 
-    /// How many were sent.
+    /// The number of packets sent.
     pub fn count(&self) -> u32
         ensures { result ≡ length self.now }
     {
         self.places.len() as u32
     }
 
-    /// A packet is sent, and waits. After a fault they are as before.
+    /// Sends a packet, which waits then. On a fault nothing changes.
     pub fn push(&mut self, packet: &[u8]) -> Result<(), SendFault>
         ensures sent { OnOk result (self.new ≡ self.old ++ waiting packet.now ∷ []) }
         ensures room { OnOk result (length self.old < packet_limit) }
@@ -94,7 +93,7 @@ impl SentPackets {
         Ok(())
     }
 
-    /// The packet of a number, if there is one.
+    /// The packet with this number.
     pub fn get(&self, number: u32) -> Option<&[u8]>
         ensures { option_map (λ packet. packet.now) result ≡ packet_of number self.now }
     {
@@ -102,7 +101,7 @@ impl SentPackets {
         self.bytes.get(place.start..place.end)
     }
 
-    /// The packet of a number, if there is one, waits no longer.
+    /// Marks the packet with this number, if there is one, as no longer waiting.
     pub fn stop(&mut self, number: u32)
         ensures { self.new ≡ stopped_of number self.old }
     {
@@ -113,9 +112,7 @@ impl SentPackets {
         }
     }
 
-    /// The least number of a packet that waits, if one waits. What it has passed it does not look
-    /// at
-    /// again.
+    /// The least number of a waiting packet. The scan resumes where the last one ended.
     pub fn first_waiting(&mut self) -> Option<u32>
         ensures first { result ≡ first_waiting self.old }
         ensures same { self.new ≡ self.old }

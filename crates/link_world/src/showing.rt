@@ -83,7 +83,7 @@ fn show_asker<K: Sink>(q: u8, asker: &Asker, sink: &mut K) -> Result<(), OutFaul
     show_sessions(q, false, own.sessions().as_slice(), sink)
 }
 
-// Writes the phase and the sessions of the responder towards the requester of an end point.
+// Writes the phase and the sessions of the responder towards the requester of an endpoint.
 fn show_towards<K: Sink>(
     q: u8,
     eid: Eid,
@@ -115,7 +115,7 @@ impl Ends {
     ghost use Rattle.spdm_basis.specs.Stream.{HasFault, Takes, TakesPrefix};
     ghost use Rattle.world_machine.specs.World.{World, shown_lines};
 
-    /// Writes the lines by which the ends are shown. It takes no memory.
+    /// Writes the lines that show the endpoints. Never allocates.
     pub(crate) fn show<K: Sink>(&self, sink: &mut K) -> Result<(), OutFault>
         ensures whole { (w : World) → AreEnds self.now w → OnOk result
             (Takes (K.contents sink.old) (text_of (shown_lines w)) (K.contents sink.new)) }

@@ -12,15 +12,14 @@ use crate::ends::{Asker, Ends};
 use responder::Responder;
 use spdm_grammar::{Event, Finished, Heard, SessionView, Stage};
 
-/// What is counted of a world.
+/// Counters of a world.
 #[derive(Debug, Clone, Copy, PartialEq, Eq)]
 pub struct Totals {
-    /// How many packets were sent: at most 65,536.
+    /// Packets sent: at most 65,536.
     pub packets: u32,
-    /// How many application messages were taken at all ends, in sessions that are gone too.
+    /// Application messages received at all endpoints, including those of ended sessions.
     pub taken: u64,
-    /// How many sessions are held open, in stage Open or Verifying. One that both ends hold open
-    /// counts twice.
+    /// Sessions in stage Open or Verifying. One that is open at both endpoints counts twice.
     pub live: u32,
 }
 
@@ -45,7 +44,7 @@ pub(crate) fn with_one(taken: u64, more: bool) -> u64
     taken.saturating_add(u64::from(more))
 }
 
-// Whether a session of this stage is past its handshake.
+// Whether a session of this stage is established.
 fn is_past_handshake(stage: Stage) -> bool
     ensures { result ≡ is_past_handshake stage }
 {

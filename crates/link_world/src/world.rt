@@ -12,8 +12,7 @@ use script_text::{LinkEvent, ScriptConfig};
 use spdm_basis::{OutFault, Sink, write_all};
 use std::alloc::Global;
 
-/// A responder, its requesters and the packets that were sent between them. It is changed by `step`
-/// alone.
+/// A responder, its requesters and the packets sent between them. Only `step` changes it.
 #[derive(Drop)]
 pub struct World {
     pub(crate) link: Link,
@@ -44,8 +43,8 @@ impl World {
     ghost use Rattle.world_machine.specs.Trace.{is_full, packets_max};
     ghost use Rattle.world_machine.specs.World as machine;
 
-    /// The world of a configuration, in which nothing has happened yet. Its one seed gives those of
-    /// the ends. `WorldFault` lists the faults in the order in which they are tested.
+    /// The initial world of a configuration. Its one seed determines those of the endpoints. `WorldFault` lists the
+    /// faults in the order of the checks.
     pub fn new(alloc: Global, config: &ScriptConfig) -> Result<World, WorldFault>
         requires { IsSome config.now.seed }
         ensures stands { (seed : List ℕ) → config.now.seed ≡ Some seed
@@ -57,9 +56,8 @@ impl World {
         World::resume(alloc, config, 0)
     }
 
-    /// The same after so many boots with the same seed: at most 2^24 - 2. The draws of each boot
-    /// are
-    /// its own. The faults are those of `new`.
+    /// The same after `boot` earlier boots with the same seed: at most 2^24 - 2. Each boot has draws of its own. Faults
+    /// as for `new`.
     pub fn resume(alloc: Global, config: &ScriptConfig, boot: u32) -> Result<World, WorldFault>
         requires seed { IsSome config.now.seed }
         requires boot { boot ≤ 2 ^ 24 - 2 }
@@ -75,9 +73,7 @@ impl World {
         })
     }
 
-    /// Writes the lines by which the world is shown: the phase and the sessions of each end. It
-    /// takes
-    /// no memory.
+    /// Writes the lines that show the world: the phase and the sessions of each endpoint. Never allocates.
     pub fn start<K: Sink>(&self, sink: &mut K) -> Result<(), OutFault>
         ensures written { (w : machine.World) → StandsFor self.now w
             → OnOk result (Takes (K.contents sink.old) (text_of (machine.shown_lines w))
@@ -91,11 +87,9 @@ impl World {
         self.link.ends.show(sink)
     }
 
-    /// An event on this line of the script happens, and its lines are written. An event for a
-    /// requester that is not configured does nothing. After `LinkFull` the lines in front of that
-    /// of
-    /// the packet for which there was no room were written, and after any other fault a prefix of
-    /// these; the world is not used again.
+    /// Runs the event on this line of the script, and writes its trace lines. An event for a requester that is not
+    /// configured does nothing. After `LinkFull` the lines before that of the packet without room were written, and
+    /// after any other fault a prefix of these; the world must not be used again.
     pub fn step<K: Sink>(
         &mut self,
         line: u32,
@@ -161,9 +155,7 @@ impl World {
         write_all(sink, self.text.as_slice()).map_err(|_| StepFault::WriteFault)
     }
 
-    /// The requester of this index, counted from 0; `None` exactly where the index is not below
-    /// their
-    /// count.
+    /// The requester with this index, counted from 0; `None` exactly when the index is not below their number.
     pub fn requester(&self, index: usize) -> Option<&Requester>
         ensures { (w : machine.World) → StandsFor self.now w
             → IsSeen (option_map (λ requester. requester.now) result)
@@ -183,7 +175,7 @@ impl World {
         &self.link.ends.responder
     }
 
-    /// What is counted of the world. It takes no memory.
+    /// The counters of the world. Never allocates.
     pub fn totals(&self) -> Totals
         ensures packets { (w : machine.World) → StandsFor self.now w
             → result.packets ≡ (totals_of w).packets }
