@@ -21,7 +21,7 @@ packets_from route unit body k within =
     drop_more all k [] inside
     ∙ ap (λ (p : List ℕ). p ∷ drop (k + 1) all) (get_or-map-range_with_len (λ n. spelled_packet (nth_packet route unit body n)) 0 (packet_count unit body) k k [] within (omega arith))
 
--- nothing is left behind the last packet
+-- nothing is left after the last packet
 pub no_packets_from : (route : RouteFields) (unit : ℕ) (body : List ℕ) (k : ℕ) → k ≡ packet_count unit body → drop k (packets_of route unit body) ≡ []
 no_packets_from route unit body k end =
     let past : length (packets_of route unit body) ≤ k = rw (length-packets_of route unit body, end) (omega arith) in
@@ -49,7 +49,7 @@ pub packets_of-short : (route : RouteFields) (unit : ℕ) (body : List ℕ) → 
     packets_of route unit body ≡ spelled_packet (only_packet route body) ∷ []
 packets_of-short route unit body filled fits = rw (one_packet unit body filled fits, whole_range unit body fits) refl
 
--- the slice behind the first m units is the next part of the list
+-- the slice after the first m units is the next part of the list
 pub next_unit : (unit m : ℕ) (body : List ℕ) → take (m * unit) body ++ slice_range body (m * unit) (m * unit + unit) ≡ take ((m + 1) * unit) body
 next_unit unit m body = grind (arith, common_steps, take-add)
 

@@ -112,7 +112,7 @@ stands_after : (a : Assembly) (packets : List PacketFields) (p : PacketFields) (
 stands_after a packets p true before = stands_ours a packets p p.start refl before
 stands_after a packets p false before = before
 
--- a packet changes neither the end points nor the limit
+-- a packet changes neither the endpoints nor the limit
 receiver_unless : (rule : Option DropCause) (a : Assembly) (p : PacketFields) (unit : ℕ) → (grown_unless rule a p unit).receiver ≡ a.receiver
 receiver_unless (Some cause) a p unit = refl
 receiver_unless None a p unit = refl

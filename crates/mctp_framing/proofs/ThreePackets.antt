@@ -1,5 +1,5 @@
--- A body of 130 bytes at a unit of 64, with the tag owner bit and tag 3: three packets, with payloads of
--- 64, 64 and 2 bytes and fourth bytes 8b, 1b and 6b.
+-- A body of 130 bytes at a unit of 64, with the tag owner bit and tag 3: three packets, with payloads of 64, 64 and 2
+-- bytes and fourth bytes 8b, 1b and 6b.
 use Rattle.std.proofs.Common.{◌≡◌, refl, ℕ, true, List, [], ◌∷◌, ◌++◌, length, map, drop, slice_index, get_or}
 use Rattle.std.specs.List.{range_with_len}
 use Rattle.spdm_basis.specs.declared.DropCause.TheVariants.{WrongSequence, NoStart}

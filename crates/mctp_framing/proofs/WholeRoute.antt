@@ -1,4 +1,4 @@
--- The route of a packet that completes a body leads from the peer to the own end point.
+-- The route of a packet that completes a body leads from the peer to the own endpoint.
 use Rattle.std.proofs.Common.{◌≡◌, ◌∙◌, ◌==◌, ℕ, Bool, true, false, not, List, refl, sym, ap}
 use Rattle.std.specs.Prelude.{if◌then◌else◌}
 use Rattle.std.proofs.lemmas.Bool.{eqb-true}
@@ -10,7 +10,7 @@ use Rattle.mctp_framing.specs.Gathering.Gathered.{Whole, Dropped}
 use Rattle.mctp_framing.specs.Assembling.{Assembly, answer_to}
 use Rattle.mctp_framing.proofs.GroupStep.{both_true}
 
--- what is not dropped as another end point's is for the own one and from the peer
+-- what is not dropped as another endpoint's is for the own one and from the peer
 ours_unless_dropped : (ours : Bool) (route : RouteFields) (body : List ℕ) (other : Gathered) → Whole route body ≡ (if not ours then Dropped NotOurs else other) → ours ≡ true
 ours_unless_dropped true route body other e = refl
 ours_unless_dropped false route body other e = absurd (cc)

@@ -1,5 +1,5 @@
--- What an assembler keeps, what one packet does to it, and the packets that it stands for. This project's
--- own. The rules themselves are those of gathering.
+-- What an assembler keeps, what one packet does to it, and the packets that it stands for. This project's own. The
+-- rules themselves are those of gathering.
 use Rattle.std.specs.Prelude.{◌≡◌, ◌==◌, ◌+◌, ◌%◌, ◌&&◌, ℕ, Bool, true, false, not, nat_lt, List, [], ◌∷◌, ◌++◌, length, filter, if◌then◌else◌, Option, Some, None}
 use Rattle.std.specs.Bool.{beq}
 use Rattle.spdm_basis.specs.declared.DropCause.{DropCause}
@@ -78,8 +78,8 @@ answer_to a p =
     else (if p.start then answer_from (broken_rule a.receiver.limit (p ∷ [])) p ([] ++ p.payload)
     else answer_later a.unfinished a p)
 
--- What is unfinished is what the newest packet of an unfinished group leads to, with the payloads of the
--- group; or no group is unfinished.
+-- What is unfinished is what the newest packet of an unfinished group leads to, with the payloads of the group; or no
+-- group is unfinished.
 abbrev pub StandsForGroup : (limit : ℕ) → Option Unfinished → (body : List ℕ) → (group : List PacketFields) → Type 0
 StandsForGroup limit None body group = is_unfinished limit group ≡ false
 StandsForGroup limit (Some u) body [] = ⊥

@@ -3,8 +3,8 @@ use Rattle.std.specs.Prelude.{◌≡◌, ◌<◌, ◌≤◌, ℕ, List, length, 
 use Rattle.mctp_framing.specs.Cutting.{RouteFields}
 use Rattle.mctp_framing.specs.Gathering.{Receiver}
 
--- The route leads from the peer to the own end point, the body is not empty, has no integrity check bit
--- and is not longer than the limit, and the unit is not 0.
+-- The route leads from the peer to the own endpoint, the body is not empty, has no integrity check bit and is not
+-- longer than the limit, and the unit is not 0.
 pub record IsGatherable (r : Receiver) (route : RouteFields) (unit : ℕ) (body : List ℕ) : Type 0 where
   pub to_is : route.to ≡ r.own
   pub from_is : route.from ≡ r.peer

@@ -20,8 +20,8 @@ route_of route = record { to = route.to.number; from = route.from.number; owner 
 abbrev pub packet_count : (unit : ℕ) → (body : List ℕ) → ℕ
 packet_count unit body = div_ceil (length body) unit
 
--- Packet number k of a body, counted from 0. Its payload is the u bytes of the body from k * u on, or
--- those that are left. Packet 0 has SOM, the last packet has EOM, and its sequence number is k modulo 4.
+-- Packet number k of a body, counted from 0. Its payload is the u bytes of the body from k * u on, or those that are
+-- left. Packet 0 has SOM, the last packet has EOM, and its sequence number is k modulo 4.
 abbrev pub nth_packet : RouteFields → (unit : ℕ) → (body : List ℕ) → ℕ → PacketFields
 nth_packet route unit body k =
     record {

@@ -1,6 +1,6 @@
--- Packets gathered into message bodies (DSP0236, "Message assembly" and "Dropped packets"). That there is
--- a limit, that a body with the integrity check bit is refused, and that every payload but the last has
--- the size of the first, are this project's own.
+-- Packets gathered into message bodies (DSP0236, "Message assembly" and "Dropped packets"). That there is a limit, that
+-- a body with the integrity check bit is refused, and that every payload but the last has the size of the first, are
+-- this project's own.
 --
 -- Each list of packets below has the newest first.
 use Rattle.std.specs.Prelude.{◌==◌, ◌+◌, ◌%◌, ◌&&◌, ◌||◌, ℕ, Bool, false, not, nat_lt, nat_le, List, [], ◌∷◌, ◌++◌, length, slice_index, filter, find, if◌then◌else◌, Option, Some, None, is_none}
@@ -10,7 +10,7 @@ use Rattle.spdm_basis.specs.declared.DropCause.TheVariants.{NotOurs, NoStart, Wr
 use Rattle.mctp_framing.specs.Packet.{PacketFields}
 use Rattle.mctp_framing.specs.Cutting.{RouteFields}
 
--- Who gathers: the own end point, the one that it hears, and how long a body may be.
+-- Who gathers: the own endpoint, the one that it hears, and how long a body may be.
 pub record Receiver : Type 0 where
   pub own : ℕ
   pub peer : ℕ
@@ -22,7 +22,7 @@ pub data Gathered : Type 0 where
   More : Gathered
   Dropped : (cause : DropCause) → Gathered
 
--- The packet is for the own end point and from the peer.
+-- The packet is for the own endpoint and from the peer.
 abbrev pub is_ours : Receiver → PacketFields → Bool
 is_ours r p = p.to == r.own && p.from == r.peer
 
@@ -64,16 +64,14 @@ abbrev pub first_cause : List (Bool × DropCause) → Option DropCause
 first_cause [] = None
 first_cause (test ∷ tests) = if test.0 then Some test.1 else first_cause tests
 
--- The payload of a later packet is empty, or longer than the first, or shorter than the first and without
--- EOM.
+-- The payload of a later packet is empty, or longer than the first, or shorter than the first and without EOM.
 abbrev pub has_wrong_size : PacketFields → (unit : ℕ) → Bool
 has_wrong_size p unit =
     (length p.payload == 0) || nat_lt unit (length p.payload) || (nat_lt (length p.payload) unit && not p.end)
 
--- The rule that the newest packet of a group breaks. A first packet: its payload is empty; bit 7 of its
--- first byte is set; it is longer than the limit. A later packet: its sequence number is not one above
--- that of the packet before it, modulo 4; its payload has the wrong size; the payloads up to it are longer
--- than the limit.
+-- The rule that the newest packet of a group breaks. A first packet: its payload is empty; bit 7 of its first byte is
+-- set; it is longer than the limit. A later packet: its sequence number is not one above that of the packet before it,
+-- modulo 4; its payload has the wrong size; the payloads up to it are longer than the limit.
 abbrev pub broken_rule : (limit : ℕ) → List PacketFields → Option DropCause
 broken_rule limit [] = None
 broken_rule limit (p ∷ []) = first_cause (
@@ -87,8 +85,7 @@ broken_rule limit (p ∷ q ∷ earlier) = first_cause (
     ∷ (nat_lt limit (length (joined (q ∷ earlier)) + length p.payload), TooLong)
     ∷ [])
 
--- A group that more packets are awaited for: it has a first packet, no member has EOM, and none breaks a
--- rule.
+-- A group that more packets are awaited for: it has a first packet, no member has EOM, and none breaks a rule.
 abbrev pub is_unfinished : (limit : ℕ) → List PacketFields → Bool
 is_unfinished limit [] = false
 is_unfinished limit (p ∷ []) = not p.end && is_none (broken_rule limit (p ∷ []))
@@ -99,8 +96,8 @@ is_unfinished limit (p ∷ q ∷ earlier) =
 abbrev pub route_of_packet : PacketFields → RouteFields
 route_of_packet p = record { to = p.to; from = p.from; owner = p.owner; tag = p.tag }
 
--- What a packet leads to, by the rule that it breaks and the payloads up to it: it is dropped for the
--- rule; else with EOM the payloads are a body, and without it more is awaited.
+-- What a packet leads to, by the rule that it breaks and the payloads up to it: it is dropped for the rule; else with
+-- EOM the payloads are a body, and without it more is awaited.
 abbrev pub answer_from : Option DropCause → PacketFields → (body : List ℕ) → Gathered
 answer_from (Some cause) p body = Dropped cause
 answer_from None p body = if p.end then Whole (route_of_packet p) body else More
@@ -114,10 +111,10 @@ abbrev pub belongs_to : (limit : ℕ) → PacketFields → (group : List PacketF
 belongs_to limit p [] = false
 belongs_to limit p (q ∷ earlier) = has_same_tag p q && is_unfinished limit (q ∷ earlier)
 
--- What a packet leads to, by all the packets that were given before it. One that is not for the own end
--- point, or not from the peer, is dropped, and counts in no group. One with SOM is a group by itself.
--- Another one is the next of the group of those before it, and has no start where there is no such group,
--- where it has another tag, or where the group was ended or broken by an earlier member.
+-- What a packet leads to, by all the packets that were given before it. One that is not for the own endpoint, or not
+-- from the peer, is dropped, and counts in no group. One with SOM is a group by itself. Another one is the next of the
+-- group of those before it, and has no start where there is no such group, where it has another tag, or where the group
+-- was ended or broken by an earlier member.
 abbrev pub gathered : Receiver → (earlier : List PacketFields) → PacketFields → Gathered
 gathered r earlier p =
     let group = group_of (filter (is_ours r) earlier) in

@@ -6,8 +6,8 @@ use Rattle.mctp_framing.specs.Packet.{PacketFields}
 use Rattle.mctp_framing.specs.Assembling.{Assembly, StandsFor}
 use Rattle.mctp_framing.specs.contracts.assembler.Assembler.{the_row}
 
--- An assembler that was given this packet: it gathers for the same receiver, and stands for the packets
--- that were given before and this one.
+-- An assembler that was given this packet: it gathers for the same receiver, and stands for the packets that were given
+-- before and this one.
 pub record TakesPacket (p : PacketFields) (old new : Assembly) : Type 0 where
   pub receiver : new.receiver ≡ old.receiver
   pub stands : (given : List PacketFields) → StandsFor old given → StandsFor new (p ∷ given)

@@ -4,8 +4,8 @@ use Rattle.spdm_basis.specs.declared.PacketFault.{PacketFault}
 use Rattle.spdm_basis.specs.declared.PacketFault.TheVariants.{Short, WrongVersion}
 use Rattle.mctp_framing.specs.declared.packet.PacketView.{PacketView}
 
--- The fields of a packet: destination and source, whether it is the first packet of its body (SOM) and
--- the last (EOM), its sequence number, the tag owner bit (TO) and the message tag, and its payload.
+-- The fields of a packet: destination and source, whether it is the first packet of its body (SOM) and the last (EOM),
+-- its sequence number, the tag owner bit (TO) and the message tag, and its payload.
 pub record PacketFields : Type 0 where
   pub to : ℕ
   pub from : ℕ
@@ -16,8 +16,8 @@ pub record PacketFields : Type 0 where
   pub tag : ℕ
   pub payload : List ℕ
 
--- The fields of at least four bytes. Byte 1 is the destination and byte 2 the source. Of byte 3, bit 7 is
--- SOM, bit 6 EOM, bits 5 and 4 the sequence number, bit 3 TO and bits 2 to 0 the tag. The payload follows.
+-- The fields of at least four bytes. Byte 1 is the destination and byte 2 the source. Of byte 3, bit 7 is SOM, bit 6
+-- EOM, bits 5 and 4 the sequence number, bit 3 TO and bits 2 to 0 the tag. The payload follows.
 abbrev pub fields_of : List ℕ → PacketFields
 fields_of bytes =
     let marks = slice_index bytes 3 in
@@ -32,8 +32,8 @@ fields_of bytes =
       payload = drop 4 bytes;
     }
 
--- Why bytes are no packet: first, there are fewer than four; second, the header version, bits 3 to 0 of
--- byte 0, is not 1. Bits 7 to 4 are reserved, and are not looked at.
+-- Why bytes are no packet: first, there are fewer than four; second, the header version, bits 3 to 0 of byte 0, is not
+-- 1. Bits 7 to 4 are reserved, and are not looked at.
 abbrev pub packet_fault : List ℕ → Option PacketFault
 packet_fault bytes =
     if nat_lt (length bytes) 4 then Some Short

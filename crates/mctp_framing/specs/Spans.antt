@@ -1,4 +1,4 @@
--- Packets one behind the other in one list of bytes. This project's own.
+-- Packets one after the other in one list of bytes. This project's own.
 use Rattle.std.specs.Prelude.{◌≤◌, ◌+◌, ℕ, List, map, length, slice_range, sum_by}
 use Rattle.std.specs.List.{AllByRecursion}
 use Rattle.mctp_framing.specs.declared.packet_list.Span.{Span}
@@ -11,7 +11,7 @@ bytes_at bytes span = slice_range bytes span.start span.end
 abbrev pub packets_at : List ℕ → List Span → List (List ℕ)
 packets_at bytes spans = map (bytes_at bytes) spans
 
--- Where bytes lie that stand behind others.
+-- Where bytes lie that follow others.
 abbrev pub span_of : (before more : List ℕ) → Span
 span_of before more = record { start = length before; end = length before + length more }
 

@@ -14,8 +14,8 @@ use spdm_basis::{DropCause, Eid, OutOfMemory};
 use std::alloc::Global;
 use std::marker::Model;
 
-/// Gathers packets from one peer into message bodies (DSP0236, "Message assembly"). It keeps at most one
-/// unfinished body. Contracts see what it keeps as an `Assembly`.
+/// Gathers packets from one peer into message bodies (DSP0236, "Message assembly"). It keeps at most one unfinished
+/// body. Contracts see what it keeps as an `Assembly`.
 #[derive(Drop)]
 pub struct Assembler {
     own: Eid,
@@ -36,7 +36,7 @@ impl Model for Assembler {
     } };
 }
 
-/// What a packet led to.
+/// The outcome of a packet.
 #[derive(Clone, Copy, Debug, PartialEq, Eq)]
 pub enum Fed<'a> {
     /// It completed the body of this route, whose bytes lie in the assembler.
@@ -47,7 +47,7 @@ pub enum Fed<'a> {
     Dropped(DropCause),
 }
 
-// What a packet led to; a whole body lies in the assembler.
+// The outcome of a packet; a whole body lies in the assembler.
 #[derive(Clone, Copy, Debug)]
 pub(crate) enum Step {
     Whole,
@@ -56,8 +56,7 @@ pub(crate) enum Step {
 }
 
 impl Assembler {
-    /// An assembler that was given no packet. It takes the memory for a body of `limit` bytes, and no
-    /// more later.
+    /// An assembler that was given no packet. It takes the memory for a body of `limit` bytes, and no more later.
     pub fn new(alloc: Global, own: Eid, peer: Eid, limit: usize) -> Result<Assembler, OutOfMemory>
         ensures receiver { IfOk result
             (λ a. a.receiver ≡ record { own = own.number; peer = peer.number; limit = limit }) }
@@ -71,16 +70,15 @@ impl Assembler {
         })
     }
 
-    /// Takes a packet, as `Packet::parse` gives it. It takes no memory.
+    /// Takes a packet, as `Packet::parse` gives it. Never allocates.
     ///
-    /// The tests stand in this order. `NotOurs`: the destination is not the own end point, or the source
-    /// is not the peer; nothing changes. A packet with SOM drops what was unfinished; then `WrongSize`
-    /// where its payload is empty, `IntegritySet` where bit 7 of its first byte is set, `TooLong` where it
-    /// is longer than the limit. A packet without SOM: `NoStart` where nothing is unfinished, or another
-    /// tag or tag owner bit is; nothing changes. Then `WrongSequence` where it is not the next one,
-    /// `WrongSize` where its payload is empty, longer than the first, or shorter without EOM, and
-    /// `TooLong`; after these nothing is unfinished. Else the packet is added: with EOM the body is
-    /// `Whole`, and without it `More` is awaited.
+    /// Checked in this order. `NotOurs`: the destination is not the own endpoint, or the source is not the peer;
+    /// nothing changes. A packet with SOM drops what was unfinished; then `WrongSize` where its payload is empty,
+    /// `IntegritySet` where bit 7 of its first byte is set, `TooLong` where it is longer than the limit. A packet
+    /// without SOM: `NoStart` where nothing is unfinished, or another tag or tag owner bit is; nothing changes. Then
+    /// `WrongSequence` where it is not the next one, `WrongSize` where its payload is empty, longer than the first, or
+    /// shorter without EOM, and `TooLong`; after these nothing is unfinished. Else the packet is added: with EOM the
+    /// body is `Whole`, and without it `More` is awaited.
     pub fn take(&mut self, packet: PacketView<'_>) -> Fed<'_>
         requires sequence { packet.sequence < 4 }
         requires tag { packet.tag < 8 }
@@ -97,7 +95,7 @@ impl Assembler {
         }
     }
 
-    // The route of a packet for the own end point and from the peer.
+    // The route of a packet for the own endpoint and from the peer.
     fn route(&self, packet: PacketView<'_>) -> Route
         requires { packet.tag < 8 }
         ensures { route_of result ≡ record {

@@ -5,7 +5,7 @@ use spdm_basis::OutOfMemory;
 use std::alloc::Global;
 use std::marker::Model;
 
-/// A body that is being gathered: up to `limit` bytes, for which the memory was taken at the start.
+/// A body that is being gathered: up to `limit` bytes, allocated at construction.
 #[derive(Drop)]
 pub(crate) struct BodyBuffer {
     limit: usize,
@@ -55,7 +55,7 @@ impl BodyBuffer {
         self.bytes.clear();
     }
 
-    // Adds bytes at the end. They fit.
+    // Appends bytes. They fit.
     pub(crate) fn append(&mut self, more: &[u8])
         requires { length self.old.bytes + length more.now ≤ self.old.limit }
         ensures { self.new ≡ record self.old { bytes = self.old.bytes ++ more.now } }

@@ -33,8 +33,8 @@ impl<'a> Model for Cutter<'a> {
         × (c.count ≡ packet_count c.unit c.body.now) × (c.given ≤ c.count) };
 }
 
-/// Cuts a message body into packets of `unit` payload bytes, the last of which may be shorter
-/// (DSP0236, "Message assembly"). The body is not empty, and the unit is from 64 to 1,024.
+/// Cuts a message body into packets of `unit` payload bytes, the last of which may be shorter (DSP0236, "Message
+/// assembly"). The body is not empty, and the unit is from 64 to 1,024.
 pub fn cut<'a>(body: &'a [u8], unit: usize, route: Route) -> Cutter<'a>
     requires filled { 0 < length body.now }
     requires low { 64 ≤ unit }

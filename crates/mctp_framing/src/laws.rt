@@ -1,5 +1,4 @@
-//! Laws of the definitions: each is the contract of a function that does nothing. Call one where a proof
-//! needs it.
+//! Laws of the definitions: each is the contract of a function that does nothing. Call one where a proof needs it.
 ghost use Rattle.std.specs.Prelude.{◌≡◌, ◌≤◌, ◌<◌, ◌+◌, [], ◌∷◌, ◌++◌, true, ◌==◌, if◌then◌else◌, ℕ, List, Ok, All, length, map, drop, filter, slice_get, Some};
 ghost use Rattle.std.specs.List.{concat};
 ghost use Rattle.mctp_framing.specs.Packet.{PacketFields, fields_of, parsed, spelled_packet};
@@ -19,8 +18,7 @@ pub fn payloads_are_the_body()
         → concat (map (drop 4) (packets_of route unit body)) ≡ body }
 {}
 
-/// Each packet of a body has at most four bytes more than a unit, and packet `k` is the one that is
-/// defined as such.
+/// Each packet of a body has at most four bytes more than a unit, and packet `k` is the one that is defined as such.
 pub fn packets_fit()
     ensures count { (route : RouteFields) (unit : ℕ) (body : List ℕ)
         → length (packets_of route unit body) ≡ packet_count unit body }
@@ -35,8 +33,8 @@ pub fn short_body_is_one_packet()
         ≡ spelled_packet (only_packet route body) ∷ [] }
 {}
 
-/// A packet with SOM is answered alike whatever packets came before, and after one that is for the
-/// receiver each packet is answered as if none had come before that one.
+/// A packet with SOM is answered alike whatever packets came before, and after one that is for the receiver each packet
+/// is answered as if none had come before that one.
 pub fn first_packet_begins_anew()
     ensures answer { (r : Receiver) (earlier : List PacketFields) (p : PacketFields)
         → p.start ≡ true → gathered r earlier p ≡ gathered r [] p }
@@ -45,8 +43,8 @@ pub fn first_packet_begins_anew()
         → gathered r (later ++ p ∷ earlier) q ≡ gathered r (later ++ p ∷ []) q }
 {}
 
-/// What a packet leads to is the same with the packets that are not the receiver's left out of those given
-/// before it. So it goes by the receiver's packets alone.
+/// What a packet leads to is the same with the packets that are not the receiver's left out of those given before it.
+/// So it goes by the receiver's packets alone.
 pub fn others_count_in_nothing()
     ensures left_out { (r : Receiver) (earlier : List PacketFields) (p : PacketFields)
         → gathered r (filter (is_ours r) earlier) p ≡ gathered r earlier p }

@@ -1,8 +1,8 @@
-//! MCTP packets (DSP0236, "MCTP over transport bindings"): reading one, cutting a message body into
-//! packets, and gathering packets into bodies again.
+//! MCTP packets (DSP0236, "MCTP over transport bindings"): reading one, cutting a message body into packets, and
+//! gathering packets into bodies again.
 //!
-//! Read first: `gathered` in `specs/Gathering.antt`, what a packet leads to, told from all packets
-//! before it. Calls are `cut` and `Assembler::take`.
+//! Read first: `gathered` in `specs/Gathering.antt`, what a packet leads to, told from all packets before it. Calls are
+//! `cut` and `Assembler::take`.
 #![tactic(auto)]
 
 mod assembler;

@@ -6,9 +6,9 @@ use spdm_basis::PacketFault;
 /// The fields of a packet (DSP0236, "MCTP packet fields"). The payload lies where the packet lies.
 #[derive(Clone, Copy, Debug, PartialEq, Eq)]
 pub struct PacketView<'a> {
-    /// The destination end point.
+    /// The destination endpoint.
     pub to: u8,
-    /// The source end point.
+    /// The source endpoint.
     pub from: u8,
     /// Whether this is the first packet of its message body (SOM).
     pub start: bool,
@@ -34,9 +34,8 @@ pub(crate) const HEADER_VERSION: u8 = 1;
 pub struct Packet;
 
 impl Packet {
-    /// Reads the transport header of a packet. `Short` comes exactly where there are fewer than four
-    /// bytes, and then `WrongVersion` exactly where the header version is not 1. The reserved bits of
-    /// the first byte may hold anything.
+    /// Reads the transport header of a packet. Returns `Short` exactly when there are fewer than four bytes, and then
+    /// `WrongVersion` exactly when the header version is not 1. The reserved bits of the first byte may hold anything.
     pub fn parse(bytes: &[u8]) -> Result<PacketView<'_>, PacketFault>
         ensures parsed { view_of_result result ≡ parsed bytes.now }
         ensures sequence { IfOk result (λ view. view.sequence < 4) }

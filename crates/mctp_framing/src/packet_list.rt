@@ -14,8 +14,8 @@ const MAX_PACKETS: usize = 72;
 /// How many bytes they have together at most.
 const MAX_BYTES: usize = 8192;
 
-/// The packets of at most one message, kept one behind the other in memory that was taken at the start.
-/// Contracts see the list of the packets as lists of bytes.
+/// The packets of at most one message, kept one after the other in memory allocated at construction. Contracts see the
+/// list of the packets as lists of bytes.
 #[derive(Drop)]
 pub struct PacketList {
     bytes: Vec<u8>,
@@ -71,7 +71,7 @@ impl PacketList {
         self.spans.is_empty()
     }
 
-    /// The packet of this index, and `None` exactly where the index is not below the count.
+    /// The packet of this index, and `None` exactly when the index is not below the count.
     pub fn get(&self, index: usize) -> Option<&[u8]>
         ensures { option_copied result ≡ slice_get self.now index }
     {
@@ -79,7 +79,7 @@ impl PacketList {
         Some(&self.bytes[span.start..span.end])
     }
 
-    /// Takes all packets out.
+    /// Removes all packets.
     pub fn clear(&mut self)
         ensures { self.new ≡ [] }
     {
@@ -87,7 +87,7 @@ impl PacketList {
         self.spans.clear();
     }
 
-    /// Adds a packet at the end. It takes no memory.
+    /// Appends a packet. Never allocates.
     pub fn push(&mut self, packet: &[u8])
         requires packets { length self.old < 72 }
         requires bytes { total_len self.old + length packet.now ≤ 8192 }
@@ -99,8 +99,8 @@ impl PacketList {
 }
 
 impl PacketList {
-    /// Replaces the packets by those of a message body, as `cut` gives them. It takes no memory. The
-    /// body has at most 4,161 bytes, a secured record with its message type.
+    /// Replaces the packets by those of a message body, as `cut` gives them. Never allocates. The body has at most
+    /// 4,161 bytes, a secured record with its message type.
     pub fn fill(&mut self, body: &[u8], unit: usize, route: Route)
         requires filled { 0 < length body.now }
         requires fits { length body.now ≤ 4161 }

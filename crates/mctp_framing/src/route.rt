@@ -2,13 +2,13 @@ ghost use Rattle.std.specs.Prelude.{◌<◌};
 
 use spdm_basis::Eid;
 
-/// What the packets of one message body share: where they go, where they come from, and their message
-/// tag with its owner bit (DSP0236, "Message terminus").
+/// What the packets of one message body share: where they go, where they come from, and their message tag with its
+/// owner bit (DSP0236, "Message terminus").
 #[derive(Clone, Copy, Debug, PartialEq, Eq)]
 pub struct Route {
-    /// The destination end point.
+    /// The destination endpoint.
     pub to: Eid,
-    /// The source end point.
+    /// The source endpoint.
     pub from: Eid,
     /// The tag owner bit: set in a request, clear in its answer.
     pub owner: bool,

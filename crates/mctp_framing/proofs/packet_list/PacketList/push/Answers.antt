@@ -5,7 +5,7 @@ use Rattle.mctp_framing.specs.Spans.{span_of, bytes_at, packets_at, AreWithin, t
 use Rattle.mctp_framing.proofs.SpanList.{packets_at-pushed, AreWithin-pushed, total_len-pushed}
 use Rattle.mctp_framing.proofs.packet_list.PacketList.push.Goals as goal
 
--- what is kept is that with the packet behind it
+-- what is kept is that with the packet after it
 abbrev Kept : List ℕ → List Span → List ℕ → List ℕ → List Span → Type 0
 Kept bytes spans more all every = (all ≡ bytes ++ more) × (every ≡ spans ++ span_of bytes more ∷ [])
 
