@@ -3,7 +3,8 @@ use Rattle.std.specs.Prelude.{ℕ, zero, suc, ◌+◌, ◌==◌, if◌then◌els
 use Rattle.byteorder.specs.Endian.{little_bytes}
 use Rattle.spdm_grammar.specs.declared.told.block_spec.BlockSpec.{BlockSpec}
 
--- The seven bytes in front of a value: the index, the DMTF specification (bit 0), the size of what follows, the type of the value and its size.
+-- The seven bytes before a value: the index, the DMTF specification (bit 0), the size of what follows, the type of the
+-- value and its size.
 abbrev pub block_head : BlockSpec → List ℕ
 block_head block = (block.index ∷ 1 ∷ []) ++ little_bytes 2 (3 + length block.value) ++ (block.value_type ∷ []) ++ little_bytes 2 (length block.value)
 
@@ -11,7 +12,7 @@ block_head block = (block.index ∷ 1 ∷ []) ++ little_bytes 2 (3 + length bloc
 abbrev pub block_bytes : BlockSpec → List ℕ
 block_bytes block = block_head block ++ block.value
 
--- Blocks one behind the other.
+-- Blocks one after the other.
 abbrev pub record_of : List BlockSpec → List ℕ
 record_of [] = []
 record_of (block ∷ others) = block_bytes block ++ record_of others

@@ -27,7 +27,7 @@ inventory_fault blocks =
     else (if nat_lt 4054 (record_len blocks) then Some TooLong
     else None))
 
--- The cause of a fault: want of memory comes only where there is no other.
+-- The cause of a fault: allocation failure comes only where there is no other.
 abbrev pub IsCause : List BlockSpec → InventoryFault → Type 0
 IsCause blocks IndexOutOfRange = inventory_fault blocks ≡ Some IndexOutOfRange
 IsCause blocks IndexTaken = inventory_fault blocks ≡ Some IndexTaken

@@ -7,8 +7,8 @@ use spdm_basis::Frame;
 use spdm_grammar::BlockSpec;
 use spdm_grammar::names::MEASUREMENT_DMTF;
 
-/// The seven bytes in front of the value of a block (DSP0274, "Measurement block format" and "DMTF
-/// measurement specification format").
+/// The seven bytes before the value of a block (DSP0274, "Measurement block format" and "DMTF measurement specification
+/// format").
 pub fn block_head(block: &BlockSpec) -> [u8; 7]
     requires { length block.now.value ≤ 4047 }
     ensures { result ≡ block_head block.now }
@@ -27,7 +27,7 @@ pub fn block_head(block: &BlockSpec) -> [u8; 7]
     ]
 }
 
-// A number as two bytes, the lowest first.
+// A number as two bytes, little-endian.
 fn two_bytes(number: u16) -> [u8; 2]
     ensures { result ≡ little_bytes 2 number }
 {
@@ -46,7 +46,7 @@ pub fn push_block(block: &BlockSpec, out: &mut Frame)
     let _ = out.extend(block.value.as_slice());
 }
 
-/// Adds blocks, one behind the other.
+/// Adds blocks, one after the other.
 pub fn push_blocks(blocks: &[BlockSpec], out: &mut Frame)
     requires { length out.old + record_len blocks.now ≤ 4054 }
     ensures bytes { out.new ≡ out.old ++ record_of blocks.now }

@@ -1,6 +1,6 @@
 use thiserror::Error;
 
-/// Why blocks make no inventory, in the order in which it is tested.
+/// Why blocks make no inventory, in the order of the checks.
 #[derive(Clone, Copy, Debug, PartialEq, Eq, Error)]
 pub enum InventoryFault {
     /// An index is 0 or 255.

@@ -1,8 +1,7 @@
-//! The measurements of a responder: its blocks by rising index, the record that answers
-//! GET_MEASUREMENTS, and the summary hash (DSP0274, "MEASUREMENTS response message format").
+//! The measurements of a responder: its blocks by rising index, the record that answers GET_MEASUREMENTS, and the
+//! summary hash (DSP0274, "MEASUREMENTS response message format").
 //!
-//! Read first: `asked` in `specs/Records.antt`, the record that answers an operation. The call is
-//! `Inventory::record`.
+//! Read first: `asked` in `specs/Records.antt`, the record that answers an operation. The call is `Inventory::record`.
 #![tactic(auto)]
 
 mod block;
