@@ -29,7 +29,7 @@ answered_kinds offer = answered_once (map (λ (table : Table). table.kind) (tabl
 abbrev pub answer_bits : Choice → ℕ → ℕ
 answer_bits choice kind = if kind == 3 then aead_bit choice.aead else (if kind == 5 then 1 else 0)
 
--- The structures that answer types, one behind the other, each without external entries.
+-- The structures that answer types, one after the other, each without external entries.
 abbrev pub answer_tables : Choice → List ℕ → List ℕ
 answer_tables choice [] = []
 answer_tables choice (kind ∷ others) = (kind ∷ 0x20 ∷ answer_bits choice kind ∷ 0 ∷ []) ++ answer_tables choice others

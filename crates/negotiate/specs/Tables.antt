@@ -7,15 +7,17 @@ pub record Table : Type 0 where
   pub kind : ℕ
   pub value : ℕ
 
--- The fixed bits of the structure at the front: two bytes behind type and count, the low byte first.
+-- The fixed bits of the structure at the front: two bytes after type and count, little-endian.
 abbrev pub front_value : List ℕ → ℕ
 front_value bytes = little_number 2 (slice_index bytes 2 ∷ slice_index bytes 3 ∷ [])
 
--- The bytes behind the structure at the front: it has four bytes, and four for each external entry, of which the low four bits of its count tell the number.
+-- The bytes after the structure at the front: it has four bytes, and four for each external entry, of which the low
+-- four bits of its count tell the number.
 abbrev pub behind_front : List ℕ → List ℕ
 behind_front bytes = drop (4 + 4 * (slice_index bytes 1 % 16)) bytes
 
--- The structures that so many bytes hold, one behind the other. In bytes that do not hold so many, which are no sound message's, each missing byte counts as zero.
+-- The structures that so many bytes hold, one after the other. In bytes that do not hold so many, which are no sound
+-- message's, each missing byte counts as zero.
 abbrev pub tables_in : ℕ → List ℕ → List Table
 tables_in zero bytes = []
 tables_in (suc count) bytes = record { kind = slice_index bytes 0; value = front_value bytes } ∷ tables_in count (behind_front bytes)

@@ -3,7 +3,7 @@ use Rattle.std.specs.Prelude.{ℕ, List, [], ◌∷◌, ◌/◌, ◌==◌, if◌
 use Rattle.byteorder.specs.Endian.{little_number}
 use Rattle.spdm_grammar.specs.declared.names.spdm_version.TheConstants.{V1_2}
 
--- The version entries that bytes hold: two bytes each, the low byte first. A byte at the end that has no second one is none.
+-- The version entries that bytes hold: two bytes each, little-endian. A byte at the end that has no second one is none.
 abbrev pub version_entries : List ℕ → List ℕ
 version_entries [] = []
 version_entries (low ∷ []) = []

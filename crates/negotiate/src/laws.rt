@@ -14,7 +14,7 @@ pub fn selected_is_agreed()
         selected offer policy ≡ Some choice → agreed offer (reply_of offer choice) ≡ Some choice }
 {}
 
-/// The reply to an offer has a spelling.
+/// The reply to an offer has an encoding.
 pub fn reply_is_sound()
     ensures { (offer : OfferMessage) (choice : Choice) → IsSoundReply (reply_of offer choice) }
 {}

@@ -1,6 +1,6 @@
-//! What two ends agree on before a session: the version, what both can do, and the algorithms
-//! (DSP0274, "GET_VERSION", "GET_CAPABILITIES" and "NEGOTIATE_ALGORITHMS"). No call takes memory, and
-//! each answer is a function of both ends' messages and of what an end has.
+//! What two ends agree on before a session: the version, what both can do, and the algorithms (DSP0274, "GET_VERSION",
+//! "GET_CAPABILITIES" and "NEGOTIATE_ALGORITHMS"). No call allocates, and each answer is a function of both ends'
+//! messages and of what an end has.
 //!
 //! Read first: `reply_of` in `specs/Reply.antt`, the answer to an offer. The call is `select`.
 #![tactic(auto)]

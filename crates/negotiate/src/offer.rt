@@ -11,9 +11,9 @@ use spdm_grammar::{AlgOffer, Pick, Suites};
 // OtherParamsSupport: opaque data format 1.
 const OPAQUE_FORMAT_1: u8 = 2;
 
-/// The offer of a requester that has `suites`, to a responder whose DataTransferSize is `transfer`. It
-/// offers SHA-384 only where that is at least 52, and `None` comes exactly where no hash is left to
-/// offer. Four algorithm structures stand in it, of DHE, AEAD, ReqBaseAsymAlg and KeySchedule.
+/// The offer of a requester that has `suites`, to a responder whose DataTransferSize is `transfer`. It offers SHA-384
+/// only where that is at least 52, and returns `None` exactly when no hash is left to offer. Four algorithm structures
+/// stand in it, of DHE, AEAD, ReqBaseAsymAlg and KeySchedule.
 pub fn own_offer(suites: Suites, transfer: u32) -> Option<AlgOffer<'static>>
     ensures value { option_map offer_message result ≡ offer_of suites transfer }
     ensures sound { IfSome result (λ offer. IsSoundOffer (offer_message offer)) }
@@ -51,8 +51,8 @@ fn hash_offer(pick: Pick, transfer: u32) -> u32
     small + large
 }
 
-// The algorithm structures: no DHE group, the AEADs of the pick, no signature algorithm of the
-// requester, and the key schedule of SPDM.
+// The algorithm structures: no DHE group, the AEADs of the pick, no signature algorithm of the requester, and the key
+// schedule of SPDM.
 fn offer_tables(pick: Pick) -> &'static [u8]
     ensures { result.now ≡ offer_tables (pick_bits pick) }
 {

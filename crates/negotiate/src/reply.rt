@@ -13,8 +13,8 @@ use spdm_grammar::names::{
 use spdm_grammar::{AeadAlg, AlgOffer, AlgReply, Choice, HashAlg};
 use std::marker::Model;
 
-/// The reply of a responder to an offer, with the algorithm structures that `AlgReply` lends. Contracts
-/// see it as the message.
+/// The reply of a responder to an offer, with the algorithm structures that `AlgReply` lends. Contracts see it as the
+/// message.
 #[derive(Clone, Debug, Drop)]
 pub struct Reply {
     choice: Choice,
@@ -49,8 +49,8 @@ impl Reply {
     ghost use Rattle.spdm_grammar.specs.Message.{offer_message, reply_message};
     ghost use Rattle.negotiate.specs.Reply.{reply_of};
 
-    /// The reply to a sound offer with this choice (DSP0274, "ALGORITHMS"): one algorithm structure for
-    /// the first structure of each known type in the offer, in the offer's order.
+    /// The reply to a sound offer with this choice (DSP0274, "ALGORITHMS"): one algorithm structure for the first
+    /// structure of each known type in the offer, in the offer's order.
     pub fn new(offer: &AlgOffer<'_>, choice: Choice) -> Reply
         ensures { result ≡ reply_of (offer_message offer.now) choice }
     {

@@ -23,10 +23,9 @@ pub struct AlgPolicy {
 // The least DataTransferSize of a responder with which SHA-384 is used.
 const SHA_384_TRANSFER: u32 = 52;
 
-/// What a responder chooses of a sound offer (DSP0274, "NEGOTIATE_ALGORITHMS"). It uses an algorithm
-/// that is offered and that it has, SHA-384 only with a DataTransferSize of at least 52, and prefers
-/// SHA-384 and AES-256-GCM. `NoChoice` comes exactly where no hash or no AEAD can be used, or the key
-/// schedule of SPDM is not offered.
+/// What a responder chooses of a sound offer (DSP0274, "NEGOTIATE_ALGORITHMS"). It uses an algorithm that is offered
+/// and that it has, SHA-384 only with a DataTransferSize of at least 52, and prefers SHA-384 and AES-256-GCM. Returns
+/// `NoChoice` exactly when no hash or no AEAD can be used, or the key schedule of SPDM is not offered.
 pub fn select(offer: &AlgOffer<'_>, policy: &AlgPolicy) -> Result<Choice, NoChoice>
     ensures { result_ok result ≡ selected (offer_message offer.now) policy.now }
 {

@@ -30,8 +30,8 @@ pub struct Sizes {
 }
 
 impl Sizes {
-    /// Whether an end may be set up with them: DataTransferSize is from 42 to 4,096, and
-    /// MaxSPDMmsgSize from it to 4,096; without CHUNK_CAP they are equal.
+    /// Whether an end may be set up with them: DataTransferSize is from 42 to 4,096, and MaxSPDMmsgSize from it to
+    /// 4,096; without CHUNK_CAP they are equal.
     pub fn may_be_own(&self, chunk: bool) -> bool
         ensures { result ≡ may_be_own self.now chunk }
     {

@@ -3,14 +3,14 @@ ghost use Rattle.negotiate.specs.Tables.{front_value, behind_front, tables_in, v
 
 use byteorder::{ByteOrder, LittleEndian};
 
-/// The byte at this place, and zero behind the end.
+/// The byte at this place, and zero after the end.
 pub fn byte_at(bytes: &[u8], at: usize) -> u8
     ensures { result ≡ slice_index bytes.now at }
 {
     bytes.get(at).copied().unwrap_or(0)
 }
 
-/// What stands behind the algorithm structure at the front.
+/// What follows the algorithm structure at the front.
 pub fn behind_front(bytes: &[u8]) -> &[u8]
     ensures { result.now ≡ behind_front bytes.now }
 {
