@@ -1,4 +1,4 @@
--- The chunk of a large answer that is awaited in a session.
+-- The chunk of a large response that is awaited in a session.
 use Rattle.std.proofs.Common.{◌≡◌, subst, ℕ, List}
 use Rattle.chunking.specs.Keeping as keeping
 use Rattle.requester_machine.specs.Message.Ask.{AskChunk}

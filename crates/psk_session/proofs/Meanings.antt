@@ -42,7 +42,7 @@ FitsMeaning s a answer (Piece op c) = IsAskedFor a op c
 
 -- ---- The contents.
 
--- What was read stands behind the type.
+-- What was read follows the type.
 abbrev AreContents : (h : ℕ) → List ℕ → Result Contents BadReply → Type 0
 AreContents h bytes (Err fault) = ⊤
 AreContents h bytes (Ok (AppData held)) = held ≡ bytes

@@ -92,7 +92,7 @@ next_as key id psk s number inner pad sealed is same e = e ∙ sym (as_next key 
 
 -- ---- Another padding.
 
--- What is kept does not hang on the padding of the newest record.
+-- What is kept does not depend on the padding of the newest record.
 pub keeps_repadded : (w : Awaited) (before : List ChunkMessage) (inner old new : List ℕ) (kept : Kept) (psk : List ℕ) (s : Steps) (epoch : ℕ) → Keeps kept psk (Asked (awaited_by w before) inner old ∷ s) epoch
     → Keeps kept psk (Asked (awaited_by w before) inner new ∷ s) epoch
 keeps_repadded w before inner old new kept psk s epoch k =

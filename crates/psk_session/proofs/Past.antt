@@ -1,4 +1,4 @@
--- A session past its handshake goes under its application keys, and what it asks keeps them.
+-- An established session goes under its application keys, and what it asks keeps them.
 use Rattle.std.proofs.Common.{◌≡◌, ◌∙◌, ap, sym, subst, refl, ℕ, ◌+◌, ◌-◌, ◌<◌, ◌≤◌, ◌^◌, List, ◌∷◌, true, false, Bool, arith}
 use Rattle.std.specs.Prelude.{◌||◌, min, if◌then◌else◌}
 use Rattle.key_schedule.specs.Purpose.{Purpose, application_record}

@@ -33,8 +33,7 @@ command_fault_of NotNegotiated = fault.NotNegotiated
 command_fault_of KeySpent = fault.KeySpent
 command_fault_of TooLong = fault.TooLong
 
--- The command fails with the fault of the ask; without one it adds the record that asks it to the
--- session.
+-- The command fails with the fault of the ask; without one it adds the record that asks it to the session.
 abbrev pub LeadsBy : ReqSetup → History → Free → Draw → (id : ℕ) → Ask → Option AskFault → Type 0
 LeadsBy q h f d id a (Some cause) =
     asking.asks false q h (command_at id a) f d ≡ Fails (command_fault_of cause)
@@ -43,8 +42,8 @@ LeadsBy q h f d id a None =
     × (asking.asks false q h (command_at id a) f d ≡ Adds (Told (command_at id a) sent d))
     × (session_of id (Told (command_at id a) sent d ∷ h) ≡ asked q.psk (session_of id h) a f.pad)
 
--- So it is at each connected requester that is not worn out, has nothing outstanding, and whose
--- session with this id is live.
+-- So it is at each connected requester that is not worn out, has nothing outstanding, and whose session with this id is
+-- live.
 abbrev pub AskIsCommand : Type 0
 AskIsCommand = (q : ReqSetup) (h : History) (f : Free) (d : Draw) (id : ℕ) (a : Ask)
     → outstanding h ≡ None → is_negotiated (phase_of h) ≡ true → is_live (session_of id h) ≡ true

@@ -9,8 +9,7 @@ use Rattle.psk_session.specs.declared.ask_fault.AskFault.{AskFault}
 use Rattle.psk_session.specs.declared.req_open.ReqOpen.{ReqOpen}
 use Rattle.psk_session.specs.declared.waiting.Waiting.{Waiting}
 
--- A state of the session with the record that asks it, padded so; or the same state, with the fault
--- of the ask.
+-- A state of the session with the record that asks it, padded so; or the same state, with the fault of the ask.
 abbrev pub IsAsked : Seen → (psk : List ℕ) → Steps → Ask → (pad : List ℕ)
     → Result Waiting (ReqOpen × AskFault) → Type 0
 IsAsked old psk s a pad (Ok state) =

@@ -1,5 +1,5 @@
--- What a requester asks of an open session. Which asks have a fault, and what is sent, is that of
--- the commands of the definitions.
+-- What a requester asks of an open session. Which asks have a fault, and what is sent, is that of the commands of the
+-- definitions.
 use Rattle.std.specs.Prelude.{ℕ, List, [], ◌∷◌, length, nat_lt, Bool, true, false, Option, None}
 use Rattle.spdm_basis.specs.Tests.{first_of_tests}
 use Rattle.requester_machine.specs.Commands.{lacks, is_spent}
@@ -39,8 +39,7 @@ abbrev pub is_long : Ask → Bool
 is_long (ask.Data bytes) = nat_lt 1024 (length bytes.now)
 is_long _ = false
 
--- Its fault, the first that holds: it was not negotiated, a key sealed too many records for it, or
--- it is too long.
+-- Its fault, the first that holds: it was not negotiated, a key sealed too many records for it, or it is too long.
 unfoldable pub ask_fault : Steps → Ask → Option AskFault
 ask_fault s a = first_of_tests (
     (lacks (session_terms s) (command_of a), NotNegotiated)

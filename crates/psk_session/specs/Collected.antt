@@ -1,4 +1,4 @@
--- What the chunk of a large answer leads to that is awaited.
+-- What the chunk of a large response leads to that is awaited.
 use Rattle.std.specs.Prelude.{◌≡◌, ℕ, List, Option, Some, None}
 use Rattle.chunking.specs.Collecting.{accepted_with, collected}
 use Rattle.chunking.specs.Collecting.Collection.{More}
@@ -10,9 +10,8 @@ use Rattle.psk_session.specs.Held.{verdict_with}
 use Rattle.psk_session.specs.Verdict.{Fits, chunk_course, course_of}
 use Rattle.psk_session.specs.declared.outcome.Outcome.{Outcome}
 
--- The chunk has this outcome, with these bytes put down: that of the large answer which it
--- completes, or of its refusal. Or there is none, and the chunk was gathered, behind which more are
--- awaited.
+-- The chunk has this outcome, with these bytes put down: that of the large response which it completes, or of its
+-- refusal. Or there is none, and the chunk was gathered, after which more are awaited.
 abbrev pub IsCollected : (psk : List ℕ) → Steps → (op handle number : ℕ)
     → (before : List ChunkMessage) → (sealed : List ℕ) → ChunkMessage → (gathered : keeping.Kept)
     → (bytes : List ℕ) → Option Outcome → Type 0

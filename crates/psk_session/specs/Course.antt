@@ -20,15 +20,15 @@ use Rattle.spdm_grammar.specs.declared.told.event.Finished.TheVariants as finish
 use Rattle.psk_session.specs.declared.reply.Reply.{Reply}
 use Rattle.psk_session.specs.declared.reply.Reply.TheVariants as reply
 
--- The session is lost; it is ended; what was asked is answered; or a further record is sent, which
--- asks this by this inner message.
+-- The session is lost; it is ended; what was asked is answered; or a further record is sent, which asks this by this
+-- inner message.
 pub data Course : Type 0 where
   Lost : (fault : BadReply) → Course
   Ended : Course
   Answered : (reply : Reply) → (effect : Effect) → Course
   GoesOn : (effect : Effect) → (ask : Ask) → (inner : List ℕ) → Course
 
--- What is told of an answer.
+-- What is reported of an answer.
 abbrev pub event_of : SessionId → Reply → Event
 event_of id reply.Data = event.Done (finished.Answered id)
 event_of id reply.Alive = event.Done (finished.Alive id)
@@ -51,8 +51,8 @@ abbrev pub came_to : (psk : List ℕ) → (id : ℕ) → Steps → Ask → (seal
 came_to psk id s a sealed =
     record { id = id; steps = s; sealed = sealed; inner = answer_inner psk s a sealed }
 
--- The record opens, and takes this course by the definitions of each requester whose sizes are
--- those of the session's terms.
+-- The record opens, and takes this course by the definitions of each requester whose sizes are those of the session's
+-- terms.
 abbrev pub TakesCourse : (psk : List ℕ) → Steps → Ask → (sealed : List ℕ) → Course → Type 0
 TakesCourse psk s a sealed course =
     (answer_fault psk s a sealed ≡ None)

@@ -6,7 +6,7 @@ use Rattle.requester_machine.specs.Session.{Steps}
 use Rattle.requester_machine.specs.Session.Step.{Took}
 use Rattle.requester_machine.specs.Shown.{bytes_in, blocks_in}
 
--- The application data or the measurement record that was brought; no bytes where none was.
+-- The application data or the measurement record that was brought; empty where none was.
 abbrev pub data_in : Effect → List ℕ
 data_in effect = unwrap_or (option_or (bytes_in effect) (blocks_in effect)) []
 

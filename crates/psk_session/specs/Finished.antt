@@ -1,5 +1,4 @@
--- What comes of a record while PSK_FINISH_RSP is awaited. The answers are those of the definitions
--- of a requester.
+-- What comes of a record while PSK_FINISH_RSP is awaited. The answers are those of the definitions of a requester.
 use Rattle.std.specs.Prelude.{◌≡◌, ℕ, List, drop, Option, Some, None, Result, Ok, Err}
 use Rattle.requester_machine.specs.Answers.{is_done}
 use Rattle.requester_machine.specs.Commands.{Free}
@@ -40,8 +39,8 @@ finish_led came None =
 
 -- ---- The record.
 
--- The record is taken with this verdict on its inner message, by each requester whose transfer size
--- is that of the session's terms.
+-- The record is taken with this verdict on its inner message, by each requester whose transfer size is that of the
+-- session's terms.
 abbrev pub IsJudged : (psk : List ℕ) → Steps → (sealed : List ℕ) → Option BadReply → Type 0
 IsJudged psk s sealed verdict =
     (answer_fault psk s AskFinish sealed ≡ None)
@@ -56,8 +55,8 @@ finished_by psk s sealed =
     with_taken psk s AskFinish sealed
     (Grants AskFinish (drop 1 (answer_inner psk s AskFinish sealed)))
 
--- What came of a record: the session is open; it is lost; or the record did not open, with its
--- fault, and the state is the same.
+-- The outcome of a record: the session is open; it is lost; or the record did not open, with its fault, and the state
+-- is the same.
 abbrev pub IsFinishTook : finishing.Seen → (psk : List ℕ) → Steps → (sealed : List ℕ) → FinishTook
     → Type 0
 IsFinishTook old psk s sealed (took.Open state) =

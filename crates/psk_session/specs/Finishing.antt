@@ -20,8 +20,8 @@ use Rattle.session_keys.specs.declared.handshake.Handshake.{Handshake}
 use Rattle.session_keys.specs.declared.terms.SessionTerms.{SessionTerms}
 use Rattle.psk_session.specs.Opening.{accepted, finish_record}
 
--- The state as contracts see it: the running hash of the transcript so far, what the handshake
--- fixed, the key of the responder's records, the id, the record of PSK_FINISH and the terms.
+-- The state as contracts see it: the running hash of the transcript so far, what the handshake fixed, the key of the
+-- responder's records, the id, the record of PSK_FINISH and the terms.
 pub record Seen : Type 0 where
   pub lane : Lane
   pub handshake : Handshake
@@ -35,8 +35,8 @@ abbrev pub finish_message : (psk : List ℕ) → Negotiation → (exchange answe
 finish_message psk n exchange answer =
     canonical_request (PskFinish (finish_verify psk (accepted n exchange answer)))
 
--- The state stands for the session that this PSK_EXCHANGE began under this negotiation, that this
--- answer accepted, and whose PSK_FINISH was sent with this padding.
+-- The state stands for the session that this PSK_EXCHANGE began under this negotiation, that this answer accepted, and
+-- whose PSK_FINISH was sent with this padding.
 pub record StandsFor (seen : Seen) (psk : List ℕ) (n : Negotiation)
     (exchange answer pad : List ℕ) : Type 0 where
   pub terms : AreTermsOf seen.terms n exchange

@@ -13,8 +13,8 @@ pub data Contents : Type 0 where
   Spoken : (message : ResponseMessage) → Contents
   AppData : (bytes : List ℕ) → Contents
 
--- By the fault that it has before it is read, by whether its type is that of an SPDM message, and
--- by what stands behind the type: read as a response, and as it is.
+-- By the fault that it has before it is read, by whether its type is that of an SPDM message, and by what follows the
+-- type: read as a response, and as it is.
 abbrev pub contents_by : Option BadReply → (is_message : Bool) → Result ResponseMessage Malformed
     → List ℕ → Result Contents BadReply
 contents_by (Some fault) is_message reading bytes = Err fault
@@ -22,8 +22,8 @@ contents_by None true (Err fault) bytes = Err (bad.Malformed fault.at)
 contents_by None true (Ok message) bytes = Ok (Spoken message)
 contents_by None false reading bytes = Ok (AppData bytes)
 
--- What an inner message holds that came to this requester in a session of hashes of this length, or
--- why it holds nothing.
+-- What an inner message holds that came to this requester in a session of hashes of this length, or why it holds
+-- nothing.
 abbrev pub contents_of : ReqSetup → (hash_len : ℕ) → List ℕ → Result Contents BadReply
 contents_of q hash_len inner =
     contents_by (inner_fault q inner) (slice_index inner 0 == 5)

@@ -7,9 +7,8 @@ use Rattle.spdm_machine.specs.Sessions.{is_past_handshake}
 use Rattle.session_keys.specs.Keys.{IsKeyOf}
 use Rattle.psk_session.specs.declared.kept.Kept.{Kept}
 
--- It is kept of a session of these steps, past its handshake, with this pre-shared key. The key of
--- responses is that of this epoch. The count of application messages is kept as far as it goes into
--- 64 bits.
+-- It is kept of a session of these steps, past its handshake, with this pre-shared key. The key of responses is that of
+-- this epoch. The count of application messages is kept as far as it goes into 64 bits.
 pub record Keeps (kept : Kept) (psk : List ℕ) (s : Steps) (epoch : ℕ) : Type 0 where
   pub past : is_past_handshake (stage_of s) ≡ true
   pub choice : kept.terms.choice ≡ (session_terms s).choice

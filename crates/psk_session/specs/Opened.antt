@@ -7,8 +7,7 @@ use Rattle.psk_session.specs.declared.finishing.Finishing.{Finishing}
 use Rattle.psk_session.specs.declared.open_fault.OpenFault.{OpenFault}
 use Rattle.psk_session.specs.declared.opening.Opening.{Opening}
 
--- A state of the accepted session, whose PSK_FINISH has this padding; or the same state, with the
--- fault of the answer.
+-- A state of the accepted session, whose PSK_FINISH has this padding; or the same state, with the fault of the answer.
 abbrev pub IsTaken : Seen → (psk : List ℕ) → Negotiation → (exchange answer pad : List ℕ)
     → Result Finishing (Opening × OpenFault) → Type 0
 IsTaken old psk n exchange answer pad (Ok state) =

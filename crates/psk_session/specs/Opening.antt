@@ -47,15 +47,13 @@ finishing psk n exchange answer pad =
 
 -- ---- The state of the program.
 
--- The state as contracts see it: the running hash of the transcript so far, the pre-shared key and
--- the terms.
+-- The state as contracts see it: the running hash of the transcript so far, the pre-shared key and the terms.
 pub record Seen : Type 0 where
   pub lane : Lane
   pub psk : List ℕ
   pub terms : SessionTerms
 
--- The state stands for the session that this PSK_EXCHANGE began under this negotiation, with this
--- pre-shared key.
+-- The state stands for the session that this PSK_EXCHANGE began under this negotiation, with this pre-shared key.
 pub record StandsFor (seen : Seen) (psk : List ℕ) (n : Negotiation)
     (exchange : List ℕ) : Type 0 where
   pub terms : AreTermsOf seen.terms n exchange
@@ -64,8 +62,7 @@ pub record StandsFor (seen : Seen) (psk : List ℕ) (n : Negotiation)
 
 -- ---- The answer.
 
--- Why a message is no answer: it is no PSK_EXCHANGE_RSP, or its verify data are not the computed
--- ones.
+-- Why a message is no answer: it is no PSK_EXCHANGE_RSP, or its verify data are not the computed ones.
 abbrev pub fault_by : (psk : List ℕ) → Negotiation → (exchange answer : List ℕ)
     → Result ResponseMessage Malformed → Option OpenFault
 fault_by psk n exchange answer (Err at) = Some (fault.Malformed at.at)

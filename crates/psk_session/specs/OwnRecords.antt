@@ -1,5 +1,4 @@
--- The records that a session at the requester seals itself, opened for one who judges them. This
--- project's own.
+-- The records that a session at the requester seals itself, opened for the checker them. This project's own.
 use Rattle.std.specs.Prelude.{◌≡◌, ◌≤◌, ℕ, List, length, Bool, true, false, Option, Some, None, Result, Ok, Err}
 use Rattle.key_schedule.specs.Keys.{DirectionSecret}
 use Rattle.requester_machine.specs.Message.{Ask}
@@ -35,8 +34,7 @@ unfoldable pub own_inner : (psk : List ℕ) → Steps → (sealed : List ℕ) �
 own_inner psk s sealed =
     inner_message (session_terms s).choice (request_purpose psk s) (request_next s) sealed
 
--- It opens as the record that the session would seal next, and its inner message is this; or it has
--- this fault.
+-- It opens as the record that the session would seal next, and its inner message is this; or it has this fault.
 abbrev pub IsOwnOpened : (psk : List ℕ) → Steps → (sealed : List ℕ) → Result Unit RecordFault
     → (out : List ℕ) → Type 0
 IsOwnOpened psk s sealed (Ok u) out =
@@ -55,8 +53,7 @@ abbrev pub TellsPadded : (psk : List ℕ) → Steps → (inner sealed : List ℕ
 TellsPadded psk s inner sealed true = IsPadded psk s inner sealed
 TellsPadded psk s inner sealed false = length sealed ≤ 4160 → IsPadded psk s inner sealed → ⊥
 
--- The session awaits the answer to a record that has another padding now; or the bytes are no such
--- record.
+-- The session awaits the answer to a record that has another padding now; or the bytes are no such record.
 abbrev pub IsRepadded : (psk : List ℕ) → Steps → Ask → (inner sealed : List ℕ)
     → (new : ReqSession) → Bool → Type 0
 IsRepadded psk s a inner sealed new true =

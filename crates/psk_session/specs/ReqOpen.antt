@@ -13,8 +13,8 @@ pub record Seen : Type 0 where
   pub kept : Kept
   pub brought : List ℕ
 
--- The state stands for a session of these steps, with this pre-shared key. Its next numbers are few
--- enough for one more record.
+-- The state stands for a session of these steps, with this pre-shared key. Its next numbers are few enough for one more
+-- record.
 pub record StandsFor (seen : Seen) (psk : List ℕ) (s : Steps) : Type 0 where
   pub stage : stage_of s ≡ Open
   pub keeps : Keeps seen.kept psk s (response_epoch s)

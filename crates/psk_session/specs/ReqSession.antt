@@ -40,7 +40,6 @@ waiting_of x =
 abbrev pub IsOpen : ReqSession → (psk : List ℕ) → Steps → Type 0
 IsOpen x psk s = (is_open x.standing ≡ true) × open_state.StandsFor (open_of x) psk s
 
--- It awaits an answer, and stands for a session of these steps with this pre-shared key, whose
--- newest record asks this.
+-- It awaits an answer, and stands for a session of these steps with this pre-shared key, whose newest record asks this.
 abbrev pub IsAwaiting : ReqSession → (psk : List ℕ) → Steps → Ask → Type 0
 IsAwaiting x psk s a = (is_awaiting x.standing ≡ true) × waiting.StandsFor (waiting_of x) psk s a

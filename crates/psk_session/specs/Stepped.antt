@@ -1,5 +1,5 @@
--- What comes of an ask and of a record where a session is stepped in place. The answers are those
--- of the definitions of a requester.
+-- What comes of an ask and of a record where a session is stepped in place. The answers are those of the definitions of
+-- a requester.
 use Rattle.std.specs.Prelude.{◌≡◌, ℕ, List, true, false, Some, None, Result, Ok, Err}
 use Rattle.requester_machine.specs.History.{Effect}
 use Rattle.requester_machine.specs.Message.{Ask}
@@ -16,17 +16,16 @@ use Rattle.psk_session.specs.declared.standing.Standing.TheVariants.{Closed}
 use Rattle.psk_session.specs.declared.told.Told.{Told}
 use Rattle.psk_session.specs.declared.told.Told.TheVariants as told
 
--- The session with the record that asks it, padded so, awaits the answer; or the ask has this
--- fault.
+-- The session with the record that asks it, padded so, awaits the answer; or the ask has this fault.
 abbrev pub IsAskedBy : (psk : List ℕ) → Steps → declared.Ask → (pad : List ℕ) → (new : ReqSession)
     → Result Unit AskFault → Type 0
 IsAskedBy psk s a pad new (Ok u) =
     (ask_fault s a ≡ None) × IsAwaiting new psk (asked psk s a pad) (asked_of a)
 IsAskedBy psk s a pad new (Err fault) = ask_fault s a ≡ Some fault
 
--- What is told and left is what this course leaves of the session: nothing where it is lost or
--- ended; where it is answered the open session with the record, which it outlives; and where a
--- further record is sent, the session with both, that record with this padding.
+-- What is reported and left is what this course leaves of the session: nothing where it is lost or ended; where it is
+-- answered the open session with the record, which it outlives; and where a further record is sent, the session with
+-- both, that record with this padding.
 abbrev pub Follows : (psk : List ℕ) → Steps → Ask → (sealed pad : List ℕ) → (new : ReqSession)
     → Told → Course → Type 0
 Follows psk s a sealed pad new (told.Bad fault) course = course ≡ Lost fault
@@ -40,8 +39,8 @@ Follows psk s a sealed pad new told.Next course =
     × IsAwaiting new psk (with_asked psk (with_taken psk s a sealed effect) next inner pad) next
 Follows psk s a sealed pad new (told.Stay fault) course = ⊥
 
--- What came of a record: it did not open, with its fault, and nothing changed; or it takes a course
--- by the definitions, and what is told and left follows that.
+-- The outcome of a record: it did not open, with its fault, and nothing changed; or it takes a course by the
+-- definitions, and what is told and left follows that.
 abbrev pub IsToldOf : (old : ReqSession) → (psk : List ℕ) → Steps → Ask → (sealed pad : List ℕ)
     → (new : ReqSession) → Told → Type 0
 IsToldOf old psk s a sealed pad new (told.Stay fault) =
@@ -50,7 +49,7 @@ IsToldOf old psk s a sealed pad new other =
     (course : Course) × TakesCourse psk s a sealed course
     × Follows psk s a sealed pad new other course
 
--- How the session stands behind what is told of a record that opened, whatever it stands for.
+-- How the session follows what is reported of a record that opened, whatever it stands for.
 abbrev pub IsStanding : (new : ReqSession) → Told → Type 0
 IsStanding new (told.Answer reply) = is_open new.standing ≡ true
 IsStanding new told.Next = is_awaiting new.standing ≡ true
@@ -58,7 +57,7 @@ IsStanding new told.Ended = new.standing ≡ Closed
 IsStanding new (told.Bad fault) = new.standing ≡ Closed
 IsStanding new (told.Stay fault) = ⊥
 
--- And behind what is told of any record: one that did not open changes nothing.
+-- And after what is reported of any record: one that did not open changes nothing.
 abbrev pub IsLeft : (old new : ReqSession) → Told → Type 0
 IsLeft old new (told.Stay fault) = new ≡ old
 IsLeft old new other = IsStanding new other

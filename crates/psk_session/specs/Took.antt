@@ -1,5 +1,5 @@
--- What comes of a record while the answer to an ask is awaited. The answers are those of the
--- definitions of a requester.
+-- What comes of a record while the answer to an ask is awaited. The answers are those of the definitions of a
+-- requester.
 use Rattle.std.specs.Prelude.{◌≡◌, ℕ, List, false, Some}
 use Rattle.requester_machine.specs.History.{Effect}
 use Rattle.requester_machine.specs.Message.{Ask}
@@ -12,9 +12,9 @@ use Rattle.psk_session.specs.Waiting as waiting
 use Rattle.psk_session.specs.declared.took.Took.{Took}
 use Rattle.psk_session.specs.declared.took.Took.TheVariants as took
 
--- What came back is what this course leaves of the session: nothing where it is lost or ended;
--- where it is answered the open session with the record, which it outlives; and where a further
--- record is sent, the session with both, that record with this padding.
+-- What came back is what this course leaves of the session: nothing where it is lost or ended; where it is answered the
+-- open session with the record, which it outlives; and where a further record is sent, the session with both, that
+-- record with this padding.
 abbrev pub Follows : (psk : List ℕ) → Steps → Ask → (sealed pad : List ℕ) → Took → Course → Type 0
 Follows psk s a sealed pad (took.Bad closed fault) course = course ≡ Lost fault
 Follows psk s a sealed pad (took.Ended closed) course = course ≡ Ended
@@ -28,8 +28,8 @@ Follows psk s a sealed pad (took.Next state) course =
     (with_asked psk (with_taken psk s a sealed effect) next inner pad) next
 Follows psk s a sealed pad (took.Stay state fault) course = ⊥
 
--- What came of a record: it did not open, with its fault, and the state is the same; or it takes a
--- course by the definitions, and what came back follows that.
+-- The outcome of a record: it did not open, with its fault, and the state is the same; or it takes a course by the
+-- definitions, and what came back follows that.
 abbrev pub IsTook : waiting.Seen → (psk : List ℕ) → Steps → Ask → (sealed pad : List ℕ) → Took
     → Type 0
 IsTook old psk s a sealed pad (took.Stay state fault) =

@@ -1,5 +1,5 @@
--- What comes of an answer in a session is what the definitions of a requester do with it, at each
--- requester whose session it is.
+-- What comes of an answer in a session is what the definitions of a requester do with it, at each requester whose
+-- session it is.
 use Rattle.std.specs.Prelude.{⊤, ◌≡◌, ℕ, List, [], ◌∷◌, true, false, Option, Some, None, is_some, Result, Ok, Err}
 use Rattle.std.specs.Option.{option_or}
 use Rattle.requester_machine.specs.Answers.{goes_on}
@@ -115,14 +115,13 @@ DataAreLast =
 
 -- ---- The answer to PSK_EXCHANGE.
 
--- A message reads as no ERROR. An ERROR refuses the request, or calls for a large answer, before
--- its session sees it.
+-- A message reads as no ERROR. An ERROR refuses the request, or calls for a large response, before its session sees it.
 abbrev pub IsNoError : Result ResponseMessage Malformed → Type 0
 IsNoError (Ok (Error version code detail extended)) = ⊥
 IsNoError _ = ⊤
 
--- A message with a fault is ignored, with that fault; one without brings PSK_FINISH about, and is a
--- step of the session, with PSK_FINISH behind it.
+-- A message with a fault is ignored, with that fault; one without brings PSK_FINISH about, and is a step of the
+-- session, with PSK_FINISH after it.
 abbrev pub AnswersExchange : ReqSetup → History → Free → (tag : ℕ) → Draw → Negotiation
     → ExchangeMessage → (answer : List ℕ) → Option OpenFault → Type 0
 AnswersExchange q h f tag d n exchange answer (Some (MalformedAt at)) =
@@ -141,8 +140,7 @@ AnswersExchange q h f tag d n exchange answer None =
     × (session_of exchange.req_id (TookClear tag answer led d ∷ h)
     ≡ finishing q.psk n (canonical_request (PskExchange exchange)) answer f.pad)
 
--- So it is at each requester whose PSK_EXCHANGE began the session under the negotiation as it
--- stands.
+-- So it is at each requester whose PSK_EXCHANGE began the session under the negotiation as it stands.
 abbrev pub OpeningIsAnswer : Type 0
 OpeningIsAnswer =
     (q : ReqSetup) (h : History) (f : Free) (tag : ℕ) (d : Draw) (n : Negotiation)

@@ -33,9 +33,8 @@ use Rattle.psk_session.specs.Inner.Contents.{Spoken, AppData}
 use Rattle.psk_session.specs.declared.reply.Reply.{Reply}
 use Rattle.psk_session.specs.declared.reply.Reply.TheVariants as reply
 
--- It is no answer; END_SESSION_ACK; the answer, with its application data or measurement record;
--- KEY_UPDATE_ACK to an update; or LargeResponse, with the operation and the handle of the large
--- answer.
+-- It is no answer; END_SESSION_ACK; the answer, with its application data or measurement record; KEY_UPDATE_ACK to an
+-- update; or LargeResponse, with the operation and the handle of the large response.
 pub data Verdict : Type 0 where
   Bad : (fault : BadReply) → Verdict
   Ended : Verdict
@@ -43,7 +42,7 @@ pub data Verdict : Type 0 where
   Updated : (all : Bool) → Verdict
   Large : (op : ℕ) → (handle : ℕ) → Verdict
 
--- It has a verdict; or it is the chunk that was asked for, of a large answer to this operation.
+-- It has a verdict; or it is the chunk that was asked for, of a large response to this operation.
 pub data Meaning : Type 0 where
   Done : (verdict : Verdict) → Meaning
   Piece : (op : ℕ) → (chunk : ChunkMessage) → Meaning
@@ -112,8 +111,8 @@ meaning_of chunks tag a (Err fault) = Done (Bad fault)
 meaning_of chunks tag a (Ok (AppData bytes)) = Done (data_verdict a bytes)
 meaning_of chunks tag a (Ok (Spoken message)) = message_meaning chunks tag a message
 
--- A whole large answer to an operation, by what it reads as. A LargeResponse in it is followed
--- unless the numbers are reached from which on GET_MEASUREMENTS is not asked.
+-- A whole large response to an operation, by what it reads as. A LargeResponse in it is followed unless the numbers are
+-- reached from which on GET_MEASUREMENTS is not asked.
 abbrev pub whole_verdict : (reached : Bool) → (op : ℕ) → Result ResponseMessage Malformed → Verdict
 whole_verdict reached op (Err fault) = Bad (bad.Malformed fault.at)
 whole_verdict reached op (Ok (Error version code detail extended)) =
@@ -143,8 +142,8 @@ course_of psk s a sealed answer (Updated all) =
 course_of psk s a sealed answer (Large op handle) =
     courses.Course.GoesOn Nothing (AskChunk op handle 0 []) (inner_request (ChunkGet handle 0))
 
--- What a chunk leads to, by what a collector says of it that was given the chunks before: it is
--- refused; the next one is asked for; or the large answer is whole.
+-- What a chunk leads to, by what a collector says of it that was given the chunks before: it is refused; the next one
+-- is asked for; or the large response is whole.
 abbrev pub chunk_course : (psk : List ℕ) → Steps → (op handle number : ℕ)
     → (before : List ChunkMessage) → (sealed : List ℕ) → ChunkMessage → Collection → Course
 chunk_course psk s op handle number before sealed c (Refused fault) =

@@ -15,8 +15,8 @@ use Rattle.psk_session.specs.declared.ask.Awaited.{Awaited}
 use Rattle.psk_session.specs.declared.ask.Awaited.TheVariants as awaited
 use Rattle.psk_session.specs.declared.kept.Kept.{Kept}
 
--- The state as contracts see it: what is kept of the session, what is awaited, what was gathered of
--- a large answer, and the record that was sent.
+-- The state as contracts see it: what is kept of the session, what is awaited, what was gathered of a large response,
+-- and the record that was sent.
 pub record Seen : Type 0 where
   pub kept : Kept
   pub awaited : Awaited
@@ -25,7 +25,7 @@ pub record Seen : Type 0 where
 
 -- ---- What is awaited.
 
--- What is awaited, as a step of the session asks it; a chunk behind these chunks, the newest first.
+-- What is awaited, as a step of the session asks it; a chunk after these chunks, the newest first.
 abbrev pub awaited_by : Awaited → (before : List ChunkMessage) → Ask
 awaited_by awaited.Data before = AskData
 awaited_by awaited.Beat before = AskBeat
@@ -35,13 +35,12 @@ awaited_by (awaited.Measure op) before = AskMeasure op
 awaited_by (awaited.Chunk op handle number) before = AskChunk op handle number before
 awaited_by awaited.End before = AskEnd
 
--- A chunk is awaited behind all chunks of its large answer before it, and all else behind none.
+-- A chunk is awaited after all chunks of its large response before it, and all else after none.
 abbrev pub IsBehind : (max : ℕ) → Awaited → (before : List ChunkMessage) → Type 0
 IsBehind max (awaited.Chunk op handle number) before = AreUnderWay max handle number before
 IsBehind max _ before = before ≡ []
 
--- While a chunk is awaited, the chunks before it are what was gathered, in messages of up to this
--- length.
+-- While a chunk is awaited, the chunks before it are what was gathered, in messages of up to this length.
 abbrev pub IsGathered : (max : ℕ) → Awaited → (collector : keeping.Kept)
     → (before : List ChunkMessage) → Type 0
 IsGathered max (awaited.Chunk op handle number) collector before =
@@ -67,8 +66,8 @@ IsNewest ask sealed (_ ∷ older) = ⊥
 abbrev pub awaited_epoch : Steps → Ask → ℕ
 awaited_epoch s a = if asks_all a then response_epoch s + 1 else response_epoch s
 
--- The state stands for a session of these steps, with this pre-shared key, whose newest record asks
--- this. Its next numbers are few enough for what that may lead to.
+-- The state stands for a session of these steps, with this pre-shared key, whose newest record asks this. Its next
+-- numbers are few enough for what that may lead to.
 pub record StandsFor (seen : Seen) (psk : List ℕ) (s : Steps) (a : Ask) : Type 0 where
   pub stage : stage_of s ≡ stage_for a
   pub keeps : Keeps seen.kept psk s (awaited_epoch s a)

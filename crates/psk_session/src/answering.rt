@@ -68,7 +68,7 @@ impl ReqSession {
         self.send(Awaited::Verify, pad);
     }
 
-    // Makes ready for a large answer, of which no chunk was given.
+    // Makes ready for a large response, of which no chunk was given.
     fn begin(&mut self)
         ensures max { self.new.gathered.max ≡ self.old.kept.terms.common.to_requester.max }
         ensures stands { keeping.StandsFor self.new.gathered [] }
@@ -77,8 +77,7 @@ impl ReqSession {
         self.gathered = Collector::new(self.kept.terms.common.to_requester.max);
     }
 
-    // Asks for the chunk of this number of the large answer to an operation, behind what was
-    // gathered.
+    // Asks for the chunk of this number of the large response to an operation, after what was gathered.
     fn fetch(&mut self, op: u8, handle: u8, number: u16, pad: &[u8])
         requires { length pad.now ≤ 16 }
         ensures asked { (psk : List ℕ) (s : Steps) (before : List ChunkMessage)
@@ -135,8 +134,7 @@ impl ReqSession {
         }
     }
 
-    // Asks for the next chunk of a large answer to an operation, behind the one that has this
-    // number.
+    // Asks for the next chunk of a large response to an operation, after the one that has this number.
     pub(crate) fn go_on(&mut self, op: u8, handle: u8, number: u16, pad: &[u8]) -> Told
         requires { length pad.now ≤ 16 }
         ensures follows { (psk : List ℕ) (s : Steps) (sealed : List ℕ) (at_handle at_number : ℕ)

@@ -11,7 +11,7 @@ use session_keys::byte_at;
 use spdm_codec::read_response;
 use spdm_grammar::{ExchangeRsp, Malformed, Response};
 
-// The response that a message spells, or its first fault.
+// The response that a message encodes, or its first fault.
 pub fn read_answer(
     message: &[u8],
     hash_len: usize,

@@ -1,10 +1,10 @@
 use session_keys::MOST_DATA;
 use spdm_grammar::Stage;
 
-/// What is asked of an open session.
+/// A request to send in an open session.
 #[derive(Clone, Copy)]
 pub enum Ask<'a> {
-    /// To take application data, of at most 1,024 bytes.
+    /// Application data, of at most 1,024 bytes.
     Data(&'a [u8]),
     /// HEARTBEAT.
     Beat,
@@ -28,7 +28,7 @@ pub enum Awaited {
     // The answer to VerifyNewKey.
     Verify,
     Measure { op: u8 },
-    // The chunk of this number of the large answer to an operation.
+    // The chunk of this number of the large response to an operation.
     Chunk { op: u8, handle: u8, number: u16 },
     End,
 }

@@ -1,13 +1,12 @@
 use thiserror::Error;
 
-/// Why an ask of an open session is refused, in the order in which it is tested.
+/// Why a request in an open session is refused, in the order of the checks.
 #[derive(Clone, Copy, Debug, PartialEq, Eq, Error)]
 pub enum AskFault {
-    /// What it needs is not in common, or was not chosen.
+    /// A capability or algorithm that it needs was not negotiated.
     #[error("not negotiated")]
     NotNegotiated,
-    /// A key sealed too many records for it. Only UpdateAllKeys and END_SESSION are always
-    /// possible.
+    /// A key has sealed too many records. UpdateAllKeys and END_SESSION are always possible.
     #[error("a key is spent")]
     KeySpent,
     /// Application data has more than 1,024 bytes.

@@ -54,8 +54,7 @@ fn lane_with_finish(lane: &Lane) -> Lane
     lane
 }
 
-// The verify data of PSK_FINISH in a handshake, over the transcript up to PSK_EXCHANGE_RSP, which
-// the lane was given.
+// The verify data of PSK_FINISH in a handshake, over the transcript up to PSK_EXCHANGE_RSP, which the lane was given.
 pub fn verify_of_finish(handshake: &Handshake, lane: &Lane) -> HashBytes
     requires { lane_hash lane.now ≡ handshake.now.keys.hash }
     ensures value { (psk : List ℕ) (n : Negotiation) (exchange answer : List ℕ)

@@ -2,7 +2,7 @@ use crate::{Closed, Finishing, ReqOpen};
 use secured_record::RecordFault;
 use spdm_grammar::BadReply;
 
-/// What came of a record while PSK_FINISH_RSP is awaited.
+/// The outcome of a record while PSK_FINISH_RSP is awaited.
 #[derive(Drop)]
 pub enum FinishTook {
     /// It held PSK_FINISH_RSP: the session is open.

@@ -101,7 +101,7 @@ impl Finishing {
         }
     }
 
-    /// The session as it is shown.
+    /// A view of the session.
     #[tactic(auto, unfolding(requester_machine::specs::Shown::view_of))]
     pub fn view(&self) -> SessionView
         ensures { (psk : List ℕ) (n : Negotiation) (exchange answer pad : List ℕ)
@@ -121,7 +121,7 @@ impl Finishing {
         }
     }
 
-    /// The record of PSK_FINISH.
+    /// The record of PSK_FINISH, to be sent again.
     pub fn again(&self) -> &[u8]
         ensures value { result.now ≡ self.now.sent }
         ensures fits { length result.now ≤ 4160 }
@@ -129,8 +129,7 @@ impl Finishing {
         self.sent.as_slice()
     }
 
-    /// A record of the responder. Only PSK_FINISH_RSP opens the session; anything else that opens
-    /// ends it.
+    /// Handles a record from the responder. Only PSK_FINISH_RSP opens the session; anything else that opens ends it.
     pub fn take(self, sealed: &[u8]) -> FinishTook
         ensures { (psk : List ℕ) (n : Negotiation) (exchange answer pad : List ℕ)
             → StandsFor self psk n exchange answer pad

@@ -34,8 +34,7 @@ fn inner_fault(transfer: u32, inner: &[u8]) -> Option<BadReply>
     None
 }
 
-// What an inner message holds, at an end of this transfer size, in a session of hashes of this
-// length.
+// What an inner message holds, at an end of this transfer size, in a session of hashes of this length.
 pub fn read_inner(transfer: u32, hash_len: usize, inner: &[u8]) -> Result<Inner<'_>, BadReply>
     ensures { (q : ReqSetup) → q.transfer ≡ transfer
         → Reads result (contents_of q hash_len inner.now) }

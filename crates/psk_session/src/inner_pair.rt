@@ -1,7 +1,6 @@
 use spdm_basis::RecordFrame;
 
-/// Room for the inner messages of two records that are compared. It lies in place. What it holds before and
-/// after a call does not matter.
+/// Scratch space for the inner messages of two records that are compared. Fixed size; never allocates.
 #[derive(Drop)]
 pub struct InnerPair {
     pub(crate) asked: RecordFrame,
@@ -11,7 +10,7 @@ pub struct InnerPair {
 impl InnerPair {
     ghost use Rattle.std.specs.Prelude.{◌≡◌, []};
 
-    /// With no bytes.
+    /// Empty buffers.
     pub fn new() -> InnerPair
         ensures asked { result.asked ≡ [] }
         ensures came { result.came ≡ [] }

@@ -16,9 +16,9 @@ use spdm_grammar::{BadReply, ChunkView, Request, SessionView, Stage};
 // The number of either direction from which on GET_MEASUREMENTS is not asked.
 const MOST_MEASURED: u32 = 65_300;
 
-// What a session keeps once it is open: the keys with the numbers of their next records, how many
-// application messages were taken, the hash of T2, the id and the terms. While the answer to an
-// update of all keys is awaited, the key of responses is the next one.
+// What a session keeps once it is open: the keys with the numbers of their next records, how many application messages
+// were taken, the hash of T2, the id and the terms. While the answer to an update of all keys is awaited, the key of
+// responses is the next one.
 #[derive(Drop)]
 pub struct Kept {
     pub request: RecordKey,
@@ -38,8 +38,8 @@ pub fn record_number(next: u32) -> u16
     next.min(65_535) as u16
 }
 
-// The next number of responses behind the answer to an update, which is the first one under the
-// next key where that updates all keys.
+// The next number of responses after the answer to an update, which is the first one under the next key where that
+// updates all keys.
 fn next_behind_update(next: u32, all: bool) -> u32
     ensures { result ≡ (if all then 1 else min (next + 1) (2 ^ 32 - 1)) }
 {
@@ -76,7 +76,7 @@ impl Kept {
         self.th2.clone().unwrap()
     }
 
-    // The session as it is shown, in its stage and in this epoch of responses.
+    // A view of the session, in its stage and in this epoch of responses.
     pub fn view(&self, stage: Stage, shown: u64) -> SessionView
         ensures value { (psk : List ℕ) (s : Steps) (epoch : ℕ) → Keeps self.now psk s epoch
             → stage ≡ stage_of s → shown ≡ response_epoch s → taken_of s < 2 ^ 64
@@ -188,8 +188,7 @@ impl Kept {
         }
     }
 
-    // Steps to the key under which the answer to this is: that to an update of all keys is under
-    // the next one.
+    // Steps to the key under which the answer to this is: that to an update of all keys is under the next one.
     pub fn look_ahead(&mut self, awaited: Awaited)
         requires { self.old.response.epoch < 2 ^ 64 - 1 }
         ensures { (psk : List ℕ) (s : Steps) (before : List ChunkMessage)
@@ -201,8 +200,7 @@ impl Kept {
         }
     }
 
-    // Counts one more record that was taken, which held application data or not, and updated no
-    // key.
+    // Counts one more record that was taken, which held application data or not, and updated no key.
     pub fn count(&mut self, had_data: bool)
         ensures { (psk : List ℕ) (s : Steps) (epoch : ℕ) (sealed inner : List ℕ) (effect : Effect)
             → Keeps self.old psk s epoch → finishes effect ≡ false → updates effect ≡ false
@@ -215,7 +213,7 @@ impl Kept {
         }
     }
 
-    // Steps behind the answer to an update: the request key is the next one.
+    // Steps after the answer to an update: the request key is the next one.
     pub fn update(&mut self, all: bool)
         requires { self.old.request.epoch < 2 ^ 64 - 1 }
         ensures { (psk : List ℕ) (s : Steps) (sealed inner answer : List ℕ)
@@ -228,7 +226,7 @@ impl Kept {
         self.response_next = next_behind_update(self.response_next, all);
     }
 
-    // Seals an inner message as the next record of requests, in place of what `out` holds.
+    // Seals an inner message as the next record of requests, overwriting `out`.
     pub fn seal(&mut self, inner: &[u8], pad: &[u8], out: &mut RecordFrame)
         requires inner { length inner.now ≤ 1025 }
         requires pad { length pad.now ≤ 16 }
@@ -263,9 +261,8 @@ impl Kept {
         }
     }
 
-    // What the chunk that is awaited of a large answer to an operation leads to, behind what was
-    // gathered, with what it brings in place of what `out` holds; nothing, where more chunks are
-    // awaited.
+    // What the chunk that is awaited of a large response to an operation leads to, after what was gathered, with what
+    // it brings overwriting `out`; nothing, where more chunks are awaited.
     pub fn collect(
         &self,
         op: u8,

@@ -1,9 +1,8 @@
-//! A session under a pre-shared key at the requester (DSP0274, "Session"; DSP0277), as states that
-//! a call takes and gives back: what may not be done in a state is no call of it. Behind its
-//! handshake it can be stepped in place, so that nothing large moves. No call takes memory.
+//! A session under a pre-shared key at the requester (DSP0274, "Session"; DSP0277), as typestates that calls consume
+//! and return: what a state does not allow is not a method of it. After the handshake a session can also be updated in
+//! place, so that nothing large moves. No call allocates.
 //!
-//! Read first: `Course` in `specs/Course.antt`, what a session did so far. The call to begin with
-//! is `Opening::start`.
+//! Read first: `Course` in `specs/Course.antt`, what a session did so far. The call to begin with is `Opening::start`.
 #![tactic(auto)]
 
 mod answering;

@@ -39,8 +39,7 @@ impl Model for Opening {
 }
 
 impl Opening {
-    /// The session that a PSK_EXCHANGE begins, after the messages of a negotiation and under its
-    /// terms.
+    /// The session that a PSK_EXCHANGE begins, after the messages of a negotiation and under its terms.
     pub fn start(vca: &Vca, psk: &Psk, exchange: &[u8], terms: SessionTerms) -> Opening
         ensures terms { result.terms ≡ terms }
         ensures stands { (n : Negotiation) → vca.now ≡ vca_of n → AreTermsOf terms n exchange.now
@@ -99,8 +98,8 @@ impl Opening {
         }
     }
 
-    /// The answer to PSK_EXCHANGE. Where its verify data are right, PSK_FINISH is made, without
-    /// padding; a refused answer changes nothing.
+    /// Handles the response to PSK_EXCHANGE. If its verify data are right, PSK_FINISH is created, without padding; a
+    /// refused response changes nothing.
     pub fn take_response(self, answer: &[u8]) -> Result<Finishing, (Opening, OpenFault)>
         ensures { (psk : List ℕ) (n : Negotiation) (exchange : List ℕ)
             → StandsFor self psk n exchange → IsTaken self psk n exchange answer.now [] result }
@@ -108,7 +107,7 @@ impl Opening {
         self.take_response_with(answer, &[])
     }
 
-    /// The same, with this padding for the record of PSK_FINISH, of at most 16 bytes.
+    /// Same as `take_response`, with this padding for the record of PSK_FINISH, of at most 16 bytes.
     pub fn take_response_with(
         self,
         answer: &[u8],

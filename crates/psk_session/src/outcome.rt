@@ -19,7 +19,7 @@ pub enum Outcome {
     Large { op: u8, handle: u8 },
 }
 
-// Writes the application data or the measurement record of a verdict, in place of what `out` holds.
+// Overwrites `out` with the application data or the measurement record of a verdict.
 pub fn put_down(verdict: Verdict<'_>, out: &mut RecordFrame) -> Outcome
     ensures { (s : Steps) (a : Ask) (answer : List ℕ) → Fits s a answer (verdict_of verdict.entry)
         → verdict_with result out.new ≡ verdict_of verdict.entry }

@@ -48,8 +48,8 @@ fn is_padded_little(
     sent.len() <= pair.asked.as_slice().len() + MOST_AROUND
 }
 
-// Whether bytes are the record that was sent with this number, but for its padding, which has at
-// most 16 bytes: both are opened.
+// Whether bytes are the record that was sent with this number, but for its padding, which has at most 16 bytes: both
+// are opened.
 fn is_padded_other(
     key: &RecordKey,
     id: SessionId,
@@ -95,7 +95,7 @@ fn is_padded_anew(
     is_padded_other(key, id, number, sent, sealed, pair)
 }
 
-// The record that a session sealed itself, for one who judges it.
+// The record that a session sealed itself; used only by the checker.
 impl ReqSession {
     ghost use Rattle.std.specs.Prelude.{◌≡◌, ◌≤◌, ℕ, List, OnErr, false, length, true};
     ghost use Rattle.requester_machine.specs.Message as message;
@@ -104,9 +104,8 @@ impl ReqSession {
     ghost use Rattle.psk_session.specs.OwnRecords.{IsOwnOpened, IsRepadded, TellsPadded};
     ghost use Rattle.psk_session.specs.ReqSession.{IsAwaiting, IsOpen};
 
-    /// Opens a record as the next one that this session would send, and writes its inner message in
-    /// place of what `out` holds. A fault leaves `out` as it was. While an answer is awaited, this
-    /// tells of numbers up to 65,535.
+    /// Opens a record as the next one that this session would send, and overwrites `out` with its inner message. On a
+    /// fault `out` is unchanged. While a response is awaited, sequence numbers up to 65,535 are covered.
     pub fn open_next(&self, sealed: &[u8], out: &mut RecordFrame) -> Result<(), RecordFault>
         ensures opened { (psk : List ℕ) (s : Steps) → IsOpen self.now psk s
             → IsOwnOpened psk s sealed.now result out.new }
@@ -127,8 +126,8 @@ impl ReqSession {
         record_number(self.kept.request_next.saturating_sub(1))
     }
 
-    /// Opens a record in place of the one that this session sent last and whose answer it awaits,
-    /// and writes its inner message in place of what `out` holds. A fault leaves `out` as it was.
+    /// Opens a record instead of the one that this session sent last and whose response it awaits, and overwrites `out`
+    /// with its inner message. On a fault `out` is unchanged.
     pub fn open_last(&self, sealed: &[u8], out: &mut RecordFrame) -> Result<(), RecordFault>
         ensures opened { (psk : List ℕ) (s : Steps) (a : message.Ask) (inner pad : List ℕ)
             → IsAwaiting self.now psk (with_asked psk s a inner pad) a
@@ -161,9 +160,8 @@ impl ReqSession {
         )
     }
 
-    /// Takes bytes as the record that this session sent last and whose answer it awaits: whether
-    /// they are that record with some padding of at most 16 bytes. Where they are not, nothing
-    /// changes.
+    /// Replaces the record that this session sent last, and whose response it awaits, by these bytes, if they are that
+    /// record with some padding of at most 16 bytes. Returns whether they are; otherwise nothing changes.
     pub fn take_padded(&mut self, sealed: &[u8], pair: &mut InnerPair) -> bool
         ensures repadded { (psk : List ℕ) (s : Steps) (a : message.Ask) (inner pad : List ℕ)
             → IsAwaiting self.old psk (with_asked psk s a inner pad) a
@@ -180,7 +178,7 @@ impl ReqSession {
     }
 }
 
-// The record of PSK_FINISH, for one who judges it.
+// The record of PSK_FINISH; used only by the checker.
 impl Finishing {
     ghost use Rattle.std.specs.Prelude.{◌≡◌, ℕ, List, OnErr, false};
     ghost use Rattle.transcript.specs.Transcripts.{Negotiation};
@@ -188,8 +186,8 @@ impl Finishing {
     ghost use Rattle.psk_session.specs.Opening.{accepted, finish_inner, finishing};
     ghost use Rattle.psk_session.specs.OwnRecords.{IsFinishRepadded, IsOwnOpened, TellsPadded};
 
-    /// Opens a record as the next one that this session would send, which would follow PSK_FINISH,
-    /// and writes its inner message in place of what `out` holds. A fault leaves `out` as it was.
+    /// Opens a record as the next one that this session would send, after PSK_FINISH, and overwrites `out` with its
+    /// inner message. On a fault `out` is unchanged.
     pub fn open_next(&self, sealed: &[u8], out: &mut RecordFrame) -> Result<(), RecordFault>
         ensures opened { (psk : List ℕ) (n : Negotiation) (exchange answer pad : List ℕ)
             → StandsFor self.now psk n exchange answer pad
@@ -199,8 +197,8 @@ impl Finishing {
         open_own(&self.handshake.request_key(), self.id, 1, sealed, out)
     }
 
-    /// Opens a record in place of that of PSK_FINISH, and writes its inner message in place of what
-    /// `out` holds. A fault leaves `out` as it was.
+    /// Opens a record instead of that of PSK_FINISH, and overwrites `out` with its inner message. On a fault `out` is
+    /// unchanged.
     pub fn open_last(&self, sealed: &[u8], out: &mut RecordFrame) -> Result<(), RecordFault>
         ensures opened { (psk : List ℕ) (n : Negotiation) (exchange answer pad : List ℕ)
             → StandsFor self.now psk n exchange answer pad
@@ -227,8 +225,8 @@ impl Finishing {
         )
     }
 
-    /// Takes bytes as the record of PSK_FINISH: whether they are that with some padding of at most
-    /// 16 bytes. Where they are not, nothing changes.
+    /// Replaces the record of PSK_FINISH by these bytes, if they are that record with some padding of at most 16 bytes.
+    /// Returns whether they are; otherwise nothing changes.
     pub fn take_padded(&mut self, sealed: &[u8], pair: &mut InnerPair) -> bool
         ensures repadded { (psk : List ℕ) (n : Negotiation) (exchange answer pad : List ℕ)
             → StandsFor self.old psk n exchange answer pad

@@ -1,4 +1,4 @@
-/// What answered an ask of a session.
+/// The response to a request in a session.
 #[derive(Clone, Copy, Debug, PartialEq, Eq)]
 pub enum Reply {
     /// Application data.
@@ -7,10 +7,9 @@ pub enum Reply {
     Alive,
     /// KEY_UPDATE_ACK to the VerifyNewKey that followed the update.
     Updated,
-    /// MEASUREMENTS: the number of all blocks for operation 0, else that of the blocks in the
-    /// record.
+    /// MEASUREMENTS: the number of all blocks for operation 0, else that of the blocks in the record.
     Measured(u8),
-    /// ERROR of this code, which the session outlives.
+    /// ERROR of this code; the session stays open.
     Refused(u8),
 }
 

@@ -29,7 +29,7 @@ impl Model for ReqOpen {
 }
 
 impl ReqOpen {
-    /// The session as it is shown. Its count of application messages has 64 bits.
+    /// A view of the session. Its count of application messages has 64 bits.
     pub fn view(&self) -> SessionView
         ensures value { (psk : List ℕ) (s : Steps) → StandsFor self.now psk s
             → taken_of s < 2 ^ 64 → result ≡ view_of s }
@@ -38,16 +38,15 @@ impl ReqOpen {
         self.session.view()
     }
 
-    /// The application data or the measurement record of the last answer; no bytes where it had
-    /// none.
+    /// The application data or the measurement record of the last answer; empty where it had none.
     pub fn data(&self) -> &[u8]
         ensures { result.now ≡ self.now.brought }
     {
         self.session.data()
     }
 
-    /// Asks something of the session, in a record with this padding of at most 16 bytes. A refused
-    /// ask changes nothing. The caller's response key has an epoch below 2^64 - 1.
+    /// Sends a request in the session, in a record with this padding of at most 16 bytes. A refused request changes
+    /// nothing. Requires an epoch below 2^64 - 1 for the response key.
     pub fn ask(self, ask: Ask<'_>, pad: &[u8]) -> Result<Waiting, (ReqOpen, AskFault)>
         requires epoch { self.kept.response.epoch < 2 ^ 64 - 1 }
         requires pad { length pad.now ≤ 16 }

@@ -28,8 +28,8 @@ use session_keys::open_record;
 use spdm_basis::RecordFrame;
 use spdm_grammar::SessionView;
 
-/// A session at the requester behind its handshake, stepped in place. It is open, or it awaits an
-/// answer; once it was told to be ended or lost, it is neither.
+/// A session at the requester after its handshake, updated in place. It is open or awaits a response; once it was
+/// reported as ended or lost, it is neither.
 #[derive(Drop)]
 pub struct ReqSession {
     pub(crate) kept: Kept,
@@ -86,8 +86,7 @@ impl ReqSession {
         self.kept.response.epoch()
     }
 
-    /// The session as it is shown, while it is open or awaits an answer. Its count of application
-    /// messages has 64 bits.
+    /// A view of the session, while it is open or awaits a response. Its count of application messages has 64 bits.
     pub fn view(&self) -> SessionView
         ensures opened { (psk : List ℕ) (s : Steps) → IsOpen self.now psk s
             → taken_of s < 2 ^ 64 → result ≡ view_of s }
@@ -100,8 +99,7 @@ impl ReqSession {
         self.kept.view(self.standing.stage(), self.shown_epoch())
     }
 
-    // The epoch of responses that is shown: that of the key before, while the answer is under the
-    // next one.
+    // The epoch of responses that is shown: that of the key before, while the answer is under the next one.
     fn shown_epoch(&self) -> u64
         ensures opened { is_open self.now.standing ≡ true → result ≡ self.now.kept.response.epoch }
         ensures awaiting { (psk : List ℕ) (s : Steps) (a : message.Ask)
@@ -115,7 +113,7 @@ impl ReqSession {
         }
     }
 
-    /// The record last made, while an answer is awaited.
+    /// The record last sealed, while a response is awaited: to be sent again.
     pub fn again(&self) -> &[u8]
         ensures value { result.now ≡ (waiting_of self.now).sent }
         ensures fits { length result.now ≤ 4160 }
@@ -123,16 +121,16 @@ impl ReqSession {
         self.sent.as_slice()
     }
 
-    /// The application data or the measurement record of the last answer, while the session is
-    /// open; no bytes where it had none.
+    /// The application data or measurement record of the last response, while the session is open; empty if it had
+    /// none.
     pub fn data(&self) -> &[u8]
         ensures { result.now ≡ (open_of self.now).brought }
     {
         self.brought.as_slice()
     }
 
-    /// Asks something of the session, which is open, in a record with this padding of at most 16
-    /// bytes. A refused ask changes nothing. The caller's response key has an epoch below 2^64 - 1.
+    /// Sends a request in the session, which is open, in a record with this padding of at most 16 bytes. A refused
+    /// request changes nothing. Requires an epoch below 2^64 - 1 for the response key.
     pub fn ask(&mut self, ask: Ask<'_>, pad: &[u8]) -> Result<(), AskFault>
         requires open { is_open self.old.standing ≡ true }
         requires epoch { self.old.kept.response.epoch < 2 ^ 64 - 1 }
@@ -182,8 +180,8 @@ impl ReqSession {
         self.standing = Standing::Awaits(awaited);
     }
 
-    /// A record of the responder, while an answer is awaited. A further record that is to be sent
-    /// then has no padding. The caller's request key has an epoch below 2^64 - 1.
+    /// Handles a record from the responder while a response is awaited. A further record that is then to be sent has no
+    /// padding. Requires an epoch below 2^64 - 1 for the request key.
     pub fn take(&mut self, sealed: &[u8]) -> Told
         requires awaiting { is_awaiting self.old.standing ≡ true }
         requires epoch { self.old.kept.request.epoch < 2 ^ 64 - 1 }
@@ -194,7 +192,7 @@ impl ReqSession {
         self.take_with(sealed, &[])
     }
 
-    /// The same, with this padding for the further record, of at most 16 bytes.
+    /// Same as `take`, with this padding for the further record, of at most 16 bytes.
     pub fn take_with(&mut self, sealed: &[u8], pad: &[u8]) -> Told
         requires awaiting { is_awaiting self.old.standing ≡ true }
         requires epoch { self.old.kept.request.epoch < 2 ^ 64 - 1 }
@@ -239,8 +237,7 @@ impl ReqSession {
         }
     }
 
-    // Opens the record that answers, and writes its inner message in place of the record that
-    // asked.
+    // Opens the record that answers, and writes its inner message in place of the record that asked.
     fn open_answer(&mut self, sealed: &[u8]) -> Result<(), RecordFault>
         ensures fault { (psk : List ℕ) (s : Steps) (a : message.Ask) → IsAwaiting self.old psk s a
             → MatchResult result

@@ -19,7 +19,7 @@ pub fn operation_of(all: bool) -> u8
     if all { UPDATE_ALL_KEYS } else { UPDATE_KEY }
 }
 
-// PSK_FINISH with these verify data, in place of what `out` holds.
+// Overwrites `out` with PSK_FINISH with these verify data.
 pub fn write_finish(verify: &[u8], out: &mut Frame)
     requires { length verify.now ≤ 48 }
     ensures value { out.new ≡ canonical_request (PskFinish verify.now) }
@@ -28,8 +28,7 @@ pub fn write_finish(verify: &[u8], out: &mut Frame)
     let _ = write_request(&Request::PskFinish { verify }, verify.len(), out);
 }
 
-// The inner message of a request of four bytes, by its code and its two parameters, in place of what
-// `out` holds.
+// Overwrites `out` with the inner message of a request of four bytes, by its code and its two parameters.
 fn write_four(code: u8, first: u8, second: u8, out: &mut RecordFrame)
     ensures value { out.new ≡ SPDM_MESSAGE ∷ V1_2 ∷ code ∷ first ∷ second ∷ [] }
     ensures size { length out.new ≡ 5 }
@@ -38,8 +37,8 @@ fn write_four(code: u8, first: u8, second: u8, out: &mut RecordFrame)
     let _ = out.extend(&[SPDM_MESSAGE, V1_2, code, first, second]);
 }
 
-// The inner message of a request of at most six bytes, in place of what `out` holds. It stands apart,
-// since it clears the place of a whole message.
+// Overwrites `out` with the inner message of a request of at most six bytes. It stands apart, since it clears the place
+// of a whole message.
 fn write_any(request: &Request<'_>, out: &mut RecordFrame)
     requires sound { IsSoundRequest 0 (request_message request.now) }
     requires short { length (canonical_request (request_message request.now)) ≤ 6 }
@@ -53,7 +52,7 @@ fn write_any(request: &Request<'_>, out: &mut RecordFrame)
     let _ = out.extend(message.as_slice());
 }
 
-// The inner message of a request of four or six bytes, in place of what `out` holds.
+// Overwrites `out` with the inner message of a request of four or six bytes.
 pub fn write_inner_request(request: &Request<'_>, out: &mut RecordFrame)
     requires sound { IsSoundRequest 0 (request_message request.now) }
     requires short { length (canonical_request (request_message request.now)) ≤ 6 }
@@ -69,7 +68,7 @@ pub fn write_inner_request(request: &Request<'_>, out: &mut RecordFrame)
     }
 }
 
-// The inner message of application data, in place of what `out` holds.
+// Overwrites `out` with the inner message of application data.
 pub fn write_inner_data(bytes: &[u8], out: &mut RecordFrame)
     requires { length bytes.now ≤ 1024 }
     ensures value { out.new ≡ inner_data bytes.now }

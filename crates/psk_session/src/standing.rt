@@ -8,8 +8,7 @@ ghost use Rattle.psk_session.specs.Waiting.{awaited_by};
 use crate::ask::Awaited;
 use spdm_grammar::Stage;
 
-// How a session stands: it is open with nothing outstanding, it awaits an answer, or it is ended or
-// lost.
+// How a session stands: it is open with nothing outstanding, it awaits an answer, or it is ended or lost.
 #[derive(Clone, Copy)]
 pub enum Standing {
     Open,

@@ -5,7 +5,7 @@ ghost use Rattle.session_keys.specs.Keys.{IsKeyOf};
 
 use secured_record::RecordKey;
 
-// Steps to the key behind a key update, which is that of the next epoch.
+// Steps to the key after a key update, which is that of the next epoch.
 pub fn update(key: &mut RecordKey)
     requires { key.old.epoch < 2 ^ 64 - 1 }
     ensures { (choice : Choice) (p : Purpose) → IsKeyOf key.old choice p

@@ -25,11 +25,11 @@ pub enum Verdict<'a> {
     Answered(Reply, &'a [u8]),
     // KEY_UPDATE_ACK to an update.
     Updated { all: bool },
-    // LargeResponse, with the operation and the handle of the large answer.
+    // LargeResponse, with the operation and the handle of the large response.
     Large { op: u8, handle: u8 },
 }
 
-// It has a verdict, or it is the chunk that is awaited, of a large answer to an operation.
+// It has a verdict, or it is the chunk that is awaited, of a large response to an operation.
 #[derive(Clone, Copy)]
 pub enum Meaning<'a> {
     Done(Verdict<'a>),
@@ -145,8 +145,7 @@ impl Awaited {
         Meaning::Piece { op, chunk }
     }
 
-    // What a response is, where chunks are in common or not, and under the tag that KEY_UPDATE
-    // told.
+    // What a response is, where chunks are in common or not, and under the tag that KEY_UPDATE told.
     pub fn message(self, chunks: bool, tag: u8, message: Response<'_>) -> Meaning<'_>
         ensures { (before : List ChunkMessage) → seen_meaning result
             ≡ message_meaning chunks tag (awaited_by self before)
@@ -168,8 +167,8 @@ impl Awaited {
     }
 }
 
-// What a whole large answer to an operation is, in a session of hashes of this length; where the
-// numbers are reached or not from which on no GET_MEASUREMENTS is asked.
+// What a whole large response to an operation is, in a session of hashes of this length; where the numbers are reached
+// or not from which on no GET_MEASUREMENTS is asked.
 pub fn whole_verdict(whole: &[u8], hash_len: usize, reached: bool, op: u8) -> Verdict<'_>
     ensures { verdict_of result
         ≡ whole_verdict reached op (response_reading hash_len false whole.now) }

@@ -30,14 +30,14 @@ impl Model for Waiting {
 }
 
 impl Waiting {
-    /// The record last made.
+    /// The record last sealed, to be sent again.
     pub fn again(&self) -> &[u8]
         ensures { result.now ≡ self.now.sent }
     {
         self.session.again()
     }
 
-    /// The session as it is shown. Its count of application messages has 64 bits.
+    /// A view of the session. Its count of application messages has 64 bits.
     pub fn view(&self) -> SessionView
         ensures value { (psk : List ℕ) (s : Steps) (a : Ask) → StandsFor self.now psk s a
             → taken_of s < 2 ^ 64 → result ≡ view_of s }
@@ -46,8 +46,8 @@ impl Waiting {
         self.session.view()
     }
 
-    /// A record of the responder. A further record that is to be sent then has no padding. The
-    /// caller's request key has an epoch below 2^64 - 1.
+    /// Handles a record from the responder. A further record that is then to be sent has no padding. Requires an epoch
+    /// below 2^64 - 1 for the request key.
     pub fn take(self, sealed: &[u8]) -> Took
         requires { self.kept.request.epoch < 2 ^ 64 - 1 }
         ensures { (psk : List ℕ) (s : Steps) (a : Ask) → StandsFor self psk s a
@@ -56,7 +56,7 @@ impl Waiting {
         self.take_with(sealed, &[])
     }
 
-    /// The same, with this padding for the further record, of at most 16 bytes.
+    /// Same as `take`, with this padding for the further record, of at most 16 bytes.
     pub fn take_with(self, sealed: &[u8], pad: &[u8]) -> Took
         requires epoch { self.kept.request.epoch < 2 ^ 64 - 1 }
         requires pad { length pad.now ≤ 16 }
