@@ -15,7 +15,7 @@ is_out_of_range c =
     || nat_lt 1024 (length c.opaque.now)
     || nat_lt 64 (length c.hint.now)
 
--- The first reason, in this order. Want of memory is none of them.
+-- The first reason, in this order. Allocation failure is none of them.
 abbrev pub config_fault : ReqConfig → Option ReqConfigFault
 config_fault c = first_of_tests (
     (c.eid.number == c.responder.number, SameEid)

@@ -38,8 +38,8 @@ abbrev pub fault_in : Result Unit CommandFault → Option CommandFault
 fault_in (Ok done) = None
 fault_in (Err fault) = Some fault
 
--- A command led to this step: its fault is told, its packets are sent, and what is kept is that of the requester
--- after it.
+-- A command led to this step: its fault is told, its packets are sent, and what is kept is that of the requester after
+-- it.
 pub record IsTold (step : CommandStep) (told : Result Unit CommandFault) (sends : List (List ℕ)) (new : Requester) : Type 0 where
   pub fault : fault_in told ≡ step.fault
   pub sent : sends ≡ step.sent

@@ -6,31 +6,31 @@ use negotiate::Sizes;
 use spdm_basis::{Eid, Psk};
 use spdm_grammar::{FlagSet, Suites};
 
-/// How a requester is set up.
+/// The configuration of a requester.
 #[derive(Drop)]
 pub struct ReqConfig<'a> {
-    /// Its end point.
+    /// Its endpoint ID.
     pub eid: Eid,
-    /// The end point of its responder.
+    /// The endpoint ID of its responder.
     pub responder: Eid,
-    /// DataTransferSize: the longest message that it takes in one piece, from 42 to 4,096 bytes.
+    /// DataTransferSize: the longest message that it receives unchunked, from 42 to 4,096 bytes.
     pub transfer: u32,
-    /// MaxSPDMmsgSize: the longest message that it takes in chunks, from its DataTransferSize to
-    /// 4,096 bytes, and equal to it where it takes no chunks.
+    /// MaxSPDMmsgSize: the longest message that it receives in chunks, from DataTransferSize to 4,096 bytes; without
+    /// CHUNK_CAP equal to DataTransferSize.
     pub max: u32,
-    /// How many bytes of a body its packets carry, from 64 to 1,024.
+    /// Payload bytes per packet (the transmission unit), from 64 to 1,024.
     pub unit: u16,
-    /// How many bytes of random padding its records have: at most 16.
+    /// Bytes of random padding per record: at most 16.
     pub pad: u8,
-    /// The capabilities that it announces beside those that each requester of this profile has.
+    /// The optional capabilities that it announces.
     pub flags: FlagSet,
     /// PSKHint of PSK_EXCHANGE: at most 64 bytes.
     pub hint: &'a [u8],
-    /// The key that is shared with the responder.
+    /// The pre-shared key.
     pub psk: Psk,
     /// OpaqueData of PSK_EXCHANGE: at most 1,024 bytes.
     pub opaque: &'a [u8],
-    /// The algorithms that it has.
+    /// The algorithms that it supports.
     pub suites: Suites,
 }
 
@@ -50,8 +50,7 @@ impl ReqConfig<'_> {
             || self.hint.len() > 64
     }
 
-    /// The first reason why no requester is set up so, in the order of `ReqConfigFault`. It is never
-    /// want of memory.
+    /// The first fault of the configuration, in the order of `ReqConfigFault`. Never an allocation failure.
     pub fn fault(&self) -> Option<ReqConfigFault>
         ensures { result ≡ config_fault self.now }
     {

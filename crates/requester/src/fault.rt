@@ -1,9 +1,9 @@
 use thiserror::Error;
 
-/// Why no requester is made, in the order in which it is tested.
+/// Why a configuration is rejected, in the order of the checks.
 #[derive(Clone, Copy, Debug, PartialEq, Eq, Error)]
 pub enum ReqConfigFault {
-    /// Its own EID is that of the responder.
+    /// Requester and responder have the same EID.
     #[error("an end point that is taken")]
     SameEid,
     /// A size, a length, the unit or the padding is out of its range.

@@ -17,9 +17,8 @@ use requester_core::{Asking, Body};
 use mctp_framing::{Fed, Packet, PacketList, PacketView, Route};
 use spdm_grammar::{Event, ReqIgnored};
 
-// A whole body came by a route. The packets that are sent next are put in place of what `out` holds; where nothing
-// is sent, `out` stays. Records that are sent have no padding. The body that is sent is written in place of what `body`
-// holds.
+// Handles a complete message body that arrived by this route. The packets sent next overwrite `out`; if none are sent
+// `out` is unchanged. Records are sent without padding. The body sent overwrites `body`.
 fn hear(
     asking: &mut Asking,
     part: &Part,
@@ -41,9 +40,8 @@ fn hear(
 }
 
 impl Requester {
-    /// A packet is given to the requester. The packets that are sent upon it are put in place of what `out` holds.
-    /// `ReqIgnored` lists in which order a packet and its body are tested; after `Ignored` the outstanding request
-    /// stands. It takes no memory.
+    /// Handles a received packet. The packets sent next overwrite `out`. `ReqIgnored` lists the checks of a packet and
+    /// its body in order; after `Ignored` the outstanding request is still outstanding. Never allocates.
     pub fn on_packet(&mut self, packet: &[u8], out: &mut PacketList) -> Event
         ensures { (a : Requesting) → StandsFor self.old a
             → IsGiven (requester_given a packet.now) result out.new self.new }
@@ -59,7 +57,7 @@ impl Requester {
         }
     }
 
-    // A packet that was counted, as its fields.
+    // Handles a parsed packet that was already counted.
     fn on_view(&mut self, view: PacketView<'_>, out: &mut PacketList) -> Event
         requires sequence { view.sequence < 4 }
         requires tag { view.tag < 8 }

@@ -7,7 +7,7 @@ use spdm_basis::{Bytes, Eid, Psk};
 use spdm_grammar::{FlagSet, Suites};
 use std::alloc::Global;
 
-// What a requester keeps of its set-up.
+// A requester's own copy of its configuration.
 #[derive(Drop)]
 pub struct Part {
     pub(crate) eid: Eid,
@@ -34,7 +34,7 @@ impl Part {
     ghost use Rattle.requester.specs.SetUp.{IsPart, setup_of};
     ghost use Rattle.requester_machine.specs.Setup.{ReqSetup};
 
-    // What is kept of a configuration, or the first fault of it.
+    // Copies a configuration, or returns its first fault.
     pub(crate) fn new(alloc: Global, config: &ReqConfig<'_>) -> Result<Part, ReqConfigFault>
         ensures kept { IfOk result (λ part. IsPart part (setup_of config.now)) }
         ensures sound { OnOk result (config_fault config.now ≡ None) }
@@ -67,7 +67,7 @@ impl Part {
         }
     }
 
-    // What the parts below see of it.
+    // The configuration of the layers below.
     pub(crate) fn setup(&self) -> Setup<'_>
         ensures { (q : ReqSetup) → IsPart self.now q → IsSetUp result q }
     {

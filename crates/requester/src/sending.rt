@@ -6,7 +6,7 @@ ghost use Rattle.spdm_machine.specs.Packets.{packets_to};
 use crate::part::Part;
 use mctp_framing::PacketList;
 
-// The packets of a message with this tag, in place of what `out` holds. A body has its type at least.
+// Overwrites `out` with the packets of a message with this tag. A body has at least its message type.
 pub(crate) fn send(part: &Part, tag: u8, body: &[u8], out: &mut PacketList)
     requires { length body.now ≤ 4161 }
     ensures { (q : ReqSetup) → IsPart part.now q → tag < 8 → 0 < length body.now

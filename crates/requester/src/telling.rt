@@ -20,7 +20,7 @@ use mctp_framing::PacketList;
 use session_keys::context_of;
 use spdm_grammar::CommandFault;
 
-// Whether a command that is done takes a draw.
+// Whether a command that succeeds uses a draw.
 fn takes_draw(command: Command<'_>, pad: u8) -> bool
     ensures { (q : ReqSetup) → q.pad ≡ pad
         → result ≡ history.takes_draw q (command_of command.entry) }
@@ -39,8 +39,7 @@ fn takes_draw(command: Command<'_>, pad: u8) -> bool
     }
 }
 
-// Does a command with the values of the draw that stands next. The body that is sent is written in place of what
-// `body` holds.
+// Runs a command with the values of the next unused draw. The body sent overwrites `body`.
 fn tell(
     asking: &mut Asking,
     part: &Part,
@@ -63,7 +62,7 @@ fn tell(
     asking.command(&part.setup(), &part.psk, command, &free, pad, body)
 }
 
-// The draw that stands next is gone, where it was taken.
+// Discards the next draw if it was used.
 fn take_draw(draws: &mut DrawStream, is_taken: bool)
     ensures { draws.old.number < 2 ^ 64 - 1 → draws.new
         ≡ record draws.old { number = draws.old.number + drawn_by is_taken } }
@@ -74,9 +73,8 @@ fn take_draw(draws: &mut DrawStream, is_taken: bool)
 }
 
 impl Requester {
-    /// Does a command. The packets that are sent are put in place of what `out` holds; after a fault there are
-    /// none, and nothing but the count of commands has changed. `CommandFault` lists the faults in the order in
-    /// which they are tested. It takes no memory.
+    /// Runs a command. The packets sent overwrite `out`; after a fault there are none, and only the command count has
+    /// changed. `CommandFault` lists the faults in the order of the checks. Never allocates.
     pub fn command(
         &mut self,
         command: Command<'_>,

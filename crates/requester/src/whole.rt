@@ -7,20 +7,20 @@ use spdm_grammar::{Phase, SessionList};
 use std::alloc::Global;
 use spdm_grammar::names::MAX_BODY_SIZE;
 
-/// How many packets and commands a requester takes.
+/// The lifetime limit of a requester, in packets and commands.
 pub(crate) const WEAR_LIMIT: u64 = 1_099_511_627_776;
 
-/// A requester of one responder (DSP0274, section 10): commands and packets in, packets out. All its memory is
-/// taken when it is made.
+/// A requester of one responder (DSP0274, section 10): commands and packets in, packets out. Allocates only when
+/// constructed.
 #[derive(Drop)]
 pub struct Requester {
     pub(crate) part: Part,
     pub(crate) asking: Asking,
     pub(crate) assembler: Assembler,
     pub(crate) draws: DrawStream,
-    // How many packets and commands were taken.
+    // The number of packets and commands so far.
     pub(crate) taken: u64,
-    // Room for the body that is sent. It stands here so that no call clears a place of its own.
+    // Scratch space for the body sent, kept here so that no call clears a buffer of its own.
     pub(crate) body: Body,
 }
 
@@ -33,8 +33,7 @@ impl Requester {
     ghost use Rattle.requester_machine.specs.Requesting.{Requesting, new_requesting};
     ghost use Rattle.requester_machine.specs.Shown.{last_data, views_of};
 
-    /// A requester that was told and given nothing yet. `ReqConfigFault` lists the faults in the order in which they
-    /// are tested.
+    /// A requester in its initial state. `ReqConfigFault` lists the faults in the order of the checks.
     pub fn new(
         alloc: Global,
         config: &ReqConfig<'_>,
@@ -48,8 +47,8 @@ impl Requester {
         Requester::resume(alloc, config, seed, 0)
     }
 
-    /// A requester that was told and given nothing yet, after so many boots with the same seed: at most 2^24 - 2.
-    /// The draws of each boot are its own. The faults are those of `new`.
+    /// A requester in its initial state, after `boot` earlier boots with the same seed: at most 2^24 - 2. Each boot has
+    /// draws of its own. Faults as for `new`.
     pub fn resume(
         alloc: Global,
         config: &ReqConfig<'_>,
@@ -78,21 +77,21 @@ impl Requester {
         })
     }
 
-    /// How far the negotiation has come.
+    /// The phase of the negotiation.
     pub fn phase(&self) -> Phase
         ensures { (a : Requesting) → StandsFor self.now a → result ≡ phase_of a.history }
     {
         self.asking.phase()
     }
 
-    /// The sessions as they are shown, by rising ReqSessionID: those that PSK_EXCHANGE_RSP has come for.
+    /// Views of the sessions from PSK_EXCHANGE_RSP on, by rising ReqSessionID.
     pub fn sessions(&self) -> SessionList
         ensures { (a : Requesting) → StandsFor self.now a → result ≡ views_of a.history }
     {
         self.asking.sessions()
     }
 
-    /// The last application data or measurement record that came, whichever came later; no bytes before the first.
+    /// The application data or measurement record received last; empty before the first.
     pub fn last_data(&self) -> &[u8]
         ensures { (a : Requesting) → StandsFor self.now a → result.now ≡ last_data a.history }
     {
