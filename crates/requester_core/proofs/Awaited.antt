@@ -110,7 +110,7 @@ none_unsettled n e = ap (λ (x : Negotiation). (terms_of x).common) e
 no_chunks : {A : Type 0} (common : Common) → common ≡ no_common → common.chunk ≡ true → A
 no_chunks common none chunks = absurd (false≢true (sym (ap (λ (c : Common). c.chunk) none) ∙ chunks))
 
--- The responder told its sizes where a request goes by chunks.
+-- The responder told its sizes where a request is sent in chunks.
 pub chunks_room : (q : ReqSetup) (h : History) (request : RequestMessage) → HasSizes q → Holds q h → IsAwaited q h request → IsUpTo request (negotiation_of h) → (connection_terms h).common.chunk ≡ true → HasRoom (connection_terms h).common
 chunks_room q h GetVersion sizes holds a up chunks = no_chunks (connection_terms h).common (none_unsettled (negotiation_of h) up) chunks
 chunks_room q h (GetCapabilities caps) sizes holds a up chunks = no_chunks (connection_terms h).common (caps_unsettled (negotiation_of h) up) chunks

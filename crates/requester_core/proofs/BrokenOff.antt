@@ -56,7 +56,7 @@ tags_pass sents number = omega arith
 handles_pass : (larges : ℕ) → handle_after (larges % 256) ≡ (larges + 1) % 256
 handles_pass larges = omega arith
 
--- Behind a first chunk, which took a tag and a handle.
+-- After a first chunk, which took a tag and a handle.
 pub record Begins (seen : Seen) (first : History) : Type 0 where
   pub sents : ℕ
   pub larges : ℕ

@@ -1,4 +1,4 @@
--- What a message is to a request that goes by chunks.
+-- What a message is to a request that is sent in chunks.
 use Rattle.std.proofs.Common.{refl, ◌≡◌, ◌≤◌, ◌<◌, ◌+◌, ◌-◌, ◌^◌, ℕ, List, Bool, false, length, arith, min}
 use Rattle.std.specs.Prelude.{◌==◌, ◌/◌, ◌%◌, Ok}
 use Rattle.std.proofs.Math.Nat.{div-le_self}

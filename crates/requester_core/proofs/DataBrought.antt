@@ -1,4 +1,4 @@
--- What is told of a record tells whether it brought data, and where these stand in its session.
+-- What is reported of a record tells whether it brought data, and where these stand in its session.
 use Rattle.std.proofs.Common.{refl, ◌≡◌, ◌∙◌, ◌∷◌, ◌+◌, ℕ, List, [], Bool, true, false, Option, Some, None, ap, sym, subst, eq-eqb}
 use Rattle.std.specs.Prelude.{⊤, ◌==◌, ◌&&◌, not, drop, if◌then◌else◌, is_some, slice_index, unwrap_or, Result, Ok, Err}
 use Rattle.std.proofs.lemmas.Bool.{false≢true}
@@ -151,7 +151,7 @@ stepped s older ask inner sent sealed answer effect is has =
     by_end true stays = absurd (false≢true (sym stays))
     by_end false stays = record { data_is = some_is (brings effect) has; rests = refl }
 
--- The session behind a record to which nothing is sent.
+-- The session after a record to which nothing is sent.
 own_after : (h : History) (tag id : ℕ) (sealed inner : List ℕ) (led : Led) (d : Draw) → led.next ≡ None → session_of id (TookRecord tag id sealed inner led d ∷ h) ≡ after_record sealed inner led.effect (session_of id h)
 unfolding session_of
 own_after h tag id sealed inner led d none = rw (eq-eqb id id refl, none) refl

@@ -1,4 +1,4 @@
--- Where a fault is that reading a response finds: not far behind the end of its bytes.
+-- Where a fault is that reading a response finds: not far after the end of its bytes.
 use Rattle.std.proofs.Common.{◌≡◌, ◌≤◌, ◌+◌, ◌*◌, ◌/◌, ◌%◌, ℕ, zero, suc, Bool, true, false, eqb, ltb, cond, List, ◌++◌, length, refl, sym, ap, subst, arith, inl, inr}
 use Rattle.std.specs.Prelude.{⊤, ◌==◌, Option, Ok, Err}
 use Rattle.std.proofs.lemmas.Bool.{ltb-true}
@@ -53,7 +53,7 @@ optional_near true width p e h =
       | inr t ↦ absurd (let k = t.2 in cc)
     ]
 
--- A place behind some of the bytes.
+-- A place after some of the bytes.
 later : (p q : Place) (field : List ℕ) (k : ℕ) (e : Malformed) → p.rest ≡ field ++ q.rest → q.at ≡ p.at + k → length field ≡ k → IsNear q e → IsNear p e
 later p q field k e parts at long near = omega (arith, ap length parts, length-append field q.rest, at, long, near)
 

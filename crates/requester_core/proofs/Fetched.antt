@@ -1,4 +1,4 @@
--- A chunk of a large answer in the clear, and what is gathered.
+-- A chunk of a large response in the clear, and what is gathered.
 use Rattle.std.proofs.Common.{refl, ◌≡◌, ◌∙◌, ◌+◌, ℕ, List, [], Bool, true, false, Option, Some, None, ap, sym, subst, eq-eqb, eqb-true}
 use Rattle.std.specs.Prelude.{◌==◌, if◌then◌else◌, not, unwrap_or, Result, Ok, Err}
 use Rattle.std.proofs.lemmas.Bool.{false≢true}
@@ -97,7 +97,7 @@ gathered_as q h sent request m (seen.More tag) old new out before after taken le
     subst (λ (l : Led). Gathers q l.next after) same leaves.2
 gathered_as q h sent request m seen.Exchange old new out before after taken leaves other = leaves
 
--- The collector was cleared for a large answer.
+-- The collector was cleared for a large response.
 pub large_gathered : (q : ReqSetup) (h : History) (sent : Sent) (request : RequestMessage) (m : List ℕ) (led : seen_led.Led) (old new : Seen) (out : List ℕ) (before after cleared : keeping.Kept)
     → IsTaken q h sent request m led old new out → Leaves q (carried_by q h m sent.aim) led before after → is_large led ≡ true → cleared.max ≡ after.max → keeping.StandsFor cleared [] → Gathered q h sent request m led before cleared
 large_gathered q h sent request m (seen.Ignored cause) old new out before after cleared taken leaves large max clear = absurd (false≢true large)

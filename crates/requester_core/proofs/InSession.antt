@@ -51,7 +51,7 @@ use Rattle.requester_core.proofs.Started.{tag_more}
 
 -- ---- What is sent.
 
--- A record of a session goes out behind so many messages and so many large requests.
+-- A record of a session goes out after so many messages and so many large requests.
 outgoing_shown : (sents larges id : ℕ) (sent : Sent) (ask : Ask) (old new : outgoing.Seen) → old.tag ≡ sents % 8 → old.handle ≡ larges % 256 → sent.tag ≡ sents % 8 → sent.aim ≡ InSession id ask
     → new ≡ record old { tag = tag_after old.tag; waiting = waits.InSession old.tag id }
     → outgoing.StandsFor new ((sents + 1) % 8) ((if begins_large sent.aim then larges + 1 else larges) % 256) (Some sent)
@@ -182,7 +182,7 @@ record_sends q h f tag id ask sealed inner led d sent (ByChunk op handle number 
 
 -- ---- A body.
 
--- What a record led to that was taken.
+-- The outcome of a record that was taken.
 abbrev led_of : (q : ReqSetup) (h : History) (f : Free) (id : ℕ) (ask : Ask) (sealed : List ℕ) → Led
 led_of q h f id ask sealed = or_lost (came_to q h id ask sealed) (inner_led q h f (came_to q h id ask sealed) ask)
 

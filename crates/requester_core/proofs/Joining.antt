@@ -68,7 +68,7 @@ module _ (q : ReqSetup) (h : History) (command : Command) (f : Free) (d : Draw) 
       done_with sent outcome sends.tag_is (record_out sent.content bytes out is outs)
       (record { talk = sends.stands; sessions = behind; gathers = sends.gathers after_it.gathered max })
 
--- The outstanding message goes out again.
+-- The outstanding message is resent.
 pub resent_done : (q : ReqSetup) (h : History) (outcome : Outcome) (tag : ℕ) (out : List ℕ) (x : Asking) (sent : Sent) → outcome ≡ Resends sent → sent.tag ≡ tag → out ≡ body_of sent.content → StandsFor x q h → IsDone q h outcome tag out x
 resent_done q h outcome tag out x sent is tags body stands = record {
   sent = sent;
@@ -110,7 +110,7 @@ ask_aims q h f d id a sent adds = aims_by a (entries.asked false q h (command_at
     aims_by (ask.Measure op) is = of _ _ (AskMeasure op) refl is
     aims_by ask.End is = of _ _ AskEnd refl is
 
--- What goes out again is outstanding.
+-- What is resent is outstanding.
 pub resent_waits : (q : ReqSetup) (h : History) (f : Free) (d : Draw) (sent : Sent) → asks false q h Retry f d ≡ Resends sent → outstanding h ≡ Some sent
 resent_waits q h f d sent is = by_fault (command_fault false q h Retry f) (sym (asks_is q h Retry f d) ∙ is)
   where

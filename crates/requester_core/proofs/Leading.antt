@@ -239,7 +239,7 @@ small_bits false false = omega arith
 abbrev own : Suites → ℕ → OfferMessage
 own suites transfer = record { measurement = 1; other = 2; asym = 0; hash = hash_offer suites.hash transfer; ext_asym = []; ext_hash = []; count = 4; tables = offer_tables (pick_bits suites.aead) }
 
--- An offer has a spelling of 48 bytes.
+-- An offer has an encoding of 48 bytes.
 pub record IsOwn (offer : OfferMessage) : Type 0 where
   pub reads : IsSoundOffer offer → request_value (canonical_request (NegotiateAlgorithms offer)) ≡ Some (NegotiateAlgorithms offer)
   pub long : length (canonical_request (NegotiateAlgorithms offer)) ≡ 48

@@ -1,4 +1,4 @@
--- Messages that ask for no chunk of a large answer.
+-- Messages that ask for no chunk of a large response.
 use Rattle.std.proofs.Common.{refl, ◌≡◌, ℕ, Bool, true, false, Some, subst, sym}
 use Rattle.std.specs.Prelude.{if◌then◌else◌}
 use Rattle.std.proofs.lemmas.Bool.{false≢true}
@@ -23,7 +23,7 @@ either_no_get : (b : Bool) (x y : Sent) → is_no_get x.aim ≡ true → is_no_g
 either_no_get true x y a b = a
 either_no_get false x y a b = b
 
--- A request that is sent, whole or by chunks.
+-- A request that is sent, whole or in chunks.
 pub request_no_get : (common : Common) (h : History) (asked : RequestMessage) → is_no_get ((request_sent common h asked).aim) ≡ true
 request_no_get common h asked = either_no_get _ (piece_sent common h asked _ 0) (plain_sent h asked) refl refl
 

@@ -31,7 +31,7 @@ module _ (q : ReqSetup) (bare : History) (whole : Sent → History) (id : ℕ) (
   beside : IsSameBeside old_history new_history
   beside = ends.beside sent new_sent.content
 
-  -- What is said of the outstanding message hangs on its tag and aim.
+  -- What is said of the outstanding message depends on its tag and aim.
   waits_as : (P : Option Sent → Type 0) → (P (Some sent) → P (Some new_sent)) → P (outstanding old_history) → P (outstanding new_history)
   waits_as P same p = subst P (sym (ends.last new_sent)) (same (subst P (ends.last sent) p))
 

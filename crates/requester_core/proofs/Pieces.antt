@@ -1,4 +1,4 @@
--- One chunk of a request: that it has a spelling, and how long CHUNK_SEND with it is.
+-- One chunk of a request: that it has an encoding, and how long CHUNK_SEND with it is.
 use Rattle.std.proofs.Common.{◌≤◌, ℕ, List, length, arith}
 use Rattle.std.proofs.lemmas.List.{length-append}
 use Rattle.chunking.proofs.ChunkLengths.{chunk_framed, chunk_sound}

@@ -86,7 +86,7 @@ module _ (q : ReqSetup) (h : History) (f : Free) (owner : Bool) (tag : ℕ) (bod
   by_what : ClearLeads q h f entered.sent.aim (drop 1 body) entered.asked led
   by_what = clear_leads q h f entered.sent.aim (drop 1 body) entered.asked led entered.asks leads
 
-  -- The sessions whose slots have the sessions behind the message are those of the history with it.
+  -- The sessions whose slots have the sessions after the message are those of the history with it.
   stands_by : (old new : Sessions) → StandsFor old q h → new.id ≡ old.id → ((i : ℕ) → IsSlotOf (slot_of new i) q.psk (session_of i (entry ∷ h))) → StandsFor new q (entry ∷ h)
   stands_by old new stands named slots = record {
     holds = clear_holds q h f tag (drop 1 body) led d entered.sent entered.asked entered.waits entered.asks by_what stands.holds;

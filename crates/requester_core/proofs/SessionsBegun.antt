@@ -182,7 +182,7 @@ module _ (q : ReqSetup) (h : History) (f : Free) (tag : ℕ) (d : Draw) (sent : 
 
 -- ---- PSK_EXCHANGE.
 
--- A property of a request that is sent, whole or by chunks.
+-- A property of a request that is sent, whole or in chunks.
 open_steps : (h : History) (summary : ℕ) (sent : Sent) (d : Draw) (i : ℕ) → session_of i (Told (Open summary) sent d ∷ h) ≡ begun i (negotiation_of h) (asked_in sent.aim) (session_of i h)
 unfolding session_of
 open_steps h summary sent d i = refl

@@ -136,7 +136,7 @@ module _ (q : ReqSetup) (h : History) (f : Free) (tag id : ℕ) (a : Ask) (seale
 
 -- ---- What stands behind it.
 
--- The session of any id behind a record.
+-- The session of any id after a record.
 steps_after : (h : History) (tag id : ℕ) (sealed inner : List ℕ) (led : Led) (d : Draw) (i : ℕ)
     → session_of i (TookRecord tag id sealed inner led d ∷ h) ≡ (if id == i then with_sent i led.next (after_record sealed inner led.effect (session_of i h)) else session_of i h)
 unfolding session_of

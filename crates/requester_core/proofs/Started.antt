@@ -94,7 +94,7 @@ handles_by : (b : Bool) (n : ℕ) → (if b then handle_after (n % 256) else n %
 handles_by true n = handle_more n
 handles_by false n = refl
 
--- A message was sent behind so many others and so many large requests.
+-- A message was sent after so many others and so many large requests.
 pub sends_shown : (sents larges tag : ℕ) (x : Sent) (request : RequestMessage) (old new : outgoing.Seen) (out : List ℕ) → old.tag ≡ sents % 8 → old.handle ≡ larges % 256 → asked_in x.aim ≡ Some request → old.request ≡ canonical_request request → Sends x old new tag out
     → outgoing.StandsFor new ((sents + 1) % 8) ((if begins_large x.aim then larges + 1 else larges) % 256) (Some x)
 sends_shown sents larges tag x request old new out is_tag is_handle asks keeps sends = record {
@@ -220,7 +220,7 @@ exchange_long q f summary setup free is_setup is_free short =
     let opaque = ap length is_free.opaque in
     (omega (arith, hint, context, opaque, short), simp length-append (omega (arith, hint, context, opaque)))
 
--- It has a spelling.
+-- It has an encoding.
 pub exchange_sound : (q : ReqSetup) (h : History) (f : Free) (summary : ℕ) → IsAllowed q h f → is_summary summary ≡ true → IsSoundExchange (hash_len (connection_terms h)) (record { summary = summary; req_id = f.id; hint = q.hint; context = f.context; opaque = f.opaque })
 exchange_sound q h f summary allowed kind = record {
   summary = kind;

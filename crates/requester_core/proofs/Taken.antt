@@ -50,7 +50,7 @@ pieces_aim (ByChunks r of at) request handle number asks way =
 pieces_aim (ForChunk r of at before) request handle number asks way = absurd (cc way)
 pieces_aim (InSession id ask) request handle number asks way = absurd (cc asks)
 
--- It asks for a chunk behind these.
+-- It asks for a chunk after these.
 pub record AsksChunk (aim : Aim) (request : RequestMessage) (handle number : ℕ) : Type 0 where
   pub before : List ChunkMessage
   pub is : aim ≡ ForChunk request handle number before

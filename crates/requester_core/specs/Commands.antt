@@ -27,8 +27,8 @@ request_for q (Open summary) f = Some (exchange_for q f summary)
 request_for q (Measure None op) f = Some (GetMeasurements op)
 request_for q _ f = None
 
--- The command is done: a message in the clear is sent with this tag and written, which asks for no
--- chunk, and what is kept is that of the history after it.
+-- The command is done: a message in the clear is sent with this tag and written, which asks for no chunk, and what is
+-- kept is that of the history after it.
 pub record IsDone (q : ReqSetup) (h : History) (command : Command) (f : Free) (d : Draw) (tag : ℕ)
     (new : talk.Seen) (out : List ℕ) : Type 0 where
   pub sent : Sent
@@ -51,7 +51,7 @@ abbrev pub IsTold : ReqSetup → History → Command → Free → Draw → Resul
 IsTold q h command f d (Ok tag) old new out = IsDone q h command f d tag new out
 IsTold q h command f d (Err fault) old new out = IsFailed q h command f d fault old new
 
--- The outstanding message goes out again, with this tag.
+-- The outstanding message is resent, with this tag.
 pub record IsResent (q : ReqSetup) (h : History) (f : Free) (d : Draw) (tag : ℕ) : Type 0 where
   pub sent : Sent
   pub outcome : asks false q h Retry f d ≡ Resends sent

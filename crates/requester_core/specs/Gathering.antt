@@ -1,4 +1,4 @@
--- What a requester gathers of a large answer in the clear.
+-- What a requester gathers of a large response in the clear.
 use Rattle.std.specs.Prelude.{⊤, ◌≡◌, ◌==◌, not, if◌then◌else◌, ℕ, List, Option, Some, None, Ok}
 use Rattle.chunking.specs.Keeping as keeping
 use Rattle.requester_core.specs.Led.{IsCarried}
@@ -38,8 +38,8 @@ pub record Gathers (q : ReqSetup) (outstanding : Option Sent) (gathered : keepin
     pub max : gathered.max ≡ q.max
     pub chunks : IsGatheredFor outstanding gathered
 
--- What a message that is this leaves of what was gathered: all of it where nothing changed, and
--- what the next message asks for a chunk behind.
+-- What a message that is this leaves of what was gathered: all of it where nothing changed, and what the next message
+-- asks for a chunk after.
 abbrev pub Leaves : ReqSetup → Carried → seen_led.Led → (old new : keeping.Kept) → Type 0
 Leaves q carried (seen.Ignored cause) old new = new ≡ old
 Leaves q carried seen.Exchange old new = new ≡ old
@@ -54,8 +54,8 @@ pub record IsFetched (q : ReqSetup) (h : History) (request : RequestMessage) (ca
     pub carries : IsCarried q h request carried led old new out
     pub leaves : Leaves q carried led before after
 
--- What a message in the clear to the outstanding one leaves of what was gathered: all of it where
--- nothing changed, and else what is gathered while the next message is outstanding.
+-- What a message in the clear to the outstanding one leaves of what was gathered: all of it where nothing changed, and
+-- else what is gathered while the next message is outstanding.
 abbrev pub Gathered : ReqSetup → History → Sent → RequestMessage → List ℕ → seen_led.Led
     → (old new : keeping.Kept) → Type 0
 Gathered q h sent request m (seen.Ignored cause) old new = new ≡ old

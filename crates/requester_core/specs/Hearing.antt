@@ -38,13 +38,13 @@ abbrev pub exchange_id : Asked → ℕ
 exchange_id (asks.Exchange id summary) = id
 exchange_id _ = 0
 
--- What is told where nothing is sent upon a message to a request that asks this: one that rests
--- upon PSK_EXCHANGE refuses it.
+-- What is reported where nothing is sent upon a message to a request that asks this: one that rests upon PSK_EXCHANGE
+-- refuses it.
 abbrev pub rested : Asked → Event → seen_heard.Heard
 rested (asks.Exchange id summary) told = heard.Closes id told
 rested _ told = heard.Rests told
 
--- What is told of a body that is a message in the clear to a request that asks this.
+-- What is reported of a body that is a message in the clear to a request that asks this.
 abbrev pub heard_of : Asked → seen_led.Led → seen_heard.Heard
 heard_of asked (seen.Ignored cause) = heard.Ignored cause
 heard_of asked (seen.Rests told) = rested asked told
@@ -53,8 +53,8 @@ heard_of asked (seen.Large tag) = heard.Sends tag
 heard_of asked (seen.More tag) = heard.Sends tag
 heard_of asked seen.Exchange = heard.Exchange (exchange_id asked)
 
--- What is told of a body that no test refuses, while a record of the session with this
--- ReqSessionID is outstanding: a clear one spells an ERROR.
+-- What is reported of a body that no test refuses, while a record of the session with this ReqSessionID is outstanding:
+-- a clear one encodes an ERROR.
 abbrev pub heard_in : (id : ℕ) → List ℕ → seen_heard.Heard
 heard_in id body = if is_clear body then heard.Warned (unwrap_or (error_in (drop 1 body)) 0)
     else heard.Record id
@@ -100,9 +100,8 @@ pub record GoesOn (q : ReqSetup) (h : History) (owner : Bool) (tag : ℕ) (body 
   pub sessions : KeepsSessions h (TookClear tag (drop 1 body) led d)
   pub entered : IsEntered q h owner tag body f d led new
 
--- The body carries, from this place on, the PSK_EXCHANGE_RSP to the outstanding PSK_EXCHANGE, which
--- began the session with this ReqSessionID. That is written, and its verify data decide what the
--- body leads to.
+-- The body carries, from this place on, the PSK_EXCHANGE_RSP to the outstanding PSK_EXCHANGE, which began the session
+-- with this ReqSessionID. That is written, and its verify data decide what the body leads to.
 pub record IsExchangeFor (q : ReqSetup) (h : History) (owner : Bool) (tag : ℕ) (body : List ℕ)
     (id : ℕ) (old new : Seen) (out : List ℕ) : Type 0 where
   pub sent : Sent
@@ -120,8 +119,8 @@ pub record IsExchangeFor (q : ReqSetup) (h : History) (owner : Bool) (tag : ℕ)
       ≡ clear_outcome tag (drop 1 body) d (exchange_led q h f exchange out rsp)
   pub same : new ≡ old
 
--- The body is a record, and what is asked of the session with this ReqSessionID is outstanding: it
--- leads to what the record leads to there.
+-- The body is a record, and what is asked of the session with this ReqSessionID is outstanding: it leads to what the
+-- record leads to there.
 pub record IsRecordFor (q : ReqSetup) (h : History) (owner : Bool) (tag : ℕ) (body : List ℕ)
     (id : ℕ) (old new : Seen) : Type 0 where
   pub sent : Sent
@@ -133,7 +132,7 @@ pub record IsRecordFor (q : ReqSetup) (h : History) (owner : Bool) (tag : ℕ) (
       → hears q h owner tag body f d ≡ on_record q h f tag id ask (drop 1 body) d
   pub same : new ≡ old
 
--- What is told of a body is what it leads to in the definitions.
+-- What is reported of a body is what it leads to in the definitions.
 abbrev pub IsHeard : ReqSetup → History → (owner : Bool) → ℕ → List ℕ → seen_heard.Heard
     → (old new : Seen) → (out : List ℕ) → Type 0
 IsHeard q h owner tag body (heard.Ignored cause) old new out =
@@ -151,8 +150,7 @@ IsHeard q h owner tag body (heard.Exchange id) old new out =
 IsHeard q h owner tag body (heard.Record id) old new out =
     IsRecordFor q h owner tag body id old new
 
--- What a body that was taken leaves of what was gathered: what is gathered while the next message
--- is outstanding.
+-- What a body that was taken leaves of what was gathered: what is gathered while the next message is outstanding.
 abbrev pub Regathers : ReqSetup → History → (owner : Bool) → ℕ → List ℕ → keeping.Kept → Type 0
 Regathers q h owner tag body new = (f : Free) (d : Draw) (led : Led)
     → hears q h owner tag body f d ≡ Adds (TookClear tag (drop 1 body) led d)

@@ -19,7 +19,7 @@ use Rattle.spdm_machine.specs.Keys.{Draw}
 
 -- ---- Faults.
 
--- The fault of what is asked of a session, behind the tests that do not look at the session.
+-- The fault of what is asked of a session, after the tests that do not look at the session.
 abbrev pub session_fault : ReqSetup → History → Command → Free → Option CommandFault
 session_fault q h command f = first_of_tests (
     (is_nowhere h (session_in command), fault.NoSuchSession)
@@ -30,16 +30,15 @@ session_fault q h command f = first_of_tests (
 
 -- ---- What goes out and comes in.
 
--- This record, which asks for no chunk in the clear, is sent with this tag, and what is kept is
--- that of this history, whose newest entry sent it.
+-- This record, which asks for no chunk in the clear, is sent with this tag, and what is kept is that of this history,
+-- whose newest entry sent it.
 pub record SendsRecord (q : ReqSetup) (h : History) (sent : Sent) (tag : ℕ) (new : Seen) : Type 0
   where
     pub tag_is : sent.tag ≡ tag
     pub stands : StandsFor new q h
     pub gathers : (gathered : keeping.Kept) → gathered.max ≡ q.max → Gathers q (Some sent) gathered
 
--- A record came with its tag owner bit and tag. It was taken as this entry, and nothing is sent
--- upon it.
+-- A record came with its tag owner bit and tag. It was taken as this entry, and nothing is sent upon it.
 pub record Settles (q : ReqSetup) (h : History) (owner : Bool) (tag : ℕ) (body : List ℕ)
     (f : Free) (d : Draw) (entry : Entry) : Type 0 where
   pub sealed : is_clear body ≡ false

@@ -1,5 +1,4 @@
--- A requester as the program keeps it, with every free value handed in, and what comes of a command
--- and of a body.
+-- A requester as the program keeps it, with every free value handed in, and what comes of a command and of a body.
 use Rattle.std.specs.Prelude.{◌≡◌, ◌∷◌, ℕ, List, Bool, true, false, Option, Some, None, Result, Ok, Err}
 use Rattle.requester_core.specs.Gathering.{Gathers}
 use Rattle.requester_core.specs.Sessions as sessions
@@ -23,8 +22,8 @@ use Rattle.spdm_grammar.specs.declared.told.event.Finished.TheVariants as finish
 
 -- ---- What is kept.
 
--- It is kept of this history, which a requester with this set-up made under some free values: the
--- clear part, the sessions, and what is gathered of a large answer.
+-- It is kept of this history, which a requester with this set-up made under some free values: the clear part, the
+-- sessions, and what is gathered of a large response.
 pub record StandsFor (seen : Asking) (q : ReqSetup) (h : History) : Type 0 where
   pub talk : talk.StandsFor seen.talk q h
   pub sessions : sessions.StandsFor seen.sessions q h
@@ -43,8 +42,8 @@ command_of (tell.Measure session op) = Measure session op
 command_of (tell.End session) = End session
 command_of tell.Retry = Retry
 
--- It is done: the message that the outcome sends has this tag and this body, and what is kept is
--- that of the history after it.
+-- It is done: the message that the outcome sends has this tag and this body, and what is kept is that of the history
+-- after it.
 pub record IsDone (q : ReqSetup) (h : History) (outcome : Outcome) (tag : ℕ) (body : List ℕ)
     (new : Asking) : Type 0 where
   pub sent : Sent
@@ -68,7 +67,7 @@ IsSentAs None None body = Unit {0}
 IsSentAs (Some sent) (Some tag) body = (sent.tag ≡ tag) × (body ≡ body_of sent.content)
 IsSentAs _ _ body = ⊥
 
--- This is told, and nothing is sent.
+-- This is reported, and nothing is sent.
 abbrev pub told : Event → Reaction
 told event = record { event = event; tag = None }
 
@@ -76,16 +75,15 @@ told event = record { event = event; tag = None }
 abbrev pub sent : ℕ → Reaction
 sent tag = record { event = event.Progress; tag = Some tag }
 
--- What is told and sent of a body is what the outcome tells and sends, and what is kept is that of
--- the history after it.
+-- What is reported and sent of a body is what the outcome tells and sends, and what is kept is that of the history
+-- after it.
 pub record IsAnswered (q : ReqSetup) (h : History) (outcome : Outcome) (reaction : Reaction)
     (body : List ℕ) (new : Asking) : Type 0 where
   pub event : event_of outcome ≡ Some reaction.event
   pub sends : IsSentAs (sent_by outcome) reaction.tag body
   pub stands : StandsFor new q (after h outcome)
 
--- The sessions are those of the history with an entry, and the clear part is that of the history
--- without it.
+-- The sessions are those of the history with an entry, and the clear part is that of the history without it.
 pub record IsBeside (seen : Asking) (q : ReqSetup) (h : History) (entry : Entry) : Type 0 where
   pub talk : talk.StandsFor seen.talk q h
   pub sessions : sessions.StandsFor seen.sessions q (entry ∷ h)

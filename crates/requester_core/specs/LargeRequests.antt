@@ -1,5 +1,5 @@
--- A large request that goes by chunks, as one who judges it sees it: it goes on by whatever came in answer to a
--- chunk, and is broken off by GET_VERSION whatever its bytes were. This project's own.
+-- A large request that is sent in chunks, as the checker it sees it: it goes on by whatever came in answer to a chunk,
+-- and is broken off by GET_VERSION whatever its bytes were. This project's own.
 use Rattle.std.specs.Prelude.{◌≡◌, ◌⊎◌, ◌+◌, ◌==◌, zero, suc, ℕ, List, ◌∷◌, if◌then◌else◌, false, Option, Some, None}
 use Rattle.requester_core.specs.Joined.{StandsFor}
 use Rattle.requester_core.specs.Talk as talk
@@ -20,7 +20,7 @@ use Rattle.spdm_machine.specs.Keys.{Draw}
 
 -- ---- The next chunk.
 
--- Behind the chunk of this number of a request comes the next one, and none behind the last.
+-- After the chunk of this number of a request comes the next one, and none after the last.
 abbrev pub piece_behind : History → Aim → Option Sent
 piece_behind h (ByChunks asked handle number) =
     if number + 1 == chunk_count (connection_terms h).common.to_responder.transfer
@@ -36,8 +36,8 @@ piece_behind_sent h (Some sent) = piece_behind h sent.aim
 abbrev pub next_piece : History → Option Sent
 next_piece h = piece_behind_sent h (outstanding h)
 
--- The next chunk is sent and written, and what is kept is that of the history in which any message
--- called for it, under any tag. Where there is none, nothing changes.
+-- The next chunk is sent and written, and what is kept is that of the history in which any message called for it, under
+-- any tag. Where there is none, nothing changes.
 abbrev pub SendsPiece : ReqSetup → History → Option Sent → Option ℕ → (out : List ℕ)
     → (old new : talk.Seen) → Type 0
 SendsPiece q h None None out old new = new ≡ old
@@ -58,8 +58,8 @@ IsAcknowledged q h _ _ body new = ⊥
 
 -- ---- Broken off.
 
--- The history behind a first chunk and so many further messages, each of which begins no large request
--- and was called for by any message, under any tag. So are the chunks of a request of any bytes.
+-- The history after a first chunk and so many further messages, each of which begins no large request and was called
+-- for by any message, under any tag. So are the chunks of a request of any bytes.
 unfoldable pub IsSentOn : (first : History) → (further : ℕ) → History → Type 0
 IsSentOn first zero h = h ≡ first
 IsSentOn first (suc n) h =

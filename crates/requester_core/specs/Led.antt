@@ -28,7 +28,7 @@ changes_nothing (seen.Ignored cause) = true
 changes_nothing seen.Exchange = true
 changes_nothing _ = false
 
--- It calls for the first chunk of a large answer.
+-- It calls for the first chunk of a large response.
 abbrev pub is_large : seen_led.Led → Bool
 is_large (seen.Large tag) = true
 is_large _ = false
@@ -37,13 +37,13 @@ is_large _ = false
 abbrev pub Follows : History → Led → Seen → Type 0
 Follows h led new = (tag : ℕ) (m : List ℕ) (d : Draw) → Shows new (TookClear tag m led d ∷ h)
 
--- This is told, and nothing is sent.
+-- This is reported, and nothing is sent.
 pub record Rests (h : History) (led : Led) (told : Event) (new : Seen) : Type 0 where
   pub event : led.event ≡ told
   pub next : led.next ≡ None
   pub follows : Follows h led new
 
--- The message asks for no chunk of a large answer.
+-- The message asks for no chunk of a large response.
 abbrev pub is_no_get : Aim → Bool
 is_no_get (Plain asked) = true
 is_no_get (ByChunks asked handle number) = true
@@ -59,7 +59,7 @@ pub record SendsNext (h : History) (led : Led) (sent : Sent) (tag : ℕ) (new : 
   pub content : sent.content ≡ Clear out
   pub follows : Follows h led new
 
--- It asks for the first chunk of a large answer.
+-- It asks for the first chunk of a large response.
 abbrev pub IsFirstGet : Aim → Type 0
 IsFirstGet aim = (request : RequestMessage) × (handle : ℕ) × (aim ≡ ForChunk request handle 0 [])
 
@@ -108,9 +108,8 @@ abbrev pub Stands : ReqSetup → History → List ℕ → Result Led ReqIgnored 
 Stands q h m leads new = (led : Led) (tag : ℕ) (d : Draw) → leads ≡ Ok led
     → StandsFor new q (TookClear tag m led d ∷ h)
 
--- A message in the clear came to the outstanding one, which asks this: it leads to what it leads to
--- in the definitions under any free values; or it brings the PSK_EXCHANGE_RSP that is awaited,
--- which is written, and nothing changes.
+-- A message in the clear came to the outstanding one, which asks this: it leads to what it leads to in the definitions
+-- under any free values; or it brings the PSK_EXCHANGE_RSP that is awaited, which is written, and nothing changes.
 abbrev pub IsTaken : ReqSetup → History → Sent → RequestMessage → List ℕ → seen_led.Led
     → (old new : Seen) → (out : List ℕ) → Type 0
 IsTaken q h sent request m seen.Exchange old new out = (answer : List ℕ) × (place : ℕ)

@@ -10,8 +10,8 @@ use Rattle.spdm_grammar.specs.declared.told.phase.Phase.{Phase}
 use Rattle.spdm_machine.specs.Terms.{no_negotiation, terms_of}
 use Rattle.transcript.specs.Transcripts.{Negotiation, vca_of}
 
--- What is kept, as contracts see it: the phase, the bytes of the messages that were said, what both
--- ends can do, and the algorithms that were chosen.
+-- What is kept, as contracts see it: the phase, the bytes of the messages that were said, what both ends can do, and
+-- the algorithms that were chosen.
 pub record Seen : Type 0 where
   pub phase : Phase
   pub messages : List ℕ
@@ -35,8 +35,7 @@ pub record StandsFor (seen : Seen) (p : Phase) (n : Negotiation) : Type 0 where
   pub choice : (terms_of n).choice ≡ seen.choice
   pub short : IsShort n
 
--- While the answer to a request of the negotiation is awaited, only the messages before it were
--- said.
+-- While the answer to a request of the negotiation is awaited, only the messages before it were said.
 abbrev pub IsUpTo : RequestMessage → Negotiation → Type 0
 IsUpTo GetVersion n = n ≡ no_negotiation
 IsUpTo (GetCapabilities caps) n = n

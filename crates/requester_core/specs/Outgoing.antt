@@ -1,5 +1,5 @@
--- What a requester sends, as the program keeps it: the next tag and handle, what is waited for, and
--- the request in the clear that is outstanding.
+-- What a requester sends, as the program keeps it: the next tag and handle, what is waited for, and the request in the
+-- clear that is outstanding.
 use Rattle.std.specs.Prelude.{⊤, ◌≡◌, ◌≤◌, ◌<◌, ◌+◌, ◌%◌, ℕ, List, if◌then◌else◌, Option, Some, None}
 use Rattle.requester_core.specs.Waiting.{is_first, waiting_of}
 use Rattle.requester_core.specs.declared.clear.waiting.Waiting.{Waiting}
@@ -39,7 +39,7 @@ pub record StandsFor (seen : Seen) (next_tag next_handle : ℕ) (outstanding : O
     pub waiting : seen.waiting ≡ waiting_of outstanding
     pub request : IsKeptOf outstanding seen.request
 
--- The tag behind a tag, and the handle behind a handle.
+-- The tag after a tag, and the handle after a handle.
 abbrev pub tag_after : ℕ → ℕ
 tag_after tag = (tag % 8 + 1) % 8
 
@@ -62,15 +62,14 @@ taken_back seen = record {
   request = seen.request;
 }
 
--- A large request was sent by chunks, of which this was the number of the last, from 0 on.
+-- A large request was sent in chunks, of which this was the number of the last, from 0 on.
 abbrev pub passed_over : (number : ℕ) → Seen → Seen
 passed_over number seen = record seen {
   tag = (seen.tag + number + 1) % 8;
   handle = handle_after seen.handle;
 }
 
--- A message in the clear was sent with this tag, for the request that is kept: it is written, and
--- is outstanding.
+-- A message in the clear was sent with this tag, for the request that is kept: it is written, and is outstanding.
 pub record Sends (sent : Sent) (old new : Seen) (tag : ℕ) (out : List ℕ) : Type 0 where
   pub tag_is : sent.tag ≡ tag
   pub content : sent.content ≡ Clear out

@@ -1,5 +1,5 @@
--- A record that a requester sent last, by itself upon what it took or by a command, as one who judges
--- it sees it: before it came, and with the padding that it came with. This project's own.
+-- A record that a requester sent last, by itself upon what it took or by a command, as the checker it sees it: before
+-- it came, and with the padding that it came with. This project's own.
 use Rattle.std.specs.Prelude.{◌≡◌, ◌≤◌, ℕ, List, [], ◌∷◌, Bool, true, false, Some, None, length}
 use Rattle.requester_core.specs.Joined.{StandsFor}
 use Rattle.requester_core.specs.Sessions as sessions
@@ -17,8 +17,8 @@ use Rattle.spdm_machine.specs.Keys.{Draw}
 
 -- ---- What is sent upon the newest entry.
 
--- Its newest entry took a message, in the clear or as a record of the session with this
--- ReqSessionID, and nothing is sent upon it.
+-- Its newest entry took a message, in the clear or as a record of the session with this ReqSessionID, and nothing is
+-- sent upon it.
 abbrev pub TookLast : History → (id : ℕ) → Type 0
 TookLast [] id = ⊥
 TookLast (Told command sent d ∷ older) id = ⊥
@@ -32,16 +32,15 @@ TookAny (Told command sent d ∷ older) = ⊥
 TookAny (TookClear tag m led d ∷ older) = led.next ≡ None
 TookAny (TookRecord tag of sealed inner led d ∷ older) = led.next ≡ None
 
--- It took a message upon which one may be sent for this: a record in the session of the record that
--- was taken, or in any where a message in the clear was.
+-- It took a message upon which one may be sent for this: a record in the session of the record that was taken, or in
+-- any where a message in the clear was.
 abbrev pub TookFor : History → Aim → Type 0
 TookFor bare (InSession id ask) = TookLast bare id
 TookFor bare _ = TookAny bare
 
 -- ---- Its padding.
 
--- The message that is sent upon the newest entry, as the session with this ReqSessionID seals it
--- with this padding.
+-- The message that is sent upon the newest entry, as the session with this ReqSessionID seals it with this padding.
 abbrev pub owed_with : ReqSetup → History → (id : ℕ) → (pad : List ℕ) → Sent → Sent
 owed_with q bare id pad sent = sent_with q.psk (session_of id bare) pad sent
 
@@ -51,8 +50,8 @@ abbrev pub IsOwedAs : ReqSetup → History → (id : ℕ) → (pad : List ℕ) �
 IsOwedAs q bare id pad sent sealed =
     body_of (owed_with q bare id pad sent).content ≡ record_body sealed
 
--- The bytes are its record with a padding of at most 16 bytes, and the sessions are those of the
--- history with that; or they are no such record. The history is given by the message that is sent last.
+-- The bytes are its record with a padding of at most 16 bytes, and the sessions are those of the history with that; or
+-- they are no such record. The history is given by the message that is sent last.
 abbrev pub AreRepaddedIn : ReqSetup → (bare : History) → (whole : Sent → History) → (id : ℕ) → Sent
     → (sealed : List ℕ) → (new : Sessions) → Bool → Type 0
 AreRepaddedIn q bare whole id sent sealed new true =

@@ -1,4 +1,4 @@
--- The records that a requester seals itself, opened for one who judges them. This project's own.
+-- The records that a requester seals itself, opened for the checker them. This project's own.
 use Rattle.std.specs.Prelude.{◌≡◌, ◌≤◌, ◌&&◌, if◌then◌else◌, length, ℕ, List, Bool, true, false, Option, Some, None, is_none}
 use Rattle.psk_session.specs.Course.{with_asked}
 use Rattle.psk_session.specs.OwnRecords.{IsPadded, own_fault, own_inner}
@@ -69,8 +69,7 @@ OpensNamed psk s sealed false out = (names sealed s && opens_own psk s sealed) �
 
 -- ---- Another padding.
 
--- The session awaits the answer to a record that has another padding now; or the bytes are no such
--- record.
+-- The session awaits the answer to a record that has another padding now; or the bytes are no such record.
 abbrev pub IsSlotRepadded : (psk : List ℕ) → Steps → Ask → (inner sealed : List ℕ) → (new : Slot)
     → Bool → Type 0
 IsSlotRepadded psk s a inner sealed new true =

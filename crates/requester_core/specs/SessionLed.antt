@@ -25,7 +25,7 @@ abbrev pub is_end : SessionLed → Bool
 is_end (seen.Ends told) = true
 is_end _ = false
 
--- What is told of a record, by what its session tells.
+-- What is reported of a record, by what its session tells.
 abbrev pub told_led : SessionId → Told → SessionLed
 told_led id (told.Answer reply) = seen.Rests (event_of id reply)
 told_led id told.Next = seen.Sends
@@ -33,14 +33,14 @@ told_led id told.Ended = seen.Ends (event.Done (finished.Ended id))
 told_led id (told.Bad fault) = seen.Ends (event.Lost id fault)
 told_led id (told.Stay fault) = seen.Ignored fault
 
--- What is told of this course.
+-- What is reported of this course.
 abbrev pub led_by : SessionId → Course → SessionLed
 led_by id (Lost fault) = seen.Ends (event.Lost id fault)
 led_by id Ended = seen.Ends (event.Done (finished.Ended id))
 led_by id (Answered reply effect) = seen.Rests (event_of id reply)
 led_by id (GoesOn effect ask inner) = seen.Sends
 
--- What is told of this verdict on PSK_FINISH_RSP.
+-- What is reported of this verdict on PSK_FINISH_RSP.
 abbrev pub finish_led_by : SessionId → Option BadReply → SessionLed
 finish_led_by id (Some fault) = seen.Ends (event.Lost id fault)
 finish_led_by id None = seen.Rests (event.Done (finished.Opened id))
@@ -74,8 +74,8 @@ abbrev pub settled : SessionLed → Slot → Slot
 settled (seen.Ends told) kept = slot.Empty
 settled _ kept = kept
 
--- A record came to the session of these steps, which asked this: it does not open, and the same
--- stands; or it leads to what is told, and leaves what is kept.
+-- A record came to the session of these steps, which asked this: it does not open, and the same stands; or it leads to
+-- what is told, and leaves what is kept.
 abbrev pub IsStepped : (psk : List ℕ) → Steps → Ask → (sealed pad : List ℕ) → (new : Slot)
     → SessionLed → Type 0
 IsStepped psk s a sealed pad new (seen.Ignored fault) =

@@ -31,8 +31,7 @@ use Rattle.spdm_machine.specs.Keys.{Draw}
 
 -- ---- A command that asks something of a session.
 
--- It is done, and the sessions are those of the history with it; or it fails, and they are the
--- same.
+-- It is done, and the sessions are those of the history with it; or it fails, and they are the same.
 abbrev pub IsToldTo : ReqSetup → History → Command → Free → Draw → Result Unit CommandFault
     → (new : Sessions) → Type 0
 IsToldTo q h command f d (Ok u) new =
@@ -43,7 +42,7 @@ IsToldTo q h command f d (Err fault) new =
 
 -- ---- A record that comes.
 
--- What is told.
+-- What is reported.
 abbrev pub event_by : SessionLed → Event
 event_by (seen.Ignored fault) = event.Ignored (ignored.Record fault)
 event_by (seen.Rests told) = told
@@ -55,8 +54,7 @@ abbrev pub is_sent : SessionLed → Bool
 is_sent seen.Sends = true
 is_sent _ = false
 
--- The outcome adds an entry of which this is told, and the sessions are those of the history with
--- it.
+-- The outcome adds an entry of which this is told, and the sessions are those of the history with it.
 pub record IsAdded (q : ReqSetup) (h : History) (outcome : Outcome) (led : SessionLed)
     (new : Sessions) : Type 0 where
   pub entry : Entry
@@ -87,8 +85,8 @@ pub record BringsExchange (q : ReqSetup) (h : History) (sent : Sent) (m answer :
   pub whole : carried_by q h m sent.aim ≡ Whole answer place
   pub reads : reading_of h (PskExchange exchange) answer ≡ Ok (PskExchangeRsp rsp)
 
--- Its verify data are right, and the sessions are those of the history with it and with PSK_FINISH
--- behind it; or it is ignored, and they are the same.
+-- Its verify data are right, and the sessions are those of the history with it and with PSK_FINISH after it; or it is
+-- ignored, and they are the same.
 abbrev pub IsBegunBy : ReqSetup → History → Free → (tag : ℕ) → Draw → Sent → (m answer : List ℕ)
     → ExchangeMessage → Result Unit ReqIgnored → (new : Sessions) → Type 0
 IsBegunBy q h f tag d sent m answer exchange (Ok u) new =
@@ -101,7 +99,7 @@ IsBegunBy q h f tag d sent m answer exchange (Err cause) new =
 
 -- ---- Messages in the clear that touch no session.
 
--- The sessions are the same behind a message in the clear that was taken and changes none,
+-- The sessions are the same after a message in the clear that was taken and changes none,
 abbrev pub ClearPasses : Type 0
 ClearPasses = (x : Sessions) (q : ReqSetup) (h : History) (f : Free) (owner : Bool) (tag : ℕ)
     (body : List ℕ) (d : Draw) (led : Led)
@@ -109,7 +107,7 @@ ClearPasses = (x : Sessions) (q : ReqSetup) (h : History) (f : Free) (owner : Bo
     → KeepsSessions h (TookClear tag (drop 1 body) led d) → StandsFor x q h
     → StandsFor x q (TookClear tag (drop 1 body) led d ∷ h)
 
--- and behind GET_MEASUREMENTS that is sent in the clear.
+-- and after GET_MEASUREMENTS that is sent in the clear.
 abbrev pub MeasurePasses : Type 0
 MeasurePasses = (x : Sessions) (q : ReqSetup) (h : History) (f : Free) (d : Draw) (op : ℕ)
     (sent : Sent) → asks false q h (Measure None op) f d ≡ Adds (Told (Measure None op) sent d)

@@ -39,7 +39,7 @@ pub record IsAsked (seen : ReqSession) (psk : List ℕ) (s : Steps) : Type 0 whe
   pub ask : Ask
   pub stands : IsAwaiting seen psk s ask
 
--- A slot is empty exactly where there is no session; else its session is kept, as far as it has come.
+-- A slot is empty exactly when there is no session; else its session is kept, as far as it has come.
 abbrev pub IsSlotOf : Slot → (psk : List ℕ) → Steps → Type 0
 IsSlotOf slot.Empty psk s = s ≡ []
 IsSlotOf (slot.Opening seen) psk s = IsOpening seen psk s
@@ -51,6 +51,6 @@ abbrev pub IsFinishingSlot : Slot → (psk : List ℕ) → Steps → Type 0
 IsFinishingSlot (slot.Live seen) psk s = ⊥
 IsFinishingSlot other psk s = IsSlotOf other psk s
 
--- A session as it is shown, from its PSK_EXCHANGE_RSP on.
+-- A view of a session, from its PSK_EXCHANGE_RSP on.
 abbrev pub shown_of : Steps → Option SessionView
 shown_of s = if is_accepted s then Some (view_of s) else None

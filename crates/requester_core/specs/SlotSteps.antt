@@ -23,8 +23,8 @@ abbrev pub IsAskedOf : (psk : List ℕ) → Steps → Ask → (pad : List ℕ) �
 IsAskedOf psk s a pad new (Ok u) = (fault_in s a ≡ None) × IsSlotOf new psk (asked psk s a pad)
 IsAskedOf psk s a pad new (Err fault) = (fault_in s a ≡ Some fault) × IsSlotOf new psk s
 
--- The session that an answer to PSK_EXCHANGE accepted, whose PSK_FINISH has this padding; or the
--- same session, with the fault of the answer.
+-- The session that an answer to PSK_EXCHANGE accepted, whose PSK_FINISH has this padding; or the same session, with the
+-- fault of the answer.
 abbrev pub IsAcceptedBy : (psk : List ℕ) → Negotiation → (exchange answer pad : List ℕ)
     → (new : Slot) → Result Unit OpenFault → Type 0
 IsAcceptedBy psk n exchange answer pad new (Ok u) =

@@ -1,5 +1,4 @@
--- The clear part of a requester, as the program keeps it. What is gathered of a large answer stands
--- beside it.
+-- The clear part of a requester, as the program keeps it. What is gathered of a large response stands beside it.
 use Rattle.std.specs.Prelude.{◌≡◌, ℕ, List}
 use Rattle.requester_core.specs.Negotiating as negotiating
 use Rattle.requester_core.specs.Negotiating.{IsUpToSent}
@@ -27,7 +26,7 @@ pub record StandsFor (seen : Seen) (q : ReqSetup) (h : History) : Type 0 where
   pub holds : Holds q h
   pub shows : Shows seen h
 
--- What of it counts where all begins anew: the next tag and handle, and the last data.
+-- What of it counts where all starts over: the next tag and handle, and the last data.
 pub record Counts (seen : Seen) (h : History) : Type 0 where
   pub tag : seen.outgoing.tag ≡ next_tag h
   pub handle : seen.outgoing.handle ≡ next_handle h

@@ -4,11 +4,10 @@ ghost use Rattle.spdm_machine.specs.Bodies.{clear_body, record_body};
 use spdm_basis::Buffer;
 use spdm_grammar::names::message_type::{SECURED, SPDM};
 
-/// The body of a message as it goes into packets: its type and an SPDM message (DSP0275) or a
-/// secured record (DSP0276).
+/// An MCTP message body: the message type, and an SPDM message (DSP0275) or a secured record (DSP0276).
 pub type Body = Buffer<4161>;
 
-// A message in the clear, in place of what `out` holds.
+// Overwrites `out` with the body of a clear message.
 pub(crate) fn write_clear(message: &[u8], out: &mut Body)
     requires { length message.now ≤ 4160 }
     ensures { out.new ≡ clear_body message.now }
@@ -18,7 +17,7 @@ pub(crate) fn write_clear(message: &[u8], out: &mut Body)
     let _ = out.extend(message);
 }
 
-// A record, in place of what `out` holds.
+// Overwrites `out` with the body of a record.
 pub(crate) fn write_record(sealed: &[u8], out: &mut Body)
     requires { length sealed.now ≤ 4160 }
     ensures { out.new ≡ record_body sealed.now }

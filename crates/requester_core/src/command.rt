@@ -1,7 +1,7 @@
-/// What a requester is told to do. A session is named by its ReqSessionID.
+/// A command to a requester. A session is named by its ReqSessionID.
 #[derive(Clone, Copy, Debug, PartialEq, Eq)]
 pub enum Command<'a> {
-    /// Negotiate anew. It ends all sessions.
+    /// Negotiate again, which ends all sessions.
     Connect,
     /// Open a session, with a measurement summary of this kind: 0, 1 or 255.
     Open { summary: u8 },

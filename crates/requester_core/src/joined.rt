@@ -4,15 +4,14 @@ use negotiate::Common;
 use spdm_basis::Frame;
 use spdm_grammar::{Choice, Phase, SessionList, SessionView};
 
-/// A requester (DSP0274, section 10), with every free value handed in: the clear part, what is
-/// gathered of a large answer in the clear, and the sessions. It lies in place, and takes no memory.
+/// A requester (DSP0274, section 10), with every free value handed in: the clear part, the part received so far of a
+/// large response in the clear, and the sessions. Fixed size; never allocates.
 #[derive(Drop)]
 pub struct Asking {
     pub(crate) talk: Talk,
     pub(crate) gathered: Collector,
     pub(crate) sessions: Sessions,
-    // The message that was sent or came in the clear last, so that no call clears a place of its own. What it
-    // holds between two calls does not matter.
+    // Scratch space for the clear message last sent or received, so that no call clears a buffer of its own.
     pub(crate) message: Frame,
 }
 
@@ -27,8 +26,7 @@ impl Asking {
     ghost use Rattle.requester_machine.specs.Setup.{ReqSetup};
     ghost use Rattle.requester_machine.specs.Shown.{last_data, views_of};
 
-    /// Where nothing was told and nothing came yet, at a requester that takes messages of up to
-    /// this length.
+    /// The initial state of a requester with this MaxSPDMmsgSize.
     pub fn new(max: u32) -> Asking
         ensures { (q : ReqSetup) → q.max ≡ max → StandsFor result q [] }
     {
@@ -40,14 +38,14 @@ impl Asking {
         }
     }
 
-    /// How far the negotiation has come.
+    /// The phase of the negotiation.
     pub fn phase(&self) -> Phase
         ensures { (q : ReqSetup) (h : History) → StandsFor self.now q h → result ≡ phase_of h }
     {
         self.talk.phase()
     }
 
-    /// The algorithms that were chosen, as far as they were settled.
+    /// The algorithms negotiated so far.
     pub fn choice(&self) -> Choice
         ensures { (q : ReqSetup) (h : History) → StandsFor self.now q h
             → result ≡ (connection_terms h).choice }
@@ -55,7 +53,7 @@ impl Asking {
         self.talk.choice()
     }
 
-    /// What both ends can do, as far as it was settled.
+    /// The common capabilities negotiated so far.
     pub fn common(&self) -> &Common
         ensures { (q : ReqSetup) (h : History) → StandsFor self.now q h
             → result.now ≡ (connection_terms h).common }
@@ -63,14 +61,14 @@ impl Asking {
         self.talk.common()
     }
 
-    /// The handle that the next large request gets.
+    /// The handle of the next large request.
     pub fn next_handle(&self) -> u8
         ensures { (q : ReqSetup) (h : History) → StandsFor self.now q h → result ≡ next_handle h }
     {
         self.talk.next_handle()
     }
 
-    /// The least ReqSessionID that no session has; 4 where there is none.
+    /// The least unused ReqSessionID; 4 if there is none.
     pub fn free_id(&self) -> u16
         ensures value { (q : ReqSetup) (h : History) → StandsFor self.now q h
             → result ≡ free_id h }
@@ -80,7 +78,7 @@ impl Asking {
         self.sessions.free_id()
     }
 
-    /// The session of this ReqSessionID as it is shown, from its PSK_EXCHANGE_RSP on.
+    /// A view of the session with this ReqSessionID, from its PSK_EXCHANGE_RSP on.
     pub fn view(&self, id: u16) -> Option<SessionView>
         ensures { (q : ReqSetup) (h : History) → StandsFor self.now q h → length h < 2 ^ 64 - 1
             → result ≡ shown_of (session_of id h) }
@@ -88,7 +86,7 @@ impl Asking {
         self.sessions.view(id)
     }
 
-    /// The sessions as they are shown, by rising ReqSessionID.
+    /// Views of the sessions, by rising ReqSessionID.
     pub fn sessions(&self) -> SessionList
         ensures { (q : ReqSetup) (h : History) → StandsFor self.now q h → length h < 2 ^ 64 - 1
             → result ≡ views_of h }
@@ -96,8 +94,7 @@ impl Asking {
         SessionList::of(self.view(1), self.view(2), self.view(3), self.view(4))
     }
 
-    /// The last application data or measurement record that came, whichever came later; no bytes
-    /// before the first.
+    /// The application data or measurement record received last; empty before the first.
     pub fn last_data(&self) -> &[u8]
         ensures { (q : ReqSetup) (h : History) → StandsFor self.now q h
             → result.now ≡ last_data h }

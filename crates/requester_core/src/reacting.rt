@@ -31,7 +31,7 @@ fn is_bringing(event: Event) -> bool
     )
 }
 
-// This is told, and nothing is sent.
+// This is reported, and nothing is sent.
 fn told(event: Event) -> Reaction
     ensures { result ≡ joined.told event }
 {
@@ -49,7 +49,7 @@ fn sent(tag: u8) -> Reaction
 }
 
 impl Asking {
-    // The session of this ReqSessionID, which took the body, sent a record.
+    // The session with this ReqSessionID, which took the body, sent a record.
     fn follow(&mut self, id: u16, out: &mut Body) -> Reaction
         ensures { (q : ReqSetup) (h : History) (owner : Bool) (tag : ℕ) (body : List ℕ) (f : Free)
             (d : Draw) (entry : Entry) (next : Sent) (ask : Ask) → IsBeside self.old q h entry
@@ -62,7 +62,7 @@ impl Asking {
         sent(tag)
     }
 
-    // The session of this ReqSessionID took the body, of which this is told.
+    // The session with this ReqSessionID took the body, of which this is told.
     fn settle(&mut self, id: u16, event: Event)
         ensures { (q : ReqSetup) (h : History) (owner : Bool) (tag : ℕ) (body : List ℕ) (f : Free)
             (d : Draw) (entry : Entry) (waits : Sent) (ask : Ask) → HasSizes q
@@ -77,7 +77,7 @@ impl Asking {
         }
     }
 
-    // The PSK_EXCHANGE_RSP that the session of this ReqSessionID awaits came, as `message`.
+    // Handles `message`, the PSK_EXCHANGE_RSP that the session with this ReqSessionID awaits.
     fn begin(&mut self, id: u16, pad: &[u8], out: &mut Body) -> Reaction
         requires pad { length pad.now ≤ 16 }
         ensures { (q : ReqSetup) (h : History) (owner : Bool) (tag : ℕ) (body : List ℕ) (f : Free)
@@ -92,7 +92,7 @@ impl Asking {
         }
     }
 
-    // A record came to the session of this ReqSessionID, which awaits one.
+    // Handles a record for the session with this ReqSessionID, which awaits one.
     fn on_record(&mut self, id: u16, sealed: &[u8], pad: &[u8], out: &mut Body) -> Reaction
         requires pad { length pad.now ≤ 16 }
         ensures { (q : ReqSetup) (h : History) (owner : Bool) (tag : ℕ) (body : List ℕ) (f : Free)
@@ -116,10 +116,9 @@ impl Asking {
         }
     }
 
-    /// A whole body came, with its tag owner bit and tag. A record that is sent upon it has this
-    /// padding, of at most 16 bytes. The body that is sent next, if one is, is written in place of
-    /// what `out` holds. After `Ignored` and `Warned` nothing has changed, and the outstanding
-    /// request stands.
+    /// Handles a complete message body, with its tag owner bit and tag. A record sent in response has this padding, of
+    /// at most 16 bytes. The body sent next, if any, overwrites `out`. After `Ignored` and `Warned` nothing has
+    /// changed, and the outstanding request is still outstanding.
     pub fn on_body(
         &mut self,
         setup: &Setup<'_>,

@@ -1,10 +1,10 @@
 use spdm_grammar::Event;
 
-/// What came of a whole body.
+/// The outcome of a complete message body.
 #[derive(Clone, Copy, Debug, PartialEq, Eq)]
 pub struct Reaction {
-    /// What is told of it.
+    /// What is reported.
     pub event: Event,
-    /// The tag of the message that is sent next, where one is: exactly where `event` is `Progress`.
+    /// The tag of the message sent next: present exactly when `event` is `Progress`.
     pub tag: Option<u8>,
 }

@@ -7,16 +7,16 @@ use spdm_grammar::names::capability::{
 };
 use spdm_grammar::{Caps, FlagSet, Suites};
 
-/// How a requester is set up. What it needs for keys stands with its sessions.
+/// The configuration of a requester. What its keys depend on is kept with its sessions.
 #[derive(Clone, Copy)]
 pub struct Setup<'a> {
-    /// DataTransferSize: the longest message that it takes in one piece, in bytes.
+    /// DataTransferSize: the longest message that it receives unchunked, in bytes.
     pub transfer: u32,
-    /// MaxSPDMmsgSize: the longest message that it takes in chunks, in bytes.
+    /// MaxSPDMmsgSize: the longest message that it receives in chunks, in bytes.
     pub max: u32,
-    /// The capabilities that it announces beside those that each requester of this profile has.
+    /// The optional capabilities that it announces.
     pub flags: FlagSet,
-    /// The algorithms that it has.
+    /// The algorithms that it supports.
     pub suites: Suites,
     /// PSKHint of PSK_EXCHANGE: at most 64 bytes.
     pub hint: &'a [u8],

@@ -20,7 +20,7 @@ use spdm_basis::Psk;
 use spdm_grammar::CommandFault;
 
 impl Asking {
-    // Begins anew, whatever stands of the sessions.
+    // Starts the negotiation over, whatever the sessions.
     pub(crate) fn connect(&mut self, out: &mut Body) -> u8
         ensures { (q : ReqSetup) (h : History) (f : Free) (d : Draw)
             → talk.Counts self.old.talk h → self.old.gathered.max ≡ q.max
@@ -76,7 +76,7 @@ impl Asking {
         }
     }
 
-    // Asks something of the session of this ReqSessionID, in a record with this padding.
+    // Sends a request in the session with this ReqSessionID, in a record with this padding.
     fn ask(&mut self, id: u16, ask: Ask<'_>, pad: &[u8], out: &mut Body) -> Result<u8, CommandFault>
         requires pad { length pad.now ≤ 16 }
         ensures { (q : ReqSetup) (h : History) (f : Free) (d : Draw) → f.pad ≡ pad.now
@@ -97,7 +97,7 @@ impl Asking {
         }
     }
 
-    // The outstanding message goes out again.
+    // Resends the outstanding message.
     fn retry(&mut self, out: &mut Body) -> Result<u8, CommandFault>
         ensures { (q : ReqSetup) (h : History) (f : Free) (d : Draw) → HasSizes q
             → StandsFor self.old q h
@@ -116,10 +116,9 @@ impl Asking {
         }
     }
 
-    /// Does a command, with these free values and with this padding of at most 16 bytes where a
-    /// record is sealed. The body that is sent is written in place of what `out` holds: the tag of
-    /// its message. The ReqSessionID of `free` is from 1 to 4. The faults come in the order of
-    /// `CommandFault`, without `Worn`; after a fault nothing has changed.
+    /// Runs a command, with these free values, and this padding of at most 16 bytes if a record is sealed. The body
+    /// sent overwrites `out`; returns the tag of its message. The ReqSessionID of `free` is from 1 to 4. Faults are
+    /// checked in the order of `CommandFault`, without `Worn`; on a fault nothing changes.
     pub fn command(
         &mut self,
         setup: &Setup<'_>,

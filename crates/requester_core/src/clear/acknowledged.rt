@@ -69,8 +69,8 @@ impl Ack<'_> {
 }
 
 impl Talk {
-    // An acknowledgement of a chunk without a fault: its response refuses the request or answers
-    // it, or it calls for the next chunk.
+    // An acknowledgement of a chunk without a fault: its response refuses the request or answers it, or it calls for
+    // the next chunk.
     fn on_ack(
         &mut self,
         setup: &Setup<'_>,
@@ -218,10 +218,9 @@ impl Talk {
         }
     }
 
-    /// A message in the clear came, of at most 4,096 bytes, while a request in the clear is
-    /// outstanding. `gathered` has the chunks of its large answer that came. What is sent next, if
-    /// anything is, or the PSK_EXCHANGE_RSP that is awaited, is written in place of what `out`
-    /// holds.
+    /// Handles a clear message of at most 4,096 bytes while a clear request is outstanding. `gathered` has the chunks
+    /// received of its large response. The message sent next, if any, or the awaited PSK_EXCHANGE_RSP, overwrites
+    /// `out`.
     pub fn on_clear(
         &mut self,
         setup: &Setup<'_>,

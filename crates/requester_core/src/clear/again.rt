@@ -1,4 +1,4 @@
-/// The outstanding message as it goes out again.
+/// The outstanding message as it is resent.
 #[derive(Clone, Copy, Debug, PartialEq, Eq)]
 pub enum Again {
     /// It is a message in the clear with this tag, which is written.

@@ -61,7 +61,7 @@ fn measured_number(op: u8, measured: &Measured<'_>) -> u8
 }
 
 impl Talk {
-    // The response that bytes spell as an answer to what is asked, or their first fault.
+    // The response that bytes encode as an answer to what is asked, or their first fault.
     pub(crate) fn read<'a>(&self, asked: Asked, bytes: &'a [u8]) -> Result<Response<'a>, Malformed>
         ensures { (h : History) (request : RequestMessage) → Shows self.now h
             → IsClearRequest request → kind_of request ≡ asked
@@ -92,7 +92,7 @@ impl Talk {
         Led::Rests(Event::Stopped(why))
     }
 
-    // Whether an ERROR of this code calls for a large answer.
+    // Whether an ERROR of this code calls for a large response.
     fn is_large(&self, asked: Asked, code: u8) -> bool
         ensures { (h : History) (request : RequestMessage) → Shows self.now h
             → IsClearRequest request → kind_of request ≡ asked
@@ -103,8 +103,7 @@ impl Talk {
         code == LARGE_RESPONSE && asked.may_be_large() && chunk
     }
 
-    // ERROR: LargeResponse calls for the first chunk of a large answer; any other refuses the
-    // request.
+    // ERROR: LargeResponse calls for the first chunk of a large response; any other refuses the request.
     pub(crate) fn on_error(
         &mut self,
         asked: Asked,

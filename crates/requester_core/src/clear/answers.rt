@@ -27,7 +27,7 @@ fn place_of(at: usize, place: usize) -> usize
     at.saturating_add(place)
 }
 
-// Writes bytes in place of what `out` holds, where they fit.
+// Overwrites `out` with bytes, where they fit.
 fn put(bytes: &[u8], out: &mut Frame)
     ensures { length bytes.now ≤ MAX_MESSAGE_SIZE → out.new ≡ bytes.now }
 {
@@ -36,8 +36,7 @@ fn put(bytes: &[u8], out: &mut Frame)
 }
 
 impl Talk {
-    // The whole answer to what is asked reads as this response. It begins at this place of its
-    // message, near its front.
+    // The whole answer to what is asked reads as this response. It begins at this place of its message, near its front.
     fn on_response(
         &mut self,
         setup: &Setup<'_>,
@@ -79,8 +78,8 @@ impl Talk {
         }
     }
 
-    /// The whole answer to what is asked came, of at most 4,096 bytes. It begins at this place of
-    /// its message, near its front.
+    /// The whole answer to what is asked came, of at most 4,096 bytes. It begins at this place of its message, near its
+    /// front.
     pub(crate) fn on_answer(
         &mut self,
         setup: &Setup<'_>,

@@ -12,10 +12,10 @@ use spdm_codec::read_response;
 use spdm_grammar::{ReqIgnored, Response};
 use spdm_grammar::names::message_type::{SECURED, SPDM};
 
-// The length of a SHA-256 hash: how an ERROR is spelled depends on no hash.
+// The length of a SHA-256 hash: how an ERROR is encoded depends on no hash.
 const ANY_HASH_LEN: usize = 32;
 
-/// The code of the ERROR that a message spells, if it spells one.
+/// The code of the ERROR that a message encodes, if it encodes one.
 pub fn error_in(message: &[u8]) -> Option<u8>
     ensures { result ≡ bodies.error_in message.now }
 {
@@ -49,7 +49,7 @@ pub fn is_record(body: &[u8]) -> bool
     type_of(body) == SECURED
 }
 
-/// The message in a body, behind its type.
+/// The message in a body, after its type.
 pub fn message_in(body: &[u8]) -> &[u8]
     ensures { result.now ≡ drop 1 body.now }
 {
@@ -101,8 +101,8 @@ fn is_too_long(transfer: u32, body: &[u8]) -> bool
 }
 
 impl Talk {
-    /// The cause for which a whole body, with its tag owner bit and tag, is ignored before its
-    /// message is read, if there is one.
+    /// The cause for which a whole body, with its tag owner bit and tag, is ignored before its message is read, if
+    /// there is one.
     #[tactic(auto, unfolding(requester_machine::specs::Bodies::body_fault))]
     pub fn body_fault(
         &self,

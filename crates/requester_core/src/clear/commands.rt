@@ -108,8 +108,8 @@ impl Talk {
         is_too_long(self.negotiating.common(), exchange_len(setup, free))
     }
 
-    // The fault of opening a session, beside so many live ones, with a PSK_EXCHANGE that is too
-    // long or not.
+    // The fault of opening a session while `live` sessions are live; `is_long` tells whether its PSK_EXCHANGE is too
+    // long.
     #[tactic(auto, unfolding(requester_machine::specs::Commands::command_fault))]
     fn open_fault(&self, live: u8, summary: u8, is_long: bool) -> Option<CommandFault>
         ensures { (q : ReqSetup) (h : History) (f : Free) → Shows self.now h → live_count h ≡ live
@@ -137,7 +137,7 @@ impl Talk {
         None
     }
 
-    /// Begins anew, with GET_VERSION in place of what `out` holds: its tag.
+    /// Starts over with GET_VERSION, which overwrites `out`; returns its tag.
     pub fn connect(&mut self, out: &mut Frame) -> u8
         ensures { (q : ReqSetup) (h : History) (f : Free) (d : Draw) → Counts self.old h
             → IsDone q h Connect f d result self.new out.new }
@@ -147,8 +147,7 @@ impl Talk {
         self.outgoing.send(Asked::Version, Way::Whole, 0, out)
     }
 
-    /// Asks for measurements in the clear, by an operation. The message that is sent is written in
-    /// place of what `out` holds: its tag.
+    /// Requests measurements in the clear, by an operation. The message sent overwrites `out`; returns its tag.
     pub fn measure(&mut self, op: u8, out: &mut Frame) -> Result<u8, CommandFault>
         ensures { (q : ReqSetup) (h : History) (f : Free) (d : Draw) → HasSizes q
             → StandsFor self.old q h
@@ -163,9 +162,8 @@ impl Talk {
         Ok(self.outgoing.send_request(transfer, asked, out))
     }
 
-    /// Begins a session beside so many live ones, with a measurement summary of a kind and these
-    /// values. The message that is sent for PSK_EXCHANGE is written in place of what `out` holds:
-    /// its tag.
+    /// Begins a session while `live` sessions are live, with this kind of measurement summary and these values. The
+    /// message sent for PSK_EXCHANGE overwrites `out`; returns its tag.
     pub fn open(
         &mut self,
         setup: &Setup<'_>,
@@ -199,8 +197,7 @@ impl Talk {
         Ok(self.outgoing.send_request(transfer, asked, out))
     }
 
-    /// The outstanding message goes out again. One in the clear is written in place of what `out`
-    /// holds.
+    /// Resends the outstanding message. A clear one overwrites `out`.
     pub fn retry(&self, out: &mut Frame) -> Result<Again, CommandFault>
         ensures { (q : ReqSetup) (h : History) (f : Free) (d : Draw) → HasSizes q
             → StandsFor self.now q h → IsRetried q h f d result out.new }

@@ -36,7 +36,7 @@ fn other_chunk(handle: u8, number: u16, chunk: ChunkView<'_>) -> Option<ChunkFau
 }
 
 impl Talk {
-    // CHUNK_GET for the chunk behind this one is sent.
+    // CHUNK_GET for the chunk after this one is sent.
     fn fetch(&mut self, asked: Asked, handle: u8, number: u16, out: &mut Frame) -> u8
         ensures { (h : History) (request : RequestMessage) (before : List ChunkMessage)
             → Shows self.old h → kind_of request ≡ asked
@@ -52,7 +52,7 @@ impl Talk {
         self.outgoing.send(asked, way, 0, out)
     }
 
-    // The chunk came that is awaited of a large answer to what is asked.
+    // The chunk came that is awaited of a large response to what is asked.
     fn on_chunk(
         &mut self,
         setup: &Setup<'_>,
@@ -89,7 +89,7 @@ impl Talk {
         }
     }
 
-    // A message came to CHUNK_GET for the chunk of this number of a large answer to what is asked.
+    // A message came to CHUNK_GET for the chunk of this number of a large response to what is asked.
     pub(crate) fn on_get(
         &mut self,
         setup: &Setup<'_>,

@@ -23,7 +23,7 @@ impl Asked {
         }
     }
 
-    // What is told where nothing is sent upon a message to a request that asks this.
+    // What is reported where nothing is sent upon a message to a request that asks this.
     fn rested(self, told: Event) -> Heard
         ensures { result ≡ rested self told }
     {
@@ -35,7 +35,7 @@ impl Asked {
 }
 
 impl Led {
-    // What is told of a body with a message to a request that asks this.
+    // What is reported of a body with a message to a request that asks this.
     fn heard(self, asked: Asked) -> Heard
         ensures { result ≡ heard_of asked self }
     {
@@ -50,8 +50,7 @@ impl Led {
     }
 }
 
-// A body came that no test refuses, while a record of the session with this ReqSessionID is
-// outstanding.
+// A body came that no test refuses, while a record of the session with this ReqSessionID is outstanding.
 fn in_session(id: u16, body: &[u8]) -> Heard
     ensures { result ≡ heard_in id body.now }
 {
@@ -62,9 +61,9 @@ fn in_session(id: u16, body: &[u8]) -> Heard
 }
 
 impl Talk {
-    /// A whole body came, with its tag owner bit and tag. `gathered` has the chunks that came of
-    /// the large answer to the outstanding request. What is sent next in the clear, if anything
-    /// is, or the PSK_EXCHANGE_RSP that is awaited, is written in place of what `out` holds.
+    /// Handles a complete message body, with its tag owner bit and tag. `gathered` has the chunks received of the large
+    /// response to the outstanding request. The clear message sent next, if any, or the awaited PSK_EXCHANGE_RSP,
+    /// overwrites `out`.
     pub fn on_body(
         &mut self,
         setup: &Setup<'_>,

@@ -1,20 +1,20 @@
 use spdm_grammar::{Event, ReqIgnored};
 
-/// What came of a message in the clear.
+/// The outcome of a message in the clear.
 #[derive(Clone, Copy, Debug, PartialEq, Eq)]
 pub enum Led {
     /// It is ignored, and nothing changed.
     Ignored(ReqIgnored),
-    /// This is told, and nothing is outstanding any more.
+    /// This is reported, and nothing is outstanding any more.
     Rests(Event),
     /// A further message was sent, with this tag.
     Sends { tag: u8 },
-    /// CHUNK_GET for the first chunk of a large answer was sent, with this tag.
+    /// CHUNK_GET for the first chunk of a large response was sent, with this tag.
     Large { tag: u8 },
-    /// CHUNK_GET for the next chunk of a large answer was sent, with this tag.
+    /// CHUNK_GET for the next chunk of a large response was sent, with this tag.
     More { tag: u8 },
-    /// It brings the PSK_EXCHANGE_RSP that is awaited, whose verify data its session compares. That
-    /// is written, and nothing changed.
+    /// It brings the PSK_EXCHANGE_RSP that is awaited, whose verify data its session compares. That is written, and
+    /// nothing changed.
     Exchange,
 }
 
@@ -29,7 +29,7 @@ impl Led {
         matches!(self, Led::Ignored(_) | Led::Exchange)
     }
 
-    // Whether it calls for the first chunk of a large answer.
+    // Whether it calls for the first chunk of a large response.
     pub(crate) fn is_large(&self) -> bool
         ensures { result ≡ is_large self.now }
     {

@@ -55,7 +55,7 @@ impl Model for Negotiating {
 }
 
 impl Negotiating {
-    /// Where nothing was said yet.
+    /// The initial state.
     pub fn new() -> Negotiating
         ensures { result
             ≡ record { phase = Fresh; messages = []; common = no_common; choice = no_choice } }
@@ -89,15 +89,15 @@ impl Negotiating {
         self.choice
     }
 
-    /// The bytes of its messages so far, one behind the other; in phase Negotiated the whole VCA
-    /// (DSP0274, "Transcript hash").
+    /// The bytes of its messages so far, one after the other; in phase Negotiated the whole VCA (DSP0274, "Transcript
+    /// hash").
     pub fn messages(&self) -> &Vca
         ensures { result.now ≡ self.now.messages }
     {
         &self.messages
     }
 
-    /// It begins anew: all that was said is void.
+    /// It starts over: all that was said is void.
     pub fn begin(&mut self)
         ensures { self.new
             ≡ record { phase = Fresh; messages = []; common = no_common; choice = no_choice } }

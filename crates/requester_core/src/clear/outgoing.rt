@@ -20,9 +20,8 @@ use spdm_codec::write_request;
 use spdm_grammar::Request;
 use std::marker::Model;
 
-/// What a requester sends: the next tag and handle, what is waited for, and the bytes of the
-/// request in the clear that is outstanding. Tags and handles are never set back, but for a message
-/// that was never sent.
+/// The sending side of a requester: the next tag and handle, what is awaited, and the outstanding clear request. Tags
+/// and handles are never reused, except those of a message that was never sent.
 #[derive(Drop)]
 pub struct Outgoing {
     tag: u8,
@@ -45,7 +44,7 @@ impl Model for Outgoing {
 }
 
 impl Outgoing {
-    /// Where nothing was sent yet.
+    /// The initial state: nothing sent.
     pub fn new() -> Outgoing
         ensures { result ≡ record { tag = 0; handle = 0; waiting = waits.Nothing; request = [] } }
     {
@@ -57,7 +56,7 @@ impl Outgoing {
         }
     }
 
-    /// What is waited for.
+    /// What is awaited.
     pub fn waiting(&self) -> Waiting
         ensures { result ≡ self.now.waiting }
     {
@@ -79,7 +78,7 @@ impl Outgoing {
         self.request.as_slice()
     }
 
-    /// Nothing is outstanding any more.
+    /// Clears what is outstanding.
     pub fn rest(&mut self)
         ensures { self.new ≡ record self.old { waiting = waits.Nothing } }
     {
@@ -98,8 +97,8 @@ impl Outgoing {
         self.waiting = Waiting::Nothing;
     }
 
-    /// A large request was sent by chunks, of which this was the number of the last, from 0 on: they
-    /// took their tags, and it took its handle.
+    /// A large request was sent in chunks, of which this was the number of the last, from 0 on: they took their tags,
+    /// and it took its handle.
     pub fn pass_over(&mut self, number: u16)
         ensures { self.new ≡ passed_over number self.old }
     {
@@ -130,7 +129,7 @@ impl Outgoing {
         tag
     }
 
-    /// Keeps a request in place of the one before, where it has a spelling of at most 4,096 bytes.
+    /// Keeps a request in place of the one before, where it has an encoding of at most 4,096 bytes.
     pub fn keep(&mut self, request: &Request<'_>, hash_len: usize)
         ensures { IsSoundRequest hash_len (request_message request.now)
             → length (canonical_request (request_message request.now)) ≤ MAX_MESSAGE_SIZE
@@ -141,8 +140,7 @@ impl Outgoing {
         write_sound(request, hash_len, &mut self.request);
     }
 
-    /// Writes the message that is sent for the kept request, to a responder of this
-    /// DataTransferSize, in place of what `out` holds.
+    /// Overwrites `out` with the message that is sent for the kept request, to a responder of this DataTransferSize.
     pub fn write(&self, way: Way, transfer: u32, out: &mut Frame)
         ensures out { IsCut way transfer self.now.request
             → out.new ≡ message_for way transfer self.now.request }
@@ -161,8 +159,7 @@ impl Outgoing {
         }
     }
 
-    /// Whether the chunk of this number of the kept request is the last, for a responder of this
-    /// DataTransferSize.
+    /// Whether the chunk of this number of the kept request is the last, for a responder of this DataTransferSize.
     pub fn is_last(&self, transfer: u32, handle: u8, number: u16) -> bool
         ensures { IsCut (ways.ByChunks handle number) transfer self.now.request → result
             ≡ (cutting.nth_chunk transfer handle self.now.request number).last }
@@ -173,8 +170,8 @@ impl Outgoing {
         }
     }
 
-    /// The message is sent for the kept request, to a responder of this DataTransferSize, in place
-    /// of what `out` holds: its tag.
+    /// Sends the message for the stored request, to a responder with this DataTransferSize, overwriting `out`; returns
+    /// its tag.
     pub fn send(&mut self, asked: Asked, way: Way, transfer: u32, out: &mut Frame) -> u8
         ensures tag { result ≡ self.old.tag }
         ensures new { self.new ≡ record self.old {
@@ -191,8 +188,8 @@ impl Outgoing {
         tag
     }
 
-    /// The request that is kept is sent to a responder of this DataTransferSize, in place of what
-    /// `out` holds: whole, or by chunks under the next handle where it is longer. Its tag.
+    /// Sends the stored request to a responder with this DataTransferSize, overwriting `out`: unchunked, or in chunks
+    /// under the next handle if it is longer. Returns the tag.
     pub fn send_request(&mut self, transfer: u32, asked: Asked, out: &mut Frame) -> u8
         ensures { (h : History) (request : RequestMessage) (common : Common)
             → self.old.tag ≡ next_tag h → self.old.handle ≡ next_handle h
@@ -231,7 +228,7 @@ fn write_get(handle: u8, number: u16, out: &mut Frame)
     let _ = write_request(&Request::ChunkGet { handle, number }, 0, out);
 }
 
-// A request that has a spelling of at most 4,096 bytes.
+// A request that has an encoding of at most 4,096 bytes.
 fn write_sound(request: &Request<'_>, hash_len: usize, out: &mut Frame)
     ensures { IsSoundRequest hash_len (request_message request.now)
         → length (canonical_request (request_message request.now)) ≤ MAX_MESSAGE_SIZE

@@ -12,8 +12,8 @@ use spdm_grammar::{Choice, Phase};
 use std::marker::Model;
 use transcript::Vca;
 
-/// The clear part of a requester: the negotiation, what is sent, and the last application data or
-/// measurement record that came. What is gathered of a large answer stands beside it.
+/// The clear part of a requester: the negotiation, what is sent, and the last application data or measurement record
+/// that came. What is gathered of a large response stands beside it.
 #[derive(Drop)]
 pub struct Talk {
     pub(crate) negotiating: Negotiating,
@@ -34,7 +34,7 @@ impl Model for Talk {
 }
 
 impl Talk {
-    /// Where nothing was told and nothing came yet.
+    /// The initial state, before any command or message.
     pub fn new() -> Talk
         ensures { (q : ReqSetup) → StandsFor result q [] }
     {
@@ -45,7 +45,7 @@ impl Talk {
         }
     }
 
-    /// How far the negotiation has come.
+    /// The phase of the negotiation.
     pub fn phase(&self) -> Phase
         ensures { (h : History) → Shows self.now h → result ≡ phase_of h }
     {
@@ -66,23 +66,22 @@ impl Talk {
         self.negotiating.choice()
     }
 
-    /// The handle that the next large request gets.
+    /// The handle of the next large request.
     pub fn next_handle(&self) -> u8
         ensures { (h : History) → Shows self.now h → result ≡ next_handle h }
     {
         self.outgoing.next_handle()
     }
 
-    /// The bytes of the messages of the negotiation so far, one behind the other; in phase
-    /// Negotiated VCA (DSP0274, "Transcript hash").
+    /// The bytes of the messages of the negotiation so far, one after the other; in phase Negotiated VCA (DSP0274,
+    /// "Transcript hash").
     pub fn vca(&self) -> &Vca
         ensures { (h : History) → Shows self.now h → result.now ≡ vca_of (negotiation_of h) }
     {
         self.negotiating.messages()
     }
 
-    /// The last application data or measurement record that came, whichever came later; no bytes
-    /// before the first.
+    /// The application data or measurement record received last; empty before the first.
     pub fn last_data(&self) -> &[u8]
         ensures { (h : History) → Shows self.now h → result.now ≡ last_data h }
     {

@@ -16,11 +16,11 @@ pub enum Way {
     Whole,
     /// CHUNK_SEND was sent with the chunk of this number of it, from 0 on.
     ByChunks { handle: u8, number: u16 },
-    /// CHUNK_GET was sent for the chunk of this number of its large answer, from 0 on.
+    /// CHUNK_GET was sent for the chunk of this number of its large response, from 0 on.
     ForChunk { handle: u8, number: u16 },
 }
 
-/// What a requester waits for.
+/// What a requester awaits.
 #[derive(Clone, Copy, Debug, PartialEq, Eq)]
 pub enum Waiting {
     /// Nothing is outstanding.

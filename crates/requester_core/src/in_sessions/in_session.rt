@@ -18,8 +18,8 @@ use crate::Talk;
 use spdm_grammar::CommandFault;
 
 impl Talk {
-    /// The first fault of a command that asks something of a session, as far as it is seen without
-    /// the session: `Busy`, then `NotConnected`.
+    /// The first fault of a command that asks something of a session, as far as it is seen without the session: `Busy`,
+    /// then `NotConnected`.
     #[tactic(auto, unfolding(requester_machine::specs::Commands::command_fault))]
     pub fn session_fault(&self) -> Option<CommandFault>
         ensures fault { (q : ReqSetup) (h : History) (command : Command) (f : Free)
@@ -39,8 +39,8 @@ impl Talk {
         None
     }
 
-    /// A record of the session with this ReqSessionID is sent, upon a command, PSK_EXCHANGE_RSP or
-    /// a record that was taken: its tag.
+    /// A record of the session with this ReqSessionID is sent, upon a command, PSK_EXCHANGE_RSP or a record that was
+    /// taken: its tag.
     pub fn send_record(&mut self, id: u16) -> u8
         ensures told { (q : ReqSetup) (h : History) (command : Command) (f : Free) (d : Draw)
             (sent : Sent) (ask : Ask) → StandsFor self.old q h
@@ -65,8 +65,8 @@ impl Talk {
         self.outgoing.rest();
     }
 
-    /// A record was taken that brought these bytes, application data or a measurement record, and
-    /// nothing is outstanding any more.
+    /// A record was taken that brought these bytes, application data or a measurement record, and nothing is
+    /// outstanding any more.
     pub fn bring(&mut self, bytes: &[u8])
         ensures { (q : ReqSetup) (h : History) (owner : Bool) (tag : ℕ) (body : List ℕ) (f : Free)
             (d : Draw) (entry : Entry) → HasSizes q → StandsFor self.old q h

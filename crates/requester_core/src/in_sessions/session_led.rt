@@ -1,14 +1,14 @@
 use spdm_basis::RecordFault;
 use spdm_grammar::Event;
 
-/// What came of a record at the session that awaits it.
+/// The outcome of a record at the session that awaits it.
 #[derive(Clone, Copy, Debug, PartialEq, Eq)]
 pub enum SessionLed {
     /// It does not open, and nothing changed.
     Ignored(RecordFault),
     /// It answers what was asked, and this is told: the session is open.
     Rests(Event),
-    /// This is told, and the session is gone.
+    /// This is reported, and the session is gone.
     Ends(Event),
     /// A further record is sent.
     Sends,

@@ -6,8 +6,8 @@ use psk_session::{Ask, OpenFault, Opening, SessionTerms};
 use spdm_basis::{Psk, RecordFault};
 use spdm_grammar::{CommandFault, ReqIgnored, SessionView};
 
-/// The sessions of a requester: a slot for each ReqSessionID from 1 to 4, and the ReqSessionID of
-/// the session that the outstanding message begins or asks something of. They lie in place.
+/// The sessions of a requester: a slot for each ReqSessionID from 1 to 4, and the ReqSessionID of the session that the
+/// outstanding message begins or belongs to. Fixed size; never allocates.
 #[derive(Drop)]
 pub struct Sessions {
     pub(crate) slots: [Slot; 4],
@@ -123,7 +123,7 @@ impl Sessions {
         )
     }
 
-    /// The least ReqSessionID that no session has; 4 where there is none.
+    /// The least unused ReqSessionID; 4 if there is none.
     pub fn free_id(&self) -> u16
         ensures value { (q : ReqSetup) (h : History) → StandsFor self.now q h
             → result ≡ free_id h }
@@ -142,7 +142,7 @@ impl Sessions {
         *self = Sessions::none();
     }
 
-    // Asks something of the session of this ReqSessionID.
+    // Asks something of the session with this ReqSessionID.
     fn ask_at(&mut self, id: u16, ask: Ask<'_>, pad: &[u8]) -> Result<(), CommandFault>
         requires pad { length pad.now ≤ 16 }
         ensures own { (psk : List ℕ) (s : Steps) → IsSlotOf (slot_of self.old id) psk s
@@ -157,8 +157,8 @@ impl Sessions {
         self.slots[usize::from(id) - 1].ask(ask, pad)
     }
 
-    /// Asks something of the session of this ReqSessionID, in a record with this padding of at most
-    /// 16 bytes, while nothing is outstanding and the phase is Negotiated.
+    /// Asks something of the session with this ReqSessionID, in a record with this padding of at most 16 bytes, while
+    /// nothing is outstanding and the phase is Negotiated.
     pub fn ask(&mut self, id: u16, ask: Ask<'_>, pad: &[u8]) -> Result<(), CommandFault>
         requires pad { length pad.now ≤ 16 }
         ensures { (q : ReqSetup) (h : History) (f : Free) (d : Draw) → f.pad ≡ pad.now
@@ -175,7 +175,7 @@ impl Sessions {
         }
     }
 
-    // A record for the session of this ReqSessionID.
+    // A record for the session with this ReqSessionID.
     fn step(&mut self, id: u16, sealed: &[u8], pad: &[u8]) -> SessionLed
         requires pad { length pad.now ≤ 16 }
         ensures own { (psk : List ℕ) (s : Steps) (a : message.Ask)
@@ -191,8 +191,8 @@ impl Sessions {
         self.slots[usize::from(id) - 1].take(sealed, pad)
     }
 
-    /// A record came, while one of a session is outstanding. A further record that is sent has this
-    /// padding, of at most 16 bytes.
+    /// Handles a record while one of a session is outstanding. A further record that is sent has this padding, of at
+    /// most 16 bytes.
     pub fn on_record(&mut self, sealed: &[u8], pad: &[u8]) -> SessionLed
         requires pad { length pad.now ≤ 16 }
         ensures { (q : ReqSetup) (h : History) (f : Free) (tag : ℕ) (d : Draw) (sent : Sent)
@@ -215,7 +215,7 @@ impl Sessions {
         self.record_at(self.id)
     }
 
-    // The record of the session of this ReqSessionID that awaits its answer.
+    // The record of the session with this ReqSessionID that awaits its answer.
     #[tactic(auto, using(crate::proofs::SlotLaws::empty_asks))]
     fn record_at(&self, id: u16) -> &[u8]
         ensures newest { (psk : List ℕ) (s : Steps) (a : message.Ask)
@@ -237,8 +237,8 @@ impl Sessions {
         self.id
     }
 
-    /// The application data or the measurement record that the session of this ReqSessionID was
-    /// last brought, while nothing is asked of it; no bytes where the last answer had none.
+    /// The application data or the measurement record that the session with this ReqSessionID was last brought, while
+    /// nothing is asked of it; empty where the last answer had none.
     pub fn data(&self, id: u16) -> &[u8]
         ensures { (q : ReqSetup) (h : History) → StandsFor self.now q h
             → waiting_ask (session_of id h) ≡ None → result.now ≡ data_of (session_of id h) }
@@ -249,7 +249,7 @@ impl Sessions {
         self.slots[usize::from(id) - 1].data()
     }
 
-    /// The session of this ReqSessionID as it is shown, from its PSK_EXCHANGE_RSP on.
+    /// A view of the session with this ReqSessionID, from its PSK_EXCHANGE_RSP on.
     pub fn view(&self, id: u16) -> Option<SessionView>
         ensures { (q : ReqSetup) (h : History) → StandsFor self.now q h → length h < 2 ^ 64 - 1
             → result ≡ shown_of (session_of id h) }
@@ -257,7 +257,7 @@ impl Sessions {
         self.view_at(id)
     }
 
-    // The session of this ReqSessionID, in order, as it is shown.
+    // The session with this ReqSessionID, in order, as it is shown.
     fn view_at(&self, id: u16) -> Option<SessionView>
         ensures { (psk : List ℕ) (w : Waits) (s : Steps) → IsSlotOf (slot_of self.now id) psk s
             → IsOrdered s → FitsWaits w s → taken_of s < 2 ^ 64 → result ≡ shown_of s }
@@ -268,7 +268,7 @@ impl Sessions {
         self.slots[usize::from(id) - 1].view()
     }
 
-    // Puts a session into the slot of this ReqSessionID.
+    // Puts a session into the slot with this ReqSessionID.
     fn put(&mut self, id: u16, slot: Slot)
         requires least { 1 ≤ id }
         requires most { id ≤ 4 }
@@ -280,8 +280,8 @@ impl Sessions {
         self.id = id;
     }
 
-    /// PSK_EXCHANGE was sent, as the clear part holds it, with this ReqSessionID from 1 to 4 and this
-    /// kind of measurement summary: its session begins, under this pre-shared key.
+    /// PSK_EXCHANGE was sent, as the clear part holds it, with this ReqSessionID from 1 to 4 and this kind of
+    /// measurement summary: its session begins, under this pre-shared key.
     pub fn open(&mut self, talk: &Talk, psk: &Psk, id: u16, summary: u8)
         requires least { 1 ≤ id }
         requires most { id ≤ 4 }
@@ -301,7 +301,7 @@ impl Sessions {
         self.put(id, Slot::Opening(state));
     }
 
-    // The answer to the PSK_EXCHANGE of this ReqSessionID.
+    // The answer to the PSK_EXCHANGE with this ReqSessionID.
     fn accept_at(&mut self, id: u16, answer: &[u8], pad: &[u8]) -> Result<(), OpenFault>
         requires pad { length pad.now ≤ 16 }
         ensures own { (psk : List ℕ) (n : Negotiation) (exchange : List ℕ)
@@ -316,8 +316,8 @@ impl Sessions {
         self.slots[usize::from(id) - 1].accept(answer, pad)
     }
 
-    /// The PSK_EXCHANGE_RSP that is awaited came. Where its verify data are right, PSK_FINISH is
-    /// sent, in a record with this padding of at most 16 bytes.
+    /// Handles the awaited PSK_EXCHANGE_RSP. If its verify data are right, PSK_FINISH is sent, in a record with this
+    /// padding of at most 16 bytes.
     pub fn begin(&mut self, answer: &[u8], pad: &[u8]) -> Result<(), ReqIgnored>
         requires pad { length pad.now ≤ 16 }
         ensures { (q : ReqSetup) (h : History) (f : Free) (tag : ℕ) (d : Draw) (sent : Sent)
@@ -332,7 +332,7 @@ impl Sessions {
         }
     }
 
-    // Empties the slot of this ReqSessionID.
+    // Empties the slot with this ReqSessionID.
     fn empty(&mut self, id: u16)
         ensures own { slot_of self.new id ≡ slot.Empty }
         ensures others { (i : ℕ) → i ≢ id → slot_of self.new i ≡ slot_of self.old i }
@@ -343,7 +343,7 @@ impl Sessions {
         }
     }
 
-    /// PSK_EXCHANGE was refused with an ERROR: the session of this ReqSessionID is gone.
+    /// PSK_EXCHANGE was refused with an ERROR: the session with this ReqSessionID is gone.
     pub fn close(&mut self, id: u16)
         ensures { (q : ReqSetup) (h : History) (f : Free) (owner : Bool) (tag : ℕ) (body : List ℕ)
             (d : Draw) (led : Led) → hears q h owner tag body f d

@@ -31,7 +31,7 @@ pub enum Slot {
     Live(ReqSession),
 }
 
-// What is told of an answer in this session.
+// What is reported of an answer in this session.
 fn event_of(id: SessionId, reply: Reply) -> Event
     ensures { result ≡ course.event_of id reply }
 {
@@ -44,7 +44,7 @@ fn event_of(id: SessionId, reply: Reply) -> Event
     }
 }
 
-// What is told of a record in this session.
+// What is reported of a record in this session.
 fn led_as(id: SessionId, told: Told) -> SessionLed
     ensures { result ≡ told_led id told }
 {
@@ -213,7 +213,7 @@ impl Slot {
         }
     }
 
-    /// The record that awaits its answer; no bytes where there is none.
+    /// The record that awaits its answer; empty where there is none.
     pub fn record(&self) -> &[u8]
         ensures newest { (psk : List ℕ) (s : Steps) (a : message.Ask) → IsSlotOf self.now psk s
             → waiting_ask s ≡ Some a → IsNewest a result.now s }
@@ -226,8 +226,7 @@ impl Slot {
         }
     }
 
-    /// The application data or the measurement record of the last answer; no bytes where it had
-    /// none.
+    /// The application data or the measurement record of the last answer; empty where it had none.
     pub fn data(&self) -> &[u8]
         ensures { (psk : List ℕ) (s : Steps) → IsSlotOf self.now psk s → waiting_ask s ≡ None
             → result.now ≡ data_of s }
@@ -238,7 +237,7 @@ impl Slot {
         }
     }
 
-    /// The session as it is shown, from its PSK_EXCHANGE_RSP on.
+    /// A view of the session, from its PSK_EXCHANGE_RSP on.
     pub fn view(&self) -> Option<SessionView>
         ensures { (psk : List ℕ) (w : Waits) (s : Steps) → IsSlotOf self.now psk s → IsOrdered s
             → FitsWaits w s → taken_of s < 2 ^ 64 → result ≡ shown_of s }

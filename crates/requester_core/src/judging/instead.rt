@@ -17,7 +17,7 @@ impl Talk {
     }
 }
 
-// A command in place of the outstanding message, for one who judges it.
+// A command in place of the outstanding message; used only by the checker.
 impl Asking {
     ghost use Rattle.std.specs.Prelude.{Some, false};
     ghost use Rattle.requester_core.specs.Joined.{IsDone, StandsFor};
@@ -31,9 +31,8 @@ impl Asking {
     ghost use Rattle.requester_machine.specs.Setup.{ReqSetup};
     ghost use Rattle.spdm_machine.specs.Keys.{Draw};
 
-    /// Begins anew in place of the outstanding message, which was to go out by itself upon what
-    /// came last: that was never sent, and GET_VERSION has its tag. The body is written in place of
-    /// what `out` holds.
+    /// Starts over instead of the outstanding message, which was to be sent as a reaction to the last message: that was
+    /// never sent, and GET_VERSION has its tag. The body overwrites `out`.
     pub fn connect_instead(&mut self, out: &mut Body) -> u8
         ensures { (q : ReqSetup) (bare : History) (sent : Sent) (f : Free) (d : Draw)
             → TookFor bare sent.aim → StandsFor self.old q (with_next (Some sent) bare)

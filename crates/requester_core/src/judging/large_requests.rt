@@ -19,7 +19,7 @@ impl Talk {
     ghost use Rattle.spdm_machine.specs.Keys.{Draw};
     ghost use Rattle.requester_core.specs.Waiting.{kind_of};
 
-    // Sends the chunk behind the one of this number, which is outstanding, where that is not the last.
+    // Sends the chunk after the one of this number, which is outstanding, where that is not the last.
     fn send_behind(&mut self, asked: Asked, handle: u8, number: u16, out: &mut Frame) -> Option<u8>
         ensures { (q : ReqSetup) (h : History) (sent : Sent) (request : RequestMessage) → HasSizes q
             → StandsFor self.old q h → outstanding h ≡ Some sent
@@ -37,7 +37,7 @@ impl Talk {
         Some(self.outgoing.send(asked, way, transfer, out))
     }
 
-    // Sends the chunk behind the one that is outstanding, where there is one.
+    // Sends the chunk after the one that is outstanding, where there is one.
     fn send_piece(&mut self, out: &mut Frame) -> Option<u8>
         ensures { (q : ReqSetup) (h : History) → HasSizes q → StandsFor self.old q h
             → SendsPiece q h (next_piece h) result out.new self.old self.new }
@@ -52,8 +52,8 @@ impl Talk {
         }
     }
 
-    // The outstanding message, which was to go out by itself upon what came last, was never sent; or
-    // nothing is outstanding.
+    // The outstanding message, which was to go out by itself upon what came last, was never sent; or nothing is
+    // outstanding.
     fn take_back_owed(&mut self)
         ensures none { (h : History) → outstanding h ≡ None → Shows self.old h → Shows self.new h }
         ensures owed { (bare : History) (sent : Sent) → TookAny bare
@@ -64,8 +64,8 @@ impl Talk {
         }
     }
 
-    // A large request was sent by chunks, up to the one of this number, in place of the outstanding
-    // message, which was never sent, if there is one.
+    // A large request was sent in chunks, up to the one of this number, in place of the outstanding message, which was
+    // never sent, if there is one.
     fn pass_over(&mut self, number: u16)
         ensures told { (h over : History) (command : message.Command) (first : Sent) (d : Draw)
             → outstanding h ≡ None → Shows self.old h → begins_large first.aim ≡ true
@@ -79,7 +79,7 @@ impl Talk {
     }
 }
 
-// A large request of which chunks came, for one who judges it.
+// A large request of which chunks came; used only by the checker.
 impl Asking {
     ghost use Rattle.std.specs.Prelude.{◌≡◌, ◌∷◌, None, Some, false, true};
     ghost use Rattle.requester_core.specs.Joined.{IsDone, StandsFor};
@@ -97,9 +97,9 @@ impl Asking {
     ghost use Rattle.requester_machine.specs.UnderWay.{HasSizes};
     ghost use Rattle.spdm_machine.specs.Keys.{Draw};
 
-    /// Goes on to the next chunk of the large request whose chunk is outstanding, whatever message
-    /// called for it: the tag under which it is sent. Its body is written in place of what `out`
-    /// holds. Where no chunk is outstanding, or the last one, nothing changes.
+    /// Goes on to the next chunk of the large request whose chunk is outstanding, whatever message called for it: the
+    /// tag under which it is sent. Its body overwrites `out`. Where no chunk is outstanding, or the last one, nothing
+    /// changes.
     pub fn acknowledged(&mut self, out: &mut Body) -> Option<u8>
         ensures { (q : ReqSetup) (h : History) → HasSizes q → StandsFor self.old q h
             → IsAcknowledged q h (next_piece h) result out.new self.new }
@@ -109,11 +109,9 @@ impl Asking {
         Some(tag)
     }
 
-    /// Begins anew over a large request that was sent by chunks behind all that this stands for,
-    /// whatever its bytes: by a command, or in place of the outstanding message, which was to go
-    /// out by itself upon what came last. The chunks up to the one of this number, from 0 on, took
-    /// their tags, and the request took its handle. The body is written in place of what `out`
-    /// holds.
+    /// Starts over past a large request that was sent in chunks after everything in this state, whatever its bytes: by
+    /// a command, or instead of the outstanding message, which was to be sent as a reaction to the last message. The
+    /// chunks from 0 to this number took their tags, and the request took its handle. The body overwrites `out`.
     pub fn connect_over(&mut self, number: u16, out: &mut Body) -> u8
         ensures told { (q : ReqSetup) (h over : History) (command : message.Command) (first : Sent)
             (begun : Draw) (f : Free) (d : Draw) → outstanding h ≡ None → StandsFor self.old q h

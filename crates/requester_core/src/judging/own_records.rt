@@ -26,7 +26,7 @@ impl Talk {
     }
 }
 
-// What a requester sealed itself, for one who judges it.
+// What a requester sealed itself; used only by the checker.
 impl Asking {
     ghost use Rattle.std.specs.Prelude.{◌≡◌, ◌≤◌, ◌<◌, ◌-◌, ◌^◌, ◌∷◌, ℕ, Some, false, length, true};
     ghost use Rattle.requester_core.specs.Joined.{StandsFor};
@@ -59,8 +59,8 @@ impl Asking {
         self.sessions.named(sealed)
     }
 
-    /// Whether a record opens as the next one of the session that it names; its inner message is
-    /// written in place of what `out` holds. This tells of numbers up to 65,535.
+    /// Whether a record opens as the next one of the session that it names; its inner message then overwrites `out`.
+    /// This tells of numbers up to 65,535.
     pub fn open_next(&self, sealed: &[u8], out: &mut RecordFrame) -> bool
         ensures few { (q : ReqSetup) (h : History) → StandsFor self.now q h → length h < 2 ^ 64 - 1
             → request_next (session_named h sealed.now) ≤ 65535
@@ -86,9 +86,8 @@ impl Asking {
         }
     }
 
-    /// Whether a record names the session whose record is outstanding, where that was sent by
-    /// itself upon what came last, and opens in its place; its inner message is written in place of
-    /// what `out` holds.
+    /// Whether a record names the session whose record is outstanding, where that was sent by itself upon what came
+    /// last, and opens in its place; its inner message then overwrites `out`.
     pub fn open_owed(&self, sealed: &[u8], out: &mut RecordFrame) -> bool
         ensures { (q : ReqSetup) (bare : History) (sent : Sent) (id : ℕ) (ask : message.Ask)
             → TookLast bare id → sent.aim ≡ InSession id ask → length bare < 2 ^ 64 - 1
@@ -98,9 +97,8 @@ impl Asking {
         self.sessions.open_owed(sealed, out)
     }
 
-    /// Takes bytes as the outstanding record, where that was sent by itself upon what came last or
-    /// by a command: whether they are that record with some padding of at most 16 bytes. Where they
-    /// are not, nothing changes.
+    /// Takes bytes as the outstanding record, where that was sent by itself upon what came last or by a command:
+    /// whether they are that record with some padding of at most 16 bytes. Where they are not, nothing changes.
     pub fn take_padded(&mut self, sealed: &[u8], pair: &mut InnerPair) -> bool
         ensures repadded { (q : ReqSetup) (bare : History) (sent : Sent) (id : ℕ)
             (ask : message.Ask) → TookLast bare id → sent.aim ≡ InSession id ask

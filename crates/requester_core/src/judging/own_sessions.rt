@@ -12,7 +12,7 @@ fn id_in_front(sealed: &[u8]) -> &[u8]
     sealed.split_at(sealed.len().min(4)).0
 }
 
-// What a requester sealed itself, for one who judges it.
+// What a requester sealed itself; used only by the checker.
 impl Sessions {
     ghost use Rattle.std.specs.Prelude.{◌≡◌, ◌≢◌, ◌≤◌, ◌<◌, ◌-◌, ◌^◌, ◌∷◌, ℕ, List, Some, false, length, true};
     ghost use Rattle.requester_core.specs.Owed.{AreRepadded, AreRetold, TookLast};
@@ -32,7 +32,7 @@ impl Sessions {
     ghost use Rattle.requester_machine.specs.Setup.{ReqSetup};
     ghost use Rattle.spdm_machine.specs.Keys.{Draw};
 
-    // Whether a record names the session of this ReqSessionID.
+    // Whether a record names the session with this ReqSessionID.
     fn names(&self, id: u16, sealed: &[u8]) -> bool
         ensures { (q : ReqSetup) (h : History) → StandsFor self.now q h → length h < 2 ^ 64 - 1
             → result ≡ names sealed.now (session_of id h) }
@@ -60,7 +60,7 @@ impl Sessions {
         if self.names(4, sealed) { Some(4) } else { None }
     }
 
-    // Opens a record as the next one that the session of this ReqSessionID would send.
+    // Opens a record as the next one that the session with this ReqSessionID would send.
     fn open_next_at(&self, id: u16, sealed: &[u8], out: &mut RecordFrame) -> Result<(), RecordFault>
         ensures { (psk : List ℕ) (s : Steps) → IsSlotOf (slot_of self.now id) psk s
             → is_accepted s ≡ true → request_next s ≤ 65535
@@ -72,7 +72,7 @@ impl Sessions {
         self.slots[usize::from(id) - 1].open_next(sealed, out)
     }
 
-    // Opens a record in place of the one that the session of this ReqSessionID sent last.
+    // Opens a record in place of the one that the session with this ReqSessionID sent last.
     fn open_last_at(&self, id: u16, sealed: &[u8], out: &mut RecordFrame) -> Result<(), RecordFault>
         ensures { (psk : List ℕ) (s : Steps) (a : message.Ask) (inner pad : List ℕ)
             → IsSlotOf (slot_of self.now id) psk (with_asked psk s a inner pad)
@@ -84,8 +84,8 @@ impl Sessions {
         self.slots[usize::from(id) - 1].open_last(sealed, out)
     }
 
-    /// Whether a record opens as the next one of the session that it names; its inner message is
-    /// written in place of what `out` holds. This tells of numbers up to 65,535.
+    /// Whether a record opens as the next one of the session that it names; its inner message then overwrites `out`.
+    /// This tells of numbers up to 65,535.
     pub fn open_next(&self, sealed: &[u8], out: &mut RecordFrame) -> bool
         ensures few { (q : ReqSetup) (h : History) → StandsFor self.now q h → length h < 2 ^ 64 - 1
             → request_next (session_named h sealed.now) ≤ 65535
@@ -114,9 +114,8 @@ impl Sessions {
         }
     }
 
-    /// Whether a record names the session whose record is outstanding, where that was sent by
-    /// itself upon what came last, and opens in its place; its inner message is written in place of
-    /// what `out` holds.
+    /// Whether a record names the session whose record is outstanding, where that was sent by itself upon what came
+    /// last, and opens in its place; its inner message then overwrites `out`.
     pub fn open_owed(&self, sealed: &[u8], out: &mut RecordFrame) -> bool
         ensures { (q : ReqSetup) (bare : History) (sent : Sent) (id : ℕ) (ask : message.Ask)
             → TookLast bare id → sent.aim ≡ InSession id ask → length bare < 2 ^ 64 - 1
@@ -129,7 +128,7 @@ impl Sessions {
         self.open_last_at(self.id, sealed, out).is_ok()
     }
 
-    // Takes bytes as the record that the session of this ReqSessionID sent last.
+    // Takes bytes as the record that the session with this ReqSessionID sent last.
     fn take_padded_at(&mut self, id: u16, sealed: &[u8], pair: &mut InnerPair) -> bool
         ensures own { (psk : List ℕ) (s : Steps) (a : message.Ask) (inner pad : List ℕ)
             → IsSlotOf (slot_of self.old id) psk (with_asked psk s a inner pad)
@@ -144,9 +143,8 @@ impl Sessions {
         self.slots[usize::from(id) - 1].take_padded(sealed, pair)
     }
 
-    /// Takes bytes as the outstanding record, where that was sent by itself upon what came last or
-    /// by a command: whether they are that record with some padding of at most 16 bytes. Where they
-    /// are not, nothing changes.
+    /// Takes bytes as the outstanding record, where that was sent by itself upon what came last or by a command:
+    /// whether they are that record with some padding of at most 16 bytes. Where they are not, nothing changes.
     pub fn take_padded(&mut self, sealed: &[u8], pair: &mut InnerPair) -> bool
         ensures repadded { (q : ReqSetup) (bare : History) (sent : Sent) (id : ℕ)
             (ask : message.Ask) → TookLast bare id → sent.aim ≡ InSession id ask

@@ -2,7 +2,7 @@ use crate::Slot;
 use psk_session::InnerPair;
 use spdm_basis::{RecordFault, RecordFrame};
 
-// What a session sealed itself, for one who judges it.
+// What a session sealed itself; used only by the checker.
 impl Slot {
     ghost use Rattle.std.specs.Prelude.{◌≡◌, ◌≤◌, ℕ, List, false, true};
     ghost use Rattle.requester_core.specs.OwnRecords.{IsSlotRepadded};
