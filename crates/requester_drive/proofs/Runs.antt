@@ -49,7 +49,7 @@ run_more c a old first held mid before between new after holds run step =
           (takes_both held between holds (driven_from c a frames) ((driven_by c (after_frames c a frames) frame).written) run.written step.written);
     }
 
--- what a stream is behind the frames so far
+-- what a stream is after the frames so far
 stream_of : (c : ScriptConfig) (a : Requesting) (old : FrameReader) (first held : Option (List ℕ)) (mid : Driver) (before between : Option (List ℕ)) → IsFresh driven_kinds stream_limit old →
     (run : IsRun c a old first held mid before between) →
     (ending : Ending) → ((rest : List ℕ) → left_of mid.reader before ≡ Some rest → Stops c mid.reader.kinds mid.reader.limit mid.reader.taken rest ending) →

@@ -28,7 +28,7 @@ without_feed line = take (length line - 1) line
 abbrev pub line_frame : Line → List ℕ
 line_frame line = 4 ∷ counted (without_feed (line_text line))
 
--- Lines as frames, one behind the other.
+-- Lines as frames, one after the other.
 abbrev pub line_frames : List Line → List ℕ
 line_frames [] = []
 line_frames (line ∷ others) = line_frame line ++ line_frames others
@@ -66,7 +66,7 @@ driven_by c a (PacketOf packet) = driven_by_packet (requester_given a packet)
 driven_by c a (TicksOf seconds) = record { written = []; after = a }
 driven_by c a (CommandOf line) = driven_by_line a (command_line c line)
 
--- The requester behind all of them in order.
+-- The requester after all of them in order.
 abbrev pub after_frames : ScriptConfig → Requesting → List GivenFrame → Requesting
 after_frames c a [] = a
 after_frames c a (frame ∷ others) = after_frames c (driven_by c a frame).after others
@@ -88,8 +88,8 @@ abbrev pub AreTold : ScriptConfig → List GivenFrame → Type 0
 AreTold c [] = Unit {0}
 AreTold c (frame ∷ others) = IsTold c frame × AreTold c others
 
--- In front of the bytes that are left stands the whole frame of a line that is no command of requester 1. It begins at
--- this byte, and is within the limit.
+-- Before the bytes that are left stands the whole frame of a line that is no command of requester 1. It begins at this
+-- byte, and is within the limit.
 pub record HasNoCommand (c : ScriptConfig) (limit at : ℕ) (bytes : List ℕ) : Type 0 where
   pub line : List ℕ
   pub rest : List ℕ
@@ -104,7 +104,7 @@ Stops c kinds limit at bytes Done = Ends kinds limit at bytes Done
 Stops c kinds limit at bytes (Bad place) = Ends kinds limit at bytes (Bad place) ⊎ ((place ≡ at) × HasNoCommand c limit at bytes)
 Stops c kinds limit at bytes TooLong = Ends kinds limit at bytes TooLong
 
--- A stream: its whole frames in order, all of which are told or given, and how it ends behind them.
+-- A stream: its whole frames in order, all of which are told or given, and how it ends after them.
 pub record IsStreamOf (c : ScriptConfig) (stream : List ℕ) (frames : List GivenFrame) (ending : Ending) : Type 0 where
   pub rest : List ℕ
   pub parts : stream ≡ all_spelled frames ++ rest
@@ -116,7 +116,7 @@ pub record IsStreamOf (c : ScriptConfig) (stream : List ℕ) (frames : List Give
 -- ---- What was read and written in a call, of a requester. Of a source that tells what it has left the stream is
 -- known: `before` the call.
 
--- What the frames of the stream led to was written, and no more. The stream ends so behind them.
+-- What the frames of the stream led to was written, and no more. The stream ends so after them.
 pub record IsDriven (c : ScriptConfig) (a : Requesting) (before held holds : Option (List ℕ)) (ending : Ending) : Type 0 where
   pub frames : List GivenFrame
   pub stream : (left : List ℕ) → before ≡ Some left → IsStreamOf c left frames ending

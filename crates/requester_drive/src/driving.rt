@@ -17,15 +17,16 @@ use spdm_basis::{Sink, Source};
 use std::alloc::Global;
 
 /// Drives the first requester of this configuration, with this seed, by a stream of frames of which the bytes `before`
-/// were read already: reads the frames in order, gives packets (kind 1) to the requester, whatever end point they name, and
-/// tells it the commands in lines (kind 3). Before it reads on it writes what a frame led to: the trace lines of the
-/// requester as frames of kind 4, without their line feeds, and then the packets that it sent as frames of kind 1.
+/// were read already: reads the frames in order, gives packets (kind 1) to the requester, whatever endpoint they name,
+/// and tells it the commands in lines (kind 3). Before it reads on it writes what a frame led to: the trace lines of
+/// the requester as frames of kind 4, without their line feeds, and then the packets that it sent as frames of kind 1.
 ///
-/// After `Ok` the stream was read to its end and all was written. `BadFrame` comes exactly where a frame has another kind,
-/// is cut by the end of input, or is a line that is no command of requester 1; and `TooLong` exactly where the stream goes
-/// on beyond 2^40 bytes without one; what all frames in front led to is written then. `ReadFault` and `WriteFault` come only
-/// by the counts of source and sink; after the second a prefix was written. `Requester` has the first fault of the
-/// configuration, of which one that was read from a text has none. All memory is taken before the first byte is read.
+/// After `Ok` the stream was read to its end and all was written. Returns `BadFrame` exactly when a frame has another
+/// kind, is cut by the end of input, or is a line that is no command of requester 1; and `TooLong` exactly when the
+/// stream goes on beyond 2^40 bytes without one; what all frames in front led to is written then. `ReadFault` and
+/// `WriteFault` are returned only if the `faults` count of the source or the sink rose; after the second a prefix was
+/// written. `Requester` has the first fault of the configuration, of which one that was read from a text has none.
+/// Allocates only before the first byte is read.
 pub fn drive<S: Source, K: Sink>(
     alloc: Global,
     config: &ScriptConfig,

@@ -7,7 +7,7 @@ pub enum DriveFault {
     /// Reading failed.
     #[error("reading failed")]
     ReadFault,
-    /// Writing failed, behind a part of the output.
+    /// Writing failed, possibly after part of the output.
     #[error("writing failed")]
     WriteFault,
     /// The stream has more than 2^40 bytes.
@@ -17,11 +17,11 @@ pub enum DriveFault {
     /// no command of requester 1.
     #[error("bad frame at byte {at}")]
     BadFrame { at: u64 },
-    /// The configuration sets up no requester: the first fault, which is not want of memory. Nothing was read and nothing
-    /// was written.
+    /// The configuration sets up no requester: the first fault, which is not allocation failure. Nothing was read and
+    /// nothing was written.
     #[error("no requester: {0}")]
     Requester(ReqConfigFault),
-    /// Memory ran out, before the first frame.
+    /// Out of memory, before the first frame.
     #[error("out of memory")]
     OutOfMemory,
 }

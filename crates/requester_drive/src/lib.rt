@@ -1,7 +1,6 @@
 //! A requester on a stream of frames.
 //!
-//! Read first: `IsDriven` in `specs/Driven.antt`, what is written for a stream of frames. The call
-//! is `drive`.
+//! Read first: `IsDriven` in `specs/Driven.antt`, what is written for a stream of frames. The call is `drive`.
 #![tactic(auto)]
 
 mod commands;

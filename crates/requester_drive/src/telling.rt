@@ -26,7 +26,7 @@ pub(crate) struct Driver {
     pub(crate) out: PacketList,
 }
 
-// The fault of a call, as it is told.
+// The fault of a call, as it is reported.
 fn fault_of(fault: FrameFault) -> DriveFault
     ensures { result ≡ told_of fault }
 {
