@@ -38,7 +38,7 @@ faulty worn q h command f d fault is = ap (λ o. after h (asks_by q h command f 
 pub ignored : IgnoredAddsNothing
 ignored q h owner tag body f d cause is = ap (after h) is
 
--- Behind the tests of a body, what it is to the outstanding message decides.
+-- After the tests of a body, what it is to the outstanding message decides.
 tested : (q : ReqSetup) (h : History) (f : Free) (tag : ℕ) (body : List ℕ) (d : Draw) (sent : Sent) (cause : Option ReqIgnored)
     → after h (hears_to q h f tag body d sent.aim) ≡ h
     → after h (hears_by q h f tag body d (Some sent) cause) ≡ h

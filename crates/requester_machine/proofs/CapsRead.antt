@@ -33,7 +33,7 @@ use Rattle.std.proofs.lemmas.Bool.{or_parts}
 
 -- ---- CAPABILITIES is spelled alike for every hash.
 
--- What holds of each value of a layout holds of a value that bytes spell.
+-- What holds of each value of a layout holds of a value that bytes encode.
 abbrev Gives : {A : Type 0} → (A → Type 0) → Layout A → Type 0
 Gives P (Whole value) = P value
 Gives P (Sized told told_at value) = P value

@@ -37,13 +37,13 @@ use Rattle.requester_machine.specs.Message.Aim.{Plain, ByChunks, ForChunk, InSes
 use Rattle.requester_machine.specs.Sending.{plain_sent, request_sent, piece_sent, piece_of, get_sent, is_too_long, finish_sent}
 use Rattle.spdm_basis.proofs.Bools.{and_first, and_second}
 
--- The whole answer to a request, where it stands in the message, and what it spells.
+-- The whole answer to a request, where it stands in the message, and what it encodes.
 pub record IsRead (q : ReqSetup) (h : History) (aim : Aim) (m : List ℕ) (asked : RequestMessage) (answer : List ℕ) (value : ResponseMessage) : Type 0 where
   pub place : ℕ
   pub whole : carried_by q h m aim ≡ Whole answer place
   pub reads : reading_of h asked answer ≡ Ok value
 
--- An ERROR refuses the request; a LargeResponse calls for the first chunk of a large answer; an acknowledgement calls
+-- An ERROR refuses the request; a LargeResponse calls for the first chunk of a large response; an acknowledgement calls
 -- for the next chunk of the request, a chunk for the next one of the answer; the negotiation stops; or the request has
 -- its answer.
 pub data ClearLeads (q : ReqSetup) (h : History) (f : Free) (aim : Aim) (m : List ℕ) (asked : RequestMessage) (led : Led) : Type 0 where

@@ -1,4 +1,4 @@
--- The chunks of a large answer that are under way, with one more.
+-- The chunks of a large response that are under way, with one more.
 use Rattle.std.proofs.Common.{refl, ◌≡◌, ◌∙◌, ◌≤◌, ◌<◌, ◌+◌, ◌-◌, ◌*◌, ◌^◌, ℕ, List, [], ◌∷◌, true, false, Bool, Option, Some, None, ap, sym, subst, length, min, nat_lt, nat_eq, not, arith, eqb-true, length-append}
 use Rattle.std.specs.Prelude.{◌==◌, if◌then◌else◌}
 use Rattle.std.proofs.lemmas.Grind.{common_steps}
@@ -53,7 +53,7 @@ number_of_later : (n m : ℕ) (b : Bool) → (n == 0) ≡ b → n ≡ m + 1 → 
 number_of_later n m true is same = grind (arith, common_steps)
 number_of_later n m false is same = refl
 
--- What is told and held with it.
+-- What is reported and held with it.
 record Grown (before : List ChunkMessage) : Type 0 where
   unfinished : AreUnfinished before
   told : told_size before ≤ MAX_MESSAGE_SIZE
@@ -159,6 +159,6 @@ is_next most handle number before c same_handle same_number under more =
       under = one_more most handle number before c none m.1 under;
     }
 
--- The number behind it, which has two bytes.
+-- The number after it, which has two bytes.
 pub counted_on : (n m : ℕ) → m ≡ min (n + 1) (2 ^ 16 - 1) → n + 1 ≤ 157 → m ≡ n + 1
 counted_on n m is few = omega arith

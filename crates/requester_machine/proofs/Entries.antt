@@ -51,7 +51,7 @@ tests_are_false [] h n = refl
 tests_are_false (t ∷ ts) h zero = (both t.0 t.1 _ h).0
 tests_are_false (t ∷ ts) h (suc n) = tests_are_false ts (both t.0 t.1 _ h).1 n
 
--- The test of this number behind Worn.
+-- The test of this number after Worn.
 pub test_is_false : (worn : Bool) (q : ReqSetup) (h : History) (command : Command) (f : Free)
     → command_fault worn q h command f ≡ None → (n : ℕ) → test_at n (command_tests q h command f) ≡ false
 unfolding command_fault
@@ -63,6 +63,6 @@ either : (b : Bool) (x y : Sent) (asked : RequestMessage) → asked_in x.aim ≡
 either true x y asked a b = a
 either false x y asked a b = b
 
--- A request that is sent, whole or by chunks, asks for itself.
+-- A request that is sent, whole or in chunks, asks for itself.
 pub request_sent-asks : (common : Common) (h : History) (asked : RequestMessage) → asked_in ((request_sent common h asked).aim) ≡ Some asked
 request_sent-asks common h asked = either _ (piece_sent common h asked _ 0) (plain_sent h asked) asked refl refl

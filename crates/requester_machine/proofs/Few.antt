@@ -72,7 +72,7 @@ pub end_few : (b : Bool) (sealed inner : List ℕ) (effect : Effect) (ask : Ask)
 end_few true sealed inner effect ask s is few = rw is none_few
 end_few false sealed inner effect ask s is few = few
 
--- Behind a record that was taken.
+-- After a record that was taken.
 pub record IsTaken (sealed inner : List ℕ) (effect : Effect) (ask : Ask) (s : Steps) : Type 0 where
   pub waits : waiting_ask s ≡ Some ask
   pub number : answer_number s ask ≤ 65534
@@ -175,7 +175,7 @@ pub updated_few : (sealed inner answer : List ℕ) (all : Bool) (s : Steps) → 
 updated_few sealed inner answer all s waits few =
     (record { waits = waits; number = update_number s all few }, omega arith, (omega arith, update_next all (request_next s) (response_next s) few))
 
--- With a LargeResponse, the first chunk of a large answer is asked for.
+-- With a LargeResponse, the first chunk of a large response is asked for.
 pub first_few : (sealed inner : List ℕ) (ask : Ask) (op handle : ℕ) (s : Steps) → asks_all ask ≡ false → waiting_ask s ≡ Some ask → request_next s ≤ 65300 → response_next s ≤ 65299
     → IsTaken sealed inner Nothing ask s × (request_next (Took sealed inner Nothing ∷ s) ≤ 65535)
     × FewFor (AskChunk op handle 0 []) (request_next (Took sealed inner Nothing ∷ s) + 1) (response_next (Took sealed inner Nothing ∷ s))

@@ -71,7 +71,7 @@ awaited_stays q h later _ same phase sessions a = absurd a
 one_byte : (n : ℕ) → n % 256 < 256
 one_byte n = omega arith
 
--- A request that was sent, whole or by chunks. The history behind it is told by the message.
+-- A request that was sent, whole or in chunks. The history after it is determined by the message.
 pub request_waits : (q : ReqSetup) (h : History) (common : Common) (asked : RequestMessage) (later : Sent → History)
     → ((x : Sent) → asked_in x.aim ≡ Some asked → IsAwaited q (later x) asked)
     → ((x : Sent) → HasSizes q → (connection_terms (later x)).common ≡ common)

@@ -60,7 +60,7 @@ clear_keeps id _ s = itself s
 record_keeps : (sealed inner : List ℕ) (effect : Effect) (s : Steps) → Keeps s (after_record sealed inner effect s)
 record_keeps sealed inner effect s = either_keeps (ends effect) s [] (when_live s (Took sealed inner effect)) (ended s) (took_keeps sealed inner effect s)
 
--- Behind a clear message, and behind a record.
+-- After a clear message, and after a record.
 pub behind_clear : (id : ℕ) (effect : Effect) (next : Option Sent) (s : Steps) → Keeps s (with_sent id next (after_clear id effect s))
 behind_clear id effect next s = both_keep s (after_clear id effect s) (with_sent id next (after_clear id effect s)) (clear_keeps id effect s) (sent_keeps id next (after_clear id effect s))
 

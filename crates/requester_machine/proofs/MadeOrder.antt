@@ -39,7 +39,7 @@ use Rattle.requester_machine.proofs.RecordOrder.{record-good}
 use Rattle.requester_machine.proofs.Steps.{Good, asked_good, either_good}
 use Rattle.spdm_basis.proofs.Bools.{and_rest}
 
--- A session is good behind an entry, and behind an outcome.
+-- A session is good after an entry, and after an outcome.
 abbrev GoodEntry : History → ℕ → Entry → Type 0
 GoodEntry h id entry = Good (waits_for id (sent_in entry)) (session_of id (entry ∷ h))
 
@@ -105,7 +105,7 @@ pub rests : (P : Waits → Steps → Type 0) (q : ReqSetup) (h : History) (id : 
 rests P q h id command f none needs good =
     subst (λ w. P w (session_of id h)) (nothing_waits id (outstanding h) (and_rest (needs_connection command) (is_some (outstanding h)) (test_is_false false q h command f none 1) needs)) good
 
--- A property of a request that is sent, whole or by chunks.
+-- A property of a request that is sent, whole or in chunks.
 pub sent_by_size : (P : Sent → Type 0) (common : Common) (h : History) (asked : RequestMessage) → P (piece_sent common h asked (next_handle h) 0) → P (plain_sent h asked) → P (request_sent common h asked)
 sent_by_size P common h asked a c = by_size (nat_lt common.to_responder.transfer (length (canonical_request asked)))
   where

@@ -157,7 +157,7 @@ taken_in effect (Took sealed inner other ∷ older) is ordered = absurd (false�
 pub next_epoch : (n : ℕ) → n < n + 1
 next_epoch n = omega arith
 
--- The count behind a record taken: none after PSK_FINISH_RSP and after an update, and the same else.
+-- The count after a record taken: none after PSK_FINISH_RSP and after an update, and the same else.
 taken-count : (psk : List ℕ) (effect : Effect) (sealed inner : List ℕ) (s : Steps)
     → (finishes effect ≡ true → stage_of s ≡ stage.Handshake) × (verifies effect ≡ true → stage_of s ≡ stage.Verifying)
     → request_next s ≡ sealed_under psk (request_purpose psk s) s

@@ -22,14 +22,14 @@ use Rattle.requester_machine.specs.Sending.{operation_of, verify_sent, chunk_sen
 use Rattle.requester_machine.specs.Session.{ends, updates}
 use Rattle.requester_machine.proofs.ClearLeads.{either, tested}
 
--- A LargeResponse is followed: as the answer to GET_MEASUREMENTS; or inside a whole large answer, while the next
+-- A LargeResponse is followed: as the answer to GET_MEASUREMENTS; or inside a whole large response, while the next
 -- numbers are below 65,300.
 pub data Follows (came : Came) (ask : Ask) (op : ℕ) : Type 0 where
   ToAsk : ask ≡ AskMeasure op → Follows came ask op
   ToWhole : (handle number : ℕ) (before : List ChunkMessage) → ask ≡ AskChunk op handle number before → has_reached 65300 came.steps ≡ false → Follows came ask op
 
 -- The session ends; or what was asked has its answer, or was refused; or an update has its answer, and VerifyNewKey is
--- sent; or a LargeResponse or a chunk of a large answer calls for a further chunk.
+-- sent; or a LargeResponse or a chunk of a large response calls for a further chunk.
 pub data RecordLeads (q : ReqSetup) (h : History) (f : Free) (came : Came) (ask : Ask) (led : Led) : Type 0 where
   ByEnd : ends led.effect ≡ true → led.next ≡ None → RecordLeads q h f came ask led
   ByAnswer : ends led.effect ≡ false → updates led.effect ≡ false → may_bring led.effect ask ≡ true → led.next ≡ None → RecordLeads q h f came ask led

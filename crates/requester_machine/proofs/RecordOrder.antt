@@ -25,7 +25,7 @@ use Rattle.requester_machine.specs.Session.{Steps, with_sent, after_record}
 use Rattle.requester_machine.proofs.Steps.{Good, end_good, done_good, next_good}
 use Rattle.spdm_grammar.specs.declared.names.error_number.TheConstants.{LARGE_RESPONSE}
 
--- The session with an id, behind a record that came and what it leads to.
+-- The session with an id, after a record that came and what it leads to.
 abbrev pub steps_behind : ℕ → Steps → Came → Led → Steps
 steps_behind id s came led = if came.id == id then with_sent id led.next (after_record came.sealed came.inner led.effect s) else s
 

@@ -18,7 +18,7 @@ use Rattle.requester_machine.proofs.CapsRead.{alike, exchange_body}
 
 -- ---- By the layouts.
 
--- What holds of each value of a layout and of the length of its fields, behind so many bytes.
+-- What holds of each value of a layout and of the length of its fields, after so many bytes.
 abbrev Totals : {A : Type 0} → (A → ℕ → Type 0) → Layout A → ℕ → Type 0
 Totals P (Whole value) k = P value k
 Totals P (Sized told told_at value) k = P value k

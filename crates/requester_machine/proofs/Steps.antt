@@ -63,7 +63,7 @@ asked_stage ask (Accepted a ∷ older) ordered waits = absurd (none-some ask wai
 asked_stage ask (Asked other inner sealed ∷ older) ordered waits = (ordered.0 ∙ ap stage_for (same_Some other ask waits), ordered.1)
 asked_stage ask (Took sealed inner effect ∷ older) ordered waits = absurd (none-some ask waits)
 
--- The stage behind a record taken.
+-- The stage after a record taken.
 abbrev pub stage_behind : Effect → Stage → Stage
 stage_behind effect st = if finishes effect || verifies effect then stage.Open else (if updates effect then stage.Verifying else st)
 

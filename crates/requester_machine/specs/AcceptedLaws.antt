@@ -29,9 +29,9 @@ use Rattle.requester_machine.specs.Shown.{effect_in}
 
 -- ---- The answer to PSK_EXCHANGE.
 
--- The outstanding message asked for the answer to this PSK_EXCHANGE. The body carries this answer whole: as it
--- stands, inside an acknowledgement, or as the last chunk of a large answer. It spells PSK_EXCHANGE_RSP, and its verify
--- data are those of the responder over T1 with this answer.
+-- The outstanding message asked for the answer to this PSK_EXCHANGE. The body carries this answer whole: as it stands,
+-- inside an acknowledgement, or as the last chunk of a large response. It encodes PSK_EXCHANGE_RSP, and its verify data
+-- are those of the responder over T1 with this answer.
 pub record IsVerified (q : ReqSetup) (h : History) (body : List ℕ) (exchange : ExchangeMessage) (answer : List ℕ) : Type 0 where
   pub sent : Sent
   pub waits : outstanding h ≡ Some sent

@@ -57,8 +57,8 @@ may_be_large (GetMeasurements op) = true
 may_be_large (PskExchange exchange) = true
 may_be_large _ = false
 
--- LargeResponse, 0F, tells the handle of a large answer, which CHUNK_GET fetches where chunks are in common;
--- any other ERROR refuses the request (DSP0274, "ERROR", "Large SPDM message transfer mechanism").
+-- LargeResponse, 0F, tells the handle of a large response, which CHUNK_GET fetches where chunks are in common; any
+-- other ERROR refuses the request (DSP0274, "ERROR", "Large SPDM message transfer mechanism").
 abbrev pub error_led : History → RequestMessage → (code : ℕ) → (extended : List ℕ) → Led
 error_led h asked code extended =
     if code == LARGE_RESPONSE && may_be_large asked && (connection_terms h).common.chunk
@@ -79,8 +79,8 @@ offer_led h effect common (Some offer) =
     if is_too_long common (canonical_request (NegotiateAlgorithms offer)) then stopped stop.TooLong
     else goes_on effect (request_sent common h (NegotiateAlgorithms offer))
 
--- CAPABILITIES: they go together with the own ones, which GET_CAPABILITIES told; then there is an offer, unless
--- no hash could be offered.
+-- CAPABILITIES: they go together with the own ones, which GET_CAPABILITIES told; then there is an offer, unless no hash
+-- could be offered.
 abbrev pub caps_led : ReqSetup → History → Effect → Result Common CapsFault → Led
 caps_led q h effect (Err fault) = stopped (stop.Caps fault)
 caps_led q h effect (Ok common) = offer_led h effect common (offer_of q.suites common.to_responder.transfer)
@@ -119,7 +119,7 @@ exchange_led q h f exchange answer rsp =
 
 -- ---- All answers.
 
--- What a sound answer leads to. One that is neither the awaited one nor an ERROR is malformed at its code, byte
+-- What a sound answer leads to. One that is neither the expected one nor an ERROR is malformed at its code, byte
 -- 1. Place is where the answer begins in the message that carried it.
 abbrev pub answer_led : ReqSetup → History → Free → (place : ℕ) → RequestMessage → List ℕ → ResponseMessage → Result Led ReqIgnored
 answer_led q h f place asked answer (Error version code detail extended) = Ok (error_led h asked code extended)

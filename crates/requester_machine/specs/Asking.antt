@@ -50,6 +50,6 @@ abbrev pub asks_by : ReqSetup → History → Command → Free → Draw → Opti
 asks_by q h command f d (Some fault) = Fails fault
 asks_by q h command f d None = done q h command f d
 
--- A command came, while this draw stood next.
+-- A command came, with this draw next.
 unfoldable pub asks : (worn : Bool) → ReqSetup → History → Command → Free → Draw → Outcome
 asks worn q h command f d = asks_by q h command f d (command_fault worn q h command f)

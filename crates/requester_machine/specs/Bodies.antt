@@ -1,5 +1,5 @@
--- Which bodies a requester ignores before it reads their message, and why: a list of tests in order, of which
--- the first that holds decides. This project's own.
+-- Which bodies a requester ignores before it reads their message, and why: a list of tests in order, of which the first
+-- that holds decides. This project's own.
 use Rattle.std.specs.Prelude.{◌==◌, ◌&&◌, ◌||◌, not, nat_lt, ℕ, List, [], ◌∷◌, length, slice_index, drop, if◌then◌else◌, Bool, false, Option, Some, None, is_none}
 use Rattle.spdm_grammar.specs.Message.{ResponseMessage}
 use Rattle.spdm_grammar.specs.Message.ResponseMessage.{Error}
@@ -15,7 +15,7 @@ abbrev pub error_code : Option ResponseMessage → Option ℕ
 error_code (Some (Error version code detail extended)) = Some code
 error_code _ = None
 
--- The code of the ERROR that bytes spell, if they spell one. How it is spelled depends on no hash.
+-- The code of the ERROR that bytes encode, if they encode one. How it is encoded depends on no hash.
 abbrev pub error_in : List ℕ → Option ℕ
 error_in message = error_code (response_value message)
 
@@ -32,7 +32,7 @@ abbrev pub has_tag : Option Sent → ℕ → Bool
 has_tag None tag = false
 has_tag (Some sent) tag = sent.tag == tag
 
--- A record came to a clear request, or a clear message that spells no ERROR to a request of a session.
+-- A record came to a clear request, or a clear message that encodes no ERROR to a request of a session.
 abbrev pub is_out_of_place : Aim → List ℕ → Bool
 is_out_of_place (Plain asked) body = is_record body
 is_out_of_place (ByChunks asked handle number) body = is_record body
@@ -49,8 +49,8 @@ abbrev pub first_cause : List (Bool × ReqIgnored) → Option ReqIgnored
 first_cause [] = None
 first_cause (t ∷ ts) = if t.0 then Some t.1 else first_cause ts
 
--- The tests of a whole body with its tag owner bit and tag, before its message is read. What its packets
--- are tested for comes before them.
+-- The tests of a whole body with its tag owner bit and tag, before its message is read. What its packets are tested for
+-- comes before them.
 abbrev pub tests_of_body : ReqSetup → Option Sent → (owner : Bool) → ℕ → List ℕ → List (Bool × ReqIgnored)
 tests_of_body q waiting owner tag body =
     (owner, ignored.NotResponse)

@@ -1,5 +1,5 @@
--- Which commands a requester does not do, and why: a list of tests in order, of which the first that holds
--- decides. This project's own.
+-- Which commands a requester does not do, and why: a list of tests in order, of which the first that holds decides.
+-- This project's own.
 use Rattle.std.specs.Prelude.{◌+◌, ◌==◌, ◌&&◌, ◌||◌, not, nat_lt, nat_le, ℕ, List, [], ◌∷◌, length, Bool, true, false, Option, Some, None, is_none, is_some}
 use Rattle.spdm_basis.specs.Tests.{first_of_tests}
 use Rattle.spdm_grammar.specs.Fields.{is_summary}
@@ -19,8 +19,8 @@ use Rattle.requester_machine.specs.Message.Command.{Connect, Open, Send, Beat, U
 use Rattle.requester_machine.specs.Sending.{is_too_long}
 use Rattle.requester_machine.specs.Session.{Steps, session_of, is_live, session_terms, request_next, response_next}
 
--- All that a requester's message leaves free: the ReqSessionID, the context and the opaque data of
--- PSK_EXCHANGE, and the padding of a record.
+-- All that a requester's message leaves free: the ReqSessionID, the context and the opaque data of PSK_EXCHANGE, and
+-- the padding of a record.
 pub record Free : Type 0 where
   pub id : ℕ
   pub context : List ℕ
@@ -96,9 +96,9 @@ is_bad_summary _ = false
 abbrev pub has_reached : ℕ → Steps → Bool
 has_reached number s = nat_le number (request_next s) || nat_le number (response_next s)
 
--- A key of the session has sealed too many records for what is asked: no key seals more than 65,536, the
--- answer to UpdateKey is followed by one more, and a large answer takes up to 159 records. UpdateAllKeys and
--- END_SESSION are asked for under any number.
+-- A key of the session has sealed too many records for what is asked: no key seals more than 65,536, the answer to
+-- UpdateKey is followed by one more, and a large response takes up to 159 records. UpdateAllKeys and END_SESSION are
+-- asked for under any number.
 abbrev pub is_spent : Steps → Command → Bool
 is_spent s (Send id bytes) = has_reached 65535 s
 is_spent s (Beat id) = has_reached 65535 s
@@ -123,7 +123,7 @@ is_long q h f _ = false
 
 -- ---- The tests.
 
--- The tests behind Worn.
+-- The tests after Worn.
 abbrev pub command_tests : ReqSetup → History → Command → Free → List (Bool × CommandFault)
 command_tests q h command f =
     (is_retry command && is_none (outstanding h), fault.NothingToRetry)

@@ -1,5 +1,5 @@
--- What this project's requester does: the one outcome at the values that it chooses. The choices are this
--- project's own.
+-- What this project's requester does: the one outcome at the values that it chooses. The choices are this project's
+-- own.
 use Rattle.std.specs.Prelude.{⊤, ◌≡◌, not, ℕ, List, [], ◌∷◌, take, if◌then◌else◌, Bool, false}
 use Rattle.spdm_machine.specs.Keys.{Draw, context_of}
 use Rattle.spdm_machine.specs.Bodies.{clear_body, record_body}
@@ -34,7 +34,7 @@ command_chosen q h d = chosen q h d (take q.pad d.bytes)
 abbrev pub body_chosen : ReqSetup → History → Draw → Free
 body_chosen q h d = chosen q h d []
 
--- A command came while this draw stood next, to a requester that is worn out or not.
+-- A command came with this draw next, to a requester that is worn out or not.
 abbrev pub requester_asks : (worn : Bool) → ReqSetup → History → Command → Draw → Outcome
 requester_asks worn q h command d = asks worn q h command (command_chosen q h d) d
 

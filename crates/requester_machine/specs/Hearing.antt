@@ -27,7 +27,7 @@ clear_outcome tag m d (Ok led) = Adds (TookClear tag m led d)
 
 -- ---- In a session.
 
--- A record as it came to the session of this ReqSessionID, which asked this.
+-- A record as it came to the session with this ReqSessionID, which asked this.
 abbrev pub came_to : ReqSetup → History → ℕ → Ask → List ℕ → Came
 came_to q h id ask sealed = record { id = id; steps = session_of id h; sealed = sealed; inner = answer_inner q.psk (session_of id h) ask sealed }
 
@@ -40,7 +40,7 @@ abbrev pub record_outcome : ReqSetup → History → Free → ℕ → Ask → Ca
 record_outcome q h f tag ask came d (Some fault) = Ignores (ignored.Record fault)
 record_outcome q h f tag ask came d None = took q h f tag ask came d
 
--- A record that came to the session of this ReqSessionID, which asked this.
+-- A record that came to the session with this ReqSessionID, which asked this.
 unfoldable pub on_record : ReqSetup → History → Free → ℕ → ℕ → Ask → List ℕ → Draw → Outcome
 on_record q h f tag id ask sealed d = record_outcome q h f tag ask (came_to q h id ask sealed) d (answer_fault q.psk (session_of id h) ask sealed)
 
@@ -65,6 +65,6 @@ hears_by q h f tag body d waiting (Some cause) = Ignores cause
 hears_by q h f tag body d None None = Ignores ignored.NothingOutstanding
 hears_by q h f tag body d (Some sent) None = hears_to q h f tag body d sent.aim
 
--- A whole body came with its tag owner bit and tag, while this draw stood next.
+-- A whole body came with its tag owner bit and tag, with this draw next.
 unfoldable pub hears : ReqSetup → History → (owner : Bool) → ℕ → List ℕ → Free → Draw → Outcome
 hears q h owner tag body f d = hears_by q h f tag body d (outstanding h) (body_fault q (outstanding h) owner tag body)

@@ -14,10 +14,10 @@ use Rattle.requester_machine.specs.Message.{Command, Ask, Aim, Sent}
 use Rattle.requester_machine.specs.Message.Aim.{Plain, ByChunks, ForChunk, InSession}
 use Rattle.requester_machine.specs.Message.Command.{Connect, Open, Send, Beat, Update, Measure, End, Retry}
 
--- What a message that was taken brought about. Nothing that counts: a chunk or its acknowledgement, a
--- LargeResponse, or an ERROR in a record, which the session outlives. A clear request has its whole answer,
--- or was refused with an ERROR; the negotiation stops. An ask of a session has its whole answer (application
--- data without its type); the session is lost.
+-- What a message that was taken brought about. Nothing that counts: a chunk or its acknowledgement, a LargeResponse, or
+-- an ERROR in a record, which the session outlives. A clear request has its whole answer, or was refused with an ERROR;
+-- the negotiation stops. An ask of a session has its whole answer (application data without its type); the session is
+-- lost.
 pub data Effect : Type 0 where
   Nothing : Effect
   Answers : (asked : RequestMessage) → (answer : List ℕ) → Effect
@@ -26,17 +26,16 @@ pub data Effect : Type 0 where
   Grants : (ask : Ask) → (answer : List ℕ) → Effect
   Loses : Effect
 
--- What a message that was taken led to: what is told of it, what it brought about, and the message that is
--- sent next, if one is.
+-- What a message that was taken led to: what is reported of it, what it brought about, and the message that is sent
+-- next, if one is.
 pub record Led : Type 0 where
   pub event : Event
   pub effect : Effect
   pub next : Option Sent
 
--- A command that was done, with the message that it sent; a clear message that was taken, with its tag; a
--- record that was taken, with its tag, the ReqSessionID of its session and its inner message. Each stands
--- with the draw that stood next. What is ignored or warned of, a command with a fault and Retry are no
--- entries.
+-- A command that was done, with the message that it sent; a clear message that was taken, with its tag; a record that
+-- was taken, with its tag, the ReqSessionID of its session and its inner message. Each stands with the draw that stood
+-- next. What is ignored or warned of, a command with a fault and Retry are no entries.
 pub data Entry : Type 0 where
   Told : (command : Command) → (sent : Sent) → (draw : Draw) → Entry
   TookClear : (tag : ℕ) → (message : List ℕ) → (led : Led) → (draw : Draw) → Entry
@@ -103,8 +102,8 @@ negotiates (GetCapabilities caps) = true
 negotiates (NegotiateAlgorithms offer) = true
 negotiates _ = false
 
--- An exchange of the negotiation counts when its answer was taken; a refused one and a stop begin anew
--- (DSP0274, "Message exchanges").
+-- An exchange of the negotiation counts when its answer was taken; a refused one and a stop begin anew (DSP0274,
+-- "Message exchanges").
 abbrev pub phase_after : Effect → Phase → Phase
 phase_after Nothing phase = phase
 phase_after (Answers GetVersion answer) phase = Versioned
@@ -116,7 +115,7 @@ phase_after Stops phase = Fresh
 phase_after (Grants ask answer) phase = phase
 phase_after Loses phase = phase
 
--- The phase of the connection: Connect begins anew, each clear message taken counts, and no record does.
+-- The phase of the connection: Connect starts over, each clear message taken counts, and no record does.
 abbrev pub phase_of : History → Phase
 phase_of [] = Fresh
 phase_of (Told command sent d ∷ older) = if is_connect command then Fresh else phase_of older
@@ -130,7 +129,7 @@ negotiation_after (Answers (GetCapabilities caps) answer) n = record n { get_cap
 negotiation_after (Answers (NegotiateAlgorithms offer) answer) n = record n { negotiate_algorithms = canonical_request (NegotiateAlgorithms offer); algorithms = answer }
 negotiation_after _ n = n
 
--- The negotiation as it stands: Connect begins anew, each clear message taken counts, and no record does.
+-- The negotiation as it stands: Connect starts over, each clear message taken counts, and no record does.
 abbrev pub negotiation_of : History → Negotiation
 negotiation_of [] = no_negotiation
 negotiation_of (Told command sent d ∷ older) = if is_connect command then no_negotiation else negotiation_of older
@@ -160,8 +159,8 @@ abbrev pub is_open : Command → Bool
 is_open (Open summary) = true
 is_open _ = false
 
--- A draw is taken for the context of PSK_EXCHANGE, and for the padding of what is asked of a session, where
--- records are padded.
+-- A draw is taken for the context of PSK_EXCHANGE, and for the padding of what is asked of a session, where records are
+-- padded.
 abbrev pub takes_draw : ReqSetup → Command → Bool
 takes_draw q command = is_open command || (asks_session command && not (q.pad == 0))
 

@@ -1,5 +1,5 @@
--- What is kept of every made history while it grows: under which negotiation its sessions are, what
--- both ends can do, and what is outstanding. This project's own.
+-- What is kept of every made history while it grows: under which negotiation its sessions are, what both ends can do,
+-- and what is outstanding. This project's own.
 use Rattle.std.specs.Prelude.{⊤, ◌≡◌, ℕ, true, Option, Some, None}
 use Rattle.requester_machine.specs.History.{History, connection_terms, negotiation_of, outstanding, phase_of}
 use Rattle.requester_machine.specs.Message.{Sent}

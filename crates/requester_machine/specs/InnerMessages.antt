@@ -26,8 +26,8 @@ use Rattle.requester_machine.specs.Session.{Steps, when_live, session_id, sessio
 use Rattle.requester_machine.specs.Session.Step.{Took}
 use Rattle.spdm_grammar.specs.declared.names.error_number.TheConstants.{LARGE_RESPONSE}
 
--- A record as it came to a session: the ReqSessionID and the own history of the session when it came, the
--- record, and its inner message.
+-- A record as it came to a session: the ReqSessionID and the own history of the session when it came, the record, and
+-- its inner message.
 pub record Came : Type 0 where
   pub id : ℕ
   pub steps : Steps
@@ -38,7 +38,7 @@ pub record Came : Type 0 where
 abbrev pub with_record : Came → Effect → Steps
 with_record came effect = when_live came.steps (Took came.sealed came.inner effect)
 
--- The SPDM message, or the application data, behind the type.
+-- The SPDM message, or the application data, after the type.
 abbrev pub message_in : Came → List ℕ
 message_in came = drop 1 came.inner
 
@@ -53,7 +53,7 @@ inner_fault q inner = first_of_tests (
     ∷ (not (slice_index inner 0 == 5 || slice_index inner 0 == 1), bad.Malformed 0)
     ∷ [])
 
--- The response that bytes spell in a session, or their first fault. No summary is asked for there.
+-- The response that bytes encode in a session, or their first fault. No summary is asked for there.
 abbrev pub reading_of : Came → List ℕ → Result ResponseMessage Malformed
 reading_of came bytes = response_reading (hash_len (session_terms came.steps)) false bytes
 
@@ -70,7 +70,7 @@ outlives_error (AskMeasure op) = true
 outlives_error (AskChunk op handle number before) = true
 outlives_error AskEnd = false
 
--- CHUNK_GET for the first chunk of the large answer with the handle that LargeResponse told.
+-- CHUNK_GET for the first chunk of the large response with the handle that LargeResponse told.
 abbrev pub first_get : ReqSetup → History → Free → Came → (op : ℕ) → (extended : List ℕ) → Led
 first_get q h f came op extended = goes_on Nothing (chunk_sent q h came.id (with_record came Nothing) op (slice_index extended 0) 0 [] f.pad)
 
@@ -79,7 +79,7 @@ abbrev pub follows : Came → Ask → (code : ℕ) → Bool
 follows came (AskMeasure op) code = code == LARGE_RESPONSE && (session_terms came.steps).common.chunk
 follows came _ code = false
 
--- The operation of the GET_MEASUREMENTS that is asked, also by chunks; 0 for all else.
+-- The operation of the GET_MEASUREMENTS that is asked, also in chunks; 0 for all else.
 abbrev pub op_in : Ask → ℕ
 op_in (AskMeasure op) = op
 op_in (AskChunk op handle number before) = op
@@ -112,8 +112,8 @@ verified_led came echo =
 
 -- ---- A large answer to GET_MEASUREMENTS.
 
--- A whole large answer is one like any other. A LargeResponse in it is followed only where GET_MEASUREMENTS might
--- be asked, so that no key comes to seal too many records.
+-- A whole large response is one like any other. A LargeResponse in it is followed only where GET_MEASUREMENTS might be
+-- asked, so that no key comes to seal too many records.
 abbrev pub whole_led : ReqSetup → History → Free → Came → (op : ℕ) → (whole : List ℕ) → Result ResponseMessage Malformed → Result Led BadReply
 whole_led q h f came op whole (Err fault) = Err (bad.Malformed fault.at)
 whole_led q h f came op whole (Ok (Error version code detail extended)) =
@@ -121,8 +121,8 @@ whole_led q h f came op whole (Ok (Error version code detail extended)) =
 whole_led q h f came op whole (Ok (Measurements measured)) = Ok (measured_led op measured (Grants (AskMeasure op) whole))
 whole_led q h f came op whole (Ok _) = Err bad.WrongKind
 
--- The last chunk completes the large answer, and any other calls for the next one. One that breaks a rule is
--- no answer.
+-- The last chunk completes the large response, and any other calls for the next one. One that breaks a rule is no
+-- answer.
 abbrev pub chunk_led : ReqSetup → History → Free → Came → (op : ℕ) → List ChunkMessage → ChunkMessage → Option ChunkFault → Result Led BadReply
 chunk_led q h f came op before c (Some fault) = Err (bad.Chunk fault)
 chunk_led q h f came op before c None =
@@ -153,8 +153,7 @@ abbrev pub data_led : Came → Ask → Result Led BadReply
 data_led came AskData = Ok (is_done (finished.Answered (session_id came.steps)) (Grants AskData (message_in came)))
 data_led came _ = Err bad.WrongKind
 
--- An inner message with a fault is no answer; else type 5 is read as an SPDM message, and type 1 is
--- application data.
+-- An inner message with a fault is no answer; else type 5 is read as an SPDM message, and type 1 is application data.
 abbrev pub inner_led_by : ReqSetup → History → Free → Came → Ask → Option BadReply → Result Led BadReply
 inner_led_by q h f came ask (Some fault) = Err fault
 inner_led_by q h f came ask None =

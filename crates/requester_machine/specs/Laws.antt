@@ -81,8 +81,8 @@ UnopenedAddsNothing = (q : ReqSetup) (h : History) (owner : Bool) (tag : ℕ) (b
 abbrev pub LiveIdsAreFew : Type 0
 LiveIdsAreFew = (q : ReqSetup) (h : History) (id : ℕ) → IsMade q h → is_live (session_of id h) ≡ true → (1 ≤ id) × (id ≤ 4)
 
--- A new session's id is from 1 to 4 and was that of no live session, and it begins with its PSK_EXCHANGE under
--- the negotiation as it stands.
+-- A new session's id is from 1 to 4 and was that of no live session, and it begins with its PSK_EXCHANGE under the
+-- negotiation as it stands.
 abbrev pub NewSessionIsFresh : Type 0
 NewSessionIsFresh = (worn : Bool) (q : ReqSetup) (h : History) (summary : ℕ) (d : Draw) (entry : Entry)
     → requester_asks worn q h (Open summary) d ≡ Adds entry
@@ -114,13 +114,12 @@ sealed_under psk p [] = 0
 sealed_under psk p (Asked ask inner sealed ∷ older) = if is_same_purpose p (request_purpose psk older) then sealed_under psk p older + 1 else sealed_under psk p older
 sealed_under psk p (_ ∷ older) = sealed_under psk p older
 
--- In each session of a made history, the number of the next record is the count of those sealed under its
--- purpose,
+-- In each session of a made history, the number of the next record is the count of those sealed under its purpose,
 abbrev pub NumbersAreCounts : Type 0
 NumbersAreCounts = (q : ReqSetup) (h : History) (id : ℕ) → IsMade q h
     → request_next (session_of id h) ≡ sealed_under q.psk (request_purpose q.psk (session_of id h)) (session_of id h)
 
--- and an update of the request key begins anew, at number 0 of the next epoch.
+-- and an update of the request key starts over, at number 0 of the next epoch.
 abbrev pub UpdateBeginsAnew : Type 0
 UpdateBeginsAnew = (psk : List ℕ) (s : Steps) (sealed inner answer : List ℕ) (all : Bool)
     → (request_next (Took sealed inner (Grants (AskUpdate all) answer) ∷ s) ≡ 0)

@@ -17,9 +17,9 @@ pub record IsSetUp (q : ReqSetup) : Type 0 where
   pub opaque : length q.opaque ≤ 1024
   pub pad : q.pad ≤ 16
 
--- The values that a requester may choose: an id from 1 to 4 that no live session has, where one is left (beside
--- four of them no session is begun, whatever id it would have); a context of at least the length of the hash and
--- opaque data of at most 1,024 bytes, with which PSK_EXCHANGE has at most 4,096; and padding of at most 16 bytes.
+-- The values that a requester may choose: an id from 1 to 4 that no live session has, where one is left (beside four of
+-- them no session is begun, whatever id it would have); a context of at least the length of the hash and opaque data of
+-- at most 1,024 bytes, with which PSK_EXCHANGE has at most 4,096; and padding of at most 16 bytes.
 pub record IsAllowed (q : ReqSetup) (h : History) (f : Free) : Type 0 where
   pub least : 1 ≤ f.id
   pub most : f.id ≤ 4

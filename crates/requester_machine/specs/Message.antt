@@ -3,10 +3,9 @@ use Rattle.std.specs.Prelude.{ℕ, List, Bool, Option, Some, None}
 use Rattle.spdm_grammar.specs.Message.{RequestMessage, ChunkMessage}
 use Rattle.spdm_machine.specs.Bodies.{clear_body, record_body}
 
--- The commands of a requester. Negotiate anew; open a session, with a measurement summary of a kind; send
--- application data; send a heartbeat; update the request key, or all keys; ask for measurements, in the
--- clear or in a session; end a session; send the outstanding message again. A session is named by its
--- ReqSessionID. This project's own.
+-- The commands of a requester. Negotiate anew; open a session, with a measurement summary of a kind; send application
+-- data; send a heartbeat; update the request key, or all keys; ask for measurements, in the clear or in a session; end
+-- a session; send the outstanding message again. A session is named by its ReqSessionID. This project's own.
 pub data Command : Type 0 where
   Connect : Command
   Open : (summary : ℕ) → Command
@@ -18,9 +17,8 @@ pub data Command : Type 0 where
   Retry : Command
 
 -- What a record asks for: PSK_FINISH; application data; HEARTBEAT; KEY_UPDATE with UpdateKey or, for all,
--- UpdateAllKeys; KEY_UPDATE with VerifyNewKey; GET_MEASUREMENTS with an operation; CHUNK_GET for one chunk
--- of a large answer to GET_MEASUREMENTS, behind the chunks of it that were taken, the newest first;
--- END_SESSION.
+-- UpdateAllKeys; KEY_UPDATE with VerifyNewKey; GET_MEASUREMENTS with an operation; CHUNK_GET for one chunk of a large
+-- response to GET_MEASUREMENTS, after the chunks of it that were taken, the newest first; END_SESSION.
 pub data Ask : Type 0 where
   AskFinish : Ask
   AskData : Ask
@@ -31,10 +29,9 @@ pub data Ask : Type 0 where
   AskChunk : (op : ℕ) → (handle : ℕ) → (number : ℕ) → (before : List ChunkMessage) → Ask
   AskEnd : Ask
 
--- What a message asks for. In the clear, a request: it stands whole in the message; or the message is
--- CHUNK_SEND with the chunk of this number of it; or CHUNK_GET for the chunk of this number of its large
--- answer, behind the chunks of it that were taken, the newest first. In a record, an ask of the session with
--- this ReqSessionID.
+-- What a message asks for. In the clear, a request: it stands whole in the message; or the message is CHUNK_SEND with
+-- the chunk of this number of it; or CHUNK_GET for the chunk of this number of its large response, after the chunks of
+-- it that were taken, the newest first. In a record, an ask of the session with this ReqSessionID.
 pub data Aim : Type 0 where
   Plain : (asked : RequestMessage) → Aim
   ByChunks : (asked : RequestMessage) → (handle : ℕ) → (number : ℕ) → Aim

@@ -3,7 +3,7 @@ use Rattle.std.specs.Prelude.{◌&&◌, ℕ, List, [], take, if◌then◌else◌
 use Rattle.requester_machine.specs.History.{History}
 use Rattle.requester_machine.specs.Session.{Steps, id_bytes, is_accepted, session_of}
 
--- The session took PSK_EXCHANGE_RSP, and its id stands in front of the record.
+-- The session took PSK_EXCHANGE_RSP, and its id precedes the record.
 abbrev pub names : (sealed : List ℕ) → Steps → Bool
 names sealed s = is_accepted s && bytes_eq (id_bytes s) (take 4 sealed)
 

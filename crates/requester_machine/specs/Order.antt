@@ -36,8 +36,8 @@ abbrev pub is_same : Bool → Bool → Bool
 is_same true b = b
 is_same false b = not b
 
--- What a record may bring about that answers what was asked: the answer, whole; or nothing, where an ERROR
--- leaves the session open.
+-- What a record may bring about that answers what was asked: the answer, whole; or nothing, where an ERROR leaves the
+-- session open.
 abbrev pub may_bring : Effect → Ask → Bool
 may_bring Nothing ask = outlives_error ask
 may_bring (Grants AskFinish answer) AskFinish = true
@@ -54,8 +54,8 @@ abbrev pub is_answer : Effect → Option Ask → Bool
 is_answer effect None = false
 is_answer effect (Some ask) = may_bring effect ask
 
--- PSK_EXCHANGE stands first, PSK_EXCHANGE_RSP second. Then records are sealed and taken in turn, each sealed in
--- its stage, and each taken an answer to the one before it.
+-- PSK_EXCHANGE stands first, PSK_EXCHANGE_RSP second. Then records are sealed and taken in turn, each sealed in its
+-- stage, and each taken an answer to the one before it.
 abbrev pub IsOrdered : Steps → Type 0
 IsOrdered [] = ⊤
 IsOrdered (Started negotiation exchange ∷ older) = is_live older ≡ false
@@ -70,14 +70,13 @@ pub data Waits : Type 0 where
   ForExchange : Waits
   ForRecord : (ask : Ask) → Waits
 
--- What the session with this ReqSessionID waits for by a request in the clear: by its own PSK_EXCHANGE for
--- the answer to that, by any other for nothing.
+-- What the session with this ReqSessionID waits for by a request in the clear: by its own PSK_EXCHANGE for the answer
+-- to that, by any other for nothing.
 abbrev pub waits_asked : ℕ → RequestMessage → Waits
 waits_asked id (PskExchange exchange) = if exchange.req_id == id then ForExchange else Rests
 waits_asked id _ = Rests
 
--- What it waits for by what a message asks for: in the clear as said, and in a record of its own the answer
--- to that.
+-- What it waits for by what a message asks for: in the clear as said, and in a record of its own the answer to that.
 abbrev pub waits_aim : ℕ → Aim → Waits
 waits_aim id (Plain asked) = waits_asked id asked
 waits_aim id (ByChunks asked handle number) = waits_asked id asked
@@ -100,8 +99,8 @@ abbrev pub FitsWaits : Waits → Steps → Type 0
 FitsWaits waits [] = ⊤
 FitsWaits waits (step ∷ older) = WaitsAs waits (step ∷ older)
 
--- The steps of a session are in order, and go with the outstanding request: all other sessions are open and wait
--- for nothing.
+-- The steps of a session are in order, and go with the outstanding request: all other sessions are open and wait for
+-- nothing.
 pub record IsInOrder (waiting : Option Sent) (id : ℕ) (s : Steps) : Type 0 where
   pub ordered : IsOrdered s
   pub fits : FitsWaits (waits_for id waiting) s

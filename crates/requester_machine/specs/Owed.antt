@@ -16,8 +16,8 @@ with_next next (TookRecord tag id sealed inner led d ∷ older) = TookRecord tag
 
 -- ---- Its padding.
 
--- The inner message of a record, sealed as the next one of a session, with this padding. What is sent in the clear
--- has none.
+-- The inner message of a record, sealed as the next one of a session, with this padding. What is sent in the clear has
+-- none.
 abbrev pub content_with : (psk : List ℕ) → Steps → (pad : List ℕ) → Content → Content
 content_with psk s pad (Clear message) = Clear message
 content_with psk s pad (Sealed sealed inner old) = Sealed (sealed_next psk s inner pad) inner pad

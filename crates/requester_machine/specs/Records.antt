@@ -1,5 +1,4 @@
--- The records of a session at the requester: under which purpose and number the next ones are sealed and
--- taken.
+-- The records of a session at the requester: under which purpose and number the next ones are sealed and taken.
 use Rattle.std.specs.Prelude.{◌+◌, ℕ, List, Option, Bool, false, if◌then◌else◌}
 use Rattle.key_schedule.specs.Purpose.{Purpose}
 use Rattle.key_schedule.specs.declared.direction.Direction.TheVariants.{Request, Response}
@@ -27,9 +26,8 @@ abbrev pub asks_all : Ask → Bool
 asks_all (AskUpdate all) = all
 asks_all _ = false
 
--- The purpose and the number of the answer: UpdateAllKeys is answered by record 0 of the new response key,
--- and by no record of the old one; all else under the present one (DSP0274, "KEY_UPDATE"; which key is this
--- project's own).
+-- The purpose and the number of the answer: UpdateAllKeys is answered by record 0 of the new response key, and by no
+-- record of the old one; all else under the present one (DSP0274, "KEY_UPDATE"; which key is this project's own).
 abbrev pub answer_purpose : List ℕ → Steps → Ask → Purpose
 answer_purpose psk s ask =
     if asks_all ask then record (response_purpose psk s) { epoch = response_epoch s + 1 }

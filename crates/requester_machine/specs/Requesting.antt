@@ -19,9 +19,8 @@ use Rattle.requester_machine.specs.Setup.{ReqSetup, ReqEnd}
 use Rattle.spdm_machine.specs.TagLog.{Act}
 use Rattle.spdm_machine.specs.Packets.{gathered_from, packets_to, wear_limit}
 
--- A requester: how it is set up, the seed of its draws and the number of the first one, all packets that it was
--- given, the newest first, how many commands it was told, those with a fault among them, and what it was told and
--- took.
+-- A requester: how it is set up, the seed of its draws and the number of the first one, all packets that it was given,
+-- the newest first, how many commands it was told, those with a fault among them, and what it was told and took.
 pub record Requesting : Type 0 where
   pub setup : ReqSetup
   pub seed : List ℕ
@@ -30,11 +29,11 @@ pub record Requesting : Type 0 where
   pub commands : ℕ
   pub history : History
 
--- A requester that was told and given nothing yet.
+-- A requester in its initial state.
 abbrev pub new_requesting : ReqEnd → Requesting
 new_requesting e = record { setup = e.setup; seed = e.seed; first = e.first; given = []; commands = 0; history = [] }
 
--- The draw that stands next.
+-- The next unused draw.
 unfoldable pub next_draw : Requesting → Draw
 next_draw a = draw_of a.seed (a.first + draws_of a.setup a.history)
 
@@ -49,8 +48,8 @@ packets_of_sent q (Some sent) = packets_to q.responder q.eid true sent.tag q.uni
 
 -- ---- A command.
 
--- What a command leads to: its fault, the packets sent, the tags computed (the newest first), and the
--- requester after it.
+-- What a command leads to: its fault, the packets sent, the tags computed (the newest first), and the requester after
+-- it.
 pub record CommandStep : Type 0 where
   pub fault : Option CommandFault
   pub sent : List (List ℕ)
@@ -78,8 +77,8 @@ requester_told a command =
 
 -- ---- A packet.
 
--- What a packet leads to: what is told, the packets sent, the application data and the measurement record
--- just taken, the tags computed and compared (the newest first), and the requester after it.
+-- What a packet leads to: what is told, the packets sent, the application data and the measurement record just taken,
+-- the tags computed and compared (the newest first), and the requester after it.
 pub record PacketStep : Type 0 where
   pub event : Event
   pub sent : List (List ℕ)

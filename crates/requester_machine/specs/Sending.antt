@@ -34,20 +34,19 @@ piece_of common asked handle number = nth_chunk common.to_responder.transfer han
 abbrev pub piece_sent : Common → History → RequestMessage → ℕ → ℕ → Sent
 piece_sent common h asked handle number = clear_sent h (ChunkSend (piece_of common asked handle number)) (ByChunks asked handle number)
 
--- CHUNK_GET for the chunk of this number of the large answer to a request, behind the chunks before it
--- (DSP0274, "CHUNK_GET").
+-- CHUNK_GET for the chunk of this number of the large response to a request, after the chunks before it (DSP0274,
+-- "CHUNK_GET").
 abbrev pub get_sent : History → RequestMessage → ℕ → ℕ → List ChunkMessage → Sent
 get_sent h asked handle number before = clear_sent h (ChunkGet handle number) (ForChunk asked handle number before)
 
--- A message is too long for the responder: over its max size, or over its transfer size where chunks are not
--- in common.
+-- A message is too long for the responder: over its max size, or over its transfer size where chunks are not in common.
 abbrev pub is_too_long : Common → List ℕ → Bool
 is_too_long common message =
     nat_lt common.to_responder.max (length message)
     || (not common.chunk && nat_lt common.to_responder.transfer (length message))
 
--- A request that is not too long goes by chunks where it is over the responder's transfer size, under the
--- next handle.
+-- A request that is not too long is sent in chunks where it is over the responder's transfer size, under the next
+-- handle.
 abbrev pub request_sent : Common → History → RequestMessage → Sent
 request_sent common h asked =
     if nat_lt common.to_responder.transfer (length (canonical_request asked)) then piece_sent common h asked (next_handle h) 0
@@ -71,8 +70,7 @@ record_sent q h id s ask inner pad = record { tag = next_tag h; content = Sealed
 abbrev pub operation_of : (all : Bool) → ℕ
 operation_of all = if all then 2 else 1
 
--- Param2 of KEY_UPDATE is the epoch of the request key that its record is sealed under, modulo 256. This
--- project's own.
+-- Param2 of KEY_UPDATE is the epoch of the request key that its record is sealed under, modulo 256. This project's own.
 abbrev pub update_tag : Steps → ℕ
 update_tag s = request_epoch s % 256
 
@@ -97,6 +95,6 @@ finish_sent q h id s pad = record_sent q h id s AskFinish (inner_request (PskFin
 abbrev pub verify_sent : ReqSetup → History → ℕ → Steps → List ℕ → Sent
 verify_sent q h id s pad = record_sent q h id s AskVerify (inner_request (key_update s 3)) pad
 
--- CHUNK_GET for the chunk of this number of the large answer to GET_MEASUREMENTS with an operation.
+-- CHUNK_GET for the chunk of this number of the large response to GET_MEASUREMENTS with an operation.
 abbrev pub chunk_sent : ReqSetup → History → ℕ → Steps → (op handle number : ℕ) → List ChunkMessage → List ℕ → Sent
 chunk_sent q h id s op handle number before pad = record_sent q h id s (AskChunk op handle number before) (inner_request (ChunkGet handle number)) pad

@@ -1,5 +1,4 @@
--- One session at the requester: its own history, picked out of that of the requester, and what is counted in
--- it.
+-- One session at the requester: its own history, picked out of that of the requester, and what is counted in it.
 use Rattle.std.specs.Prelude.{◌+◌, ◌==◌, ◌||◌, ℕ, List, [], ◌∷◌, drop, if◌then◌else◌, Bool, true, false, Option, Some, None}
 use Rattle.running_hash.specs.Hash.{Hash, hash_of}
 use Rattle.spdm_basis.specs.SessionIdBytes.{session_id_bytes}
@@ -22,9 +21,9 @@ use Rattle.requester_machine.specs.Message.Ask.{AskFinish, AskData, AskUpdate, A
 use Rattle.requester_machine.specs.Message.Command.{Connect, Open}
 use Rattle.requester_machine.specs.Message.Content.{Clear, Sealed}
 
--- What a session sees: PSK_EXCHANGE, which began it, with the negotiation that it was made under;
--- PSK_EXCHANGE_RSP, whose verify data were right; a record sealed, with what it asks for and its inner
--- message; a record taken, with its inner message and what it brought about.
+-- What a session sees: PSK_EXCHANGE, which began it, with the negotiation that it was made under; PSK_EXCHANGE_RSP,
+-- whose verify data were right; a record sealed, with what it asks for and its inner message; a record taken, with its
+-- inner message and what it brought about.
 pub data Step : Type 0 where
   Started : (negotiation : Negotiation) → (exchange : List ℕ) → Step
   Accepted : (answer : List ℕ) → Step
@@ -152,16 +151,15 @@ response_epoch [] = 0
 response_epoch (Took sealed inner effect ∷ older) = if updates_all effect then response_epoch older + 1 else response_epoch older
 response_epoch (_ ∷ older) = response_epoch older
 
--- The records sealed under the present request key. PSK_FINISH and an update are the last ones under the key
--- before.
+-- The records sealed under the present request key. PSK_FINISH and an update are the last ones under the key before.
 abbrev pub request_next : Steps → ℕ
 request_next [] = 0
 request_next (Asked ask inner sealed ∷ older) = request_next older + 1
 request_next (Took sealed inner effect ∷ older) = if finishes effect || updates effect then 0 else request_next older
 request_next (_ ∷ older) = request_next older
 
--- The records taken under the present response key. PSK_FINISH_RSP is the last one under the key before, and
--- the answer to UpdateAllKeys the first one under the new key.
+-- The records taken under the present response key. PSK_FINISH_RSP is the last one under the key before, and the answer
+-- to UpdateAllKeys the first one under the new key.
 abbrev pub response_next : Steps → ℕ
 response_next [] = 0
 response_next (Took sealed inner effect ∷ older) =
@@ -223,15 +221,14 @@ abbrev pub begun : ℕ → Negotiation → Option RequestMessage → Steps → S
 begun id n (Some (PskExchange exchange)) s = if exchange.req_id == id then Started n (canonical_request (PskExchange exchange)) ∷ [] else s
 begun id n _ s = s
 
--- Connect ends all sessions, and Open begins one. Any other command that asks something of the session is a
--- step of it.
+-- Connect ends all sessions, and Open begins one. Any other command that asks something of the session is a step of it.
 abbrev pub after_command : ℕ → Negotiation → Command → Sent → Steps → Steps
 after_command id n Connect sent s = []
 after_command id n (Open summary) sent s = begun id n (asked_in sent.aim) s
 after_command id n _ sent s = with_sent id (Some sent) s
 
--- The answer to the session's PSK_EXCHANGE is a step of it, and a refused one ends it. No other clear message
--- touches a session.
+-- The answer to the session's PSK_EXCHANGE is a step of it, and a refused one ends it. No other clear message touches a
+-- session.
 abbrev pub after_clear : ℕ → Effect → Steps → Steps
 after_clear id (Answers (PskExchange exchange) answer) s = if exchange.req_id == id then when_live s (Accepted answer) else s
 after_clear id (Refuses (PskExchange exchange)) s = if exchange.req_id == id then [] else s

@@ -6,9 +6,9 @@ use Rattle.spdm_grammar.specs.declared.messages.choice.Suites.{Suites}
 use Rattle.spdm_grammar.specs.declared.names.capability.TheConstants.{PSK_CAP}
 use Rattle.spdm_machine.specs.Setup.{protection_flags, optional_flags}
 
--- A requester: its end point and that of its responder, the sizes of its messages, the payload size of its
--- packets, how many bytes of padding its records have, the capabilities that it announces, the hint, the
--- pre-shared key, its opaque data and its algorithms.
+-- A requester: its endpoint and that of its responder, the sizes of its messages, the payload size of its packets, how
+-- many bytes of padding its records have, the capabilities that it announces, the hint, the pre-shared key, its opaque
+-- data and its algorithms.
 pub record ReqSetup : Type 0 where
   pub eid : ℕ
   pub responder : ℕ

@@ -1,5 +1,5 @@
--- What comes of an outcome: the history behind it, the message that is sent, what is told; and what is shown of
--- a requester. This project's own.
+-- What comes of an outcome: the history after it, the message that is sent, what is told; and what is shown of a
+-- requester. This project's own.
 use Rattle.std.specs.Prelude.{◌+◌, ℕ, List, [], ◌∷◌, ◌++◌, if◌then◌else◌, Option, Some, None, is_some, unwrap_or}
 use Rattle.std.specs.Option.{option_or}
 use Rattle.spdm_grammar.specs.Message.{ResponseMessage}
@@ -43,13 +43,13 @@ abbrev pub fault_of : Outcome → Option CommandFault
 fault_of (Fails fault) = Some fault
 fault_of _ = None
 
--- What is told of a body: nothing of a command.
+-- What is reported of a body: nothing of a command.
 abbrev pub event_in : Entry → Option Event
 event_in (Told command sent d) = None
 event_in (TookClear tag m led d) = Some led.event
 event_in (TookRecord tag id sealed inner led d) = Some led.event
 
--- What is told of a body by its outcome: it is ignored, warned of, or taken. Nothing is told of a command.
+-- What is reported of a body by its outcome: it is ignored, warned of, or taken. Nothing is told of a command.
 abbrev pub event_of : Outcome → Option Event
 event_of (Fails fault) = None
 event_of (Ignores cause) = Some (event.Ignored cause)
@@ -91,7 +91,7 @@ abbrev pub data_of : Outcome → Option (List ℕ)
 data_of (Adds entry) = bytes_in (effect_in entry)
 data_of _ = None
 
--- The last application data or measurement record that came, whichever came later; no bytes before the first.
+-- The last application data or measurement record that came, whichever came later; empty before the first.
 abbrev pub last_data : History → List ℕ
 last_data [] = []
 last_data (entry ∷ older) = unwrap_or (option_or (bytes_in (effect_in entry)) (blocks_in (effect_in entry))) (last_data older)
@@ -103,7 +103,7 @@ all_taken (entry ∷ older) = if is_some (bytes_in (effect_in entry)) then all_t
 
 -- ---- Sessions as they are shown.
 
--- A session as it is shown, read off its own history.
+-- A view of a session, read off its own history.
 unfoldable pub view_of : Steps → SessionView
 view_of s = record {
   id = session_id s;

@@ -21,7 +21,7 @@ abbrev pub number_for : Steps → Option Ask → ℕ
 number_for s None = 0
 number_for s (Some ask) = answer_number s ask
 
--- What bounds the next numbers while something is asked. Each chunk of a large answer adds one to both.
+-- What bounds the next numbers while something is asked. Each chunk of a large response adds one to both.
 abbrev pub FewFor : Ask → (request response : ℕ) → Type 0
 FewFor AskFinish request response = (request ≤ 65535) × (response ≤ 65534)
 FewFor AskData request response = (request ≤ 65535) × (response ≤ 65534)

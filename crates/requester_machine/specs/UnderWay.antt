@@ -82,7 +82,7 @@ abbrev pub AreUnfinished : List ChunkMessage → Type 0
 AreUnfinished [] = ⊤
 AreUnfinished (c ∷ earlier) = length (joined (c ∷ earlier)) < told_size (c ∷ earlier)
 
--- The chunks of a large answer before the one of this number, the newest first: a collector that was given them
+-- The chunks of a large response before the one of this number, the newest first: a collector that was given them
 -- accepted all, all are under way, and the number is their count. No chunk of a number above 157 is asked for.
 pub record AreUnderWay (max handle number : ℕ) (before : List ChunkMessage) : Type 0 where
   pub accepted : accepted_of max before ≡ before
@@ -107,7 +107,7 @@ IsAwaited q h (PskExchange exchange) = (phase_of h ≡ Negotiated) × (session_o
 IsAwaited q h _ = ⊥
 
 -- A message is CHUNK_SEND of the chunk of this number of a request, which has one of this number, under a handle of one
--- byte. The request goes by chunks since it is over the responder's transfer size, and it is within its max size.
+-- byte. The request is sent in chunks since it is over the responder's transfer size, and it is within its max size.
 pub record IsPiece (common : Common) (asked : RequestMessage) (handle number : ℕ) (content : Content) : Type 0 where
   pub is : content ≡ Clear (canonical_request (ChunkSend (piece_of common asked handle number)))
   pub chunks : common.chunk ≡ true
@@ -116,7 +116,7 @@ pub record IsPiece (common : Common) (asked : RequestMessage) (handle number : �
   pub short : length (canonical_request asked) ≤ common.to_responder.max
   pub within : number < chunk_count common.to_responder.transfer (canonical_request asked)
 
--- A message is the record that the newest step of the session sealed, behind an older step.
+-- A message is the record that the newest step of the session sealed, after an older step.
 pub record IsSealed (q : ReqSetup) (h : History) (id : ℕ) (ask : Ask) (content : Content) : Type 0 where
   pub older : Steps
   pub inner : List ℕ
@@ -127,13 +127,13 @@ pub record IsSealed (q : ReqSetup) (h : History) (id : ℕ) (ask : Ask) (content
   pub content_is : content ≡ Sealed sealed inner pad
   pub sealed_is : sealed ≡ sealed_next q.psk older inner pad
 
--- The chunks that an ask of a session stands behind.
+-- The chunks that an ask of a session follows.
 abbrev pub AreBehind : ReqSetup → Ask → Type 0
 AreBehind q (AskChunk op handle number before) = AreUnderWay q.max handle number before
 AreBehind q _ = ⊤
 
--- A message as it is outstanding, by what it asks for: the canonical spelling of the request; the chunk of its number
--- of that spelling, where the sizes are within their limits; CHUNK_GET behind the chunks under way; or the record that
+-- A message as it is outstanding, by what it asks for: the canonical encoding of the request; the chunk of its number
+-- of that encoding, where the sizes are within their limits; CHUNK_GET after the chunks under way; or the record that
 -- its session sealed.
 abbrev pub IsOutstanding : ReqSetup → History → Content → Aim → Type 0
 IsOutstanding q h content (Plain asked) = IsAwaited q h asked × (content ≡ Clear (canonical_request asked))

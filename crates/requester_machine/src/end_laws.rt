@@ -1,10 +1,10 @@
-//! What holds of a requester with all that it was told and given, each law as the contract of a function
-//! that does nothing.
+//! What holds of a requester with all that it was told and given, each law as the contract of a function that does
+//! nothing.
 
 ghost use Rattle.requester_machine.specs.EndLaws.{RunsAreBounded};
 
-/// After every run the history is one that the requester made, with at most as many entries as it took
-/// packets and commands, of which it takes 2^40 at most.
+/// After every run the history is one that the requester made, with at most as many entries as it took packets and
+/// commands, of which it takes 2^40 at most.
 pub fn runs_are_bounded()
     ensures { RunsAreBounded }
 {}

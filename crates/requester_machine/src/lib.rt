@@ -1,6 +1,6 @@
-//! The requester of SPDM 1.2 sessions under a pre-shared key as definitions over whole histories: which
-//! commands it does, what it sends, what it takes and what it tells. Nothing here runs. The definitions
-//! are in `specs/`, and each function below has a law about them as its contract.
+//! The requester of SPDM 1.2 sessions under a pre-shared key as definitions over whole histories: which commands it
+//! does, what it sends, what it takes and what it tells. Nothing here runs. The definitions are in `specs/`, and each
+//! function below has a law about them as its contract.
 //!
 //! Read first: `requester_told` in `specs/Requesting.antt`, what a requester does with a command,
 //! with `requester_given` for a packet. The law to read first is `command_is_allowed`.
@@ -65,26 +65,26 @@ pub fn live_ids_are_few()
     ensures { LiveIdsAreFew }
 {}
 
-/// A new session has an id from 1 to 4 that no live session had, and begins with its PSK_EXCHANGE under the
-/// negotiation as it stands.
+/// A new session has an id from 1 to 4 that no live session had, and begins with its PSK_EXCHANGE under the negotiation
+/// as it stands.
 pub fn new_session_is_fresh()
     ensures { NewSessionIsFresh }
 {}
 
-/// In a history that the requester made, the steps of each session are in order: records are sealed and
-/// taken in turn. At most the session of the outstanding request waits, and all others are open.
+/// In a history that the requester made, the steps of each session are in order: records are sealed and taken in turn.
+/// At most the session of the outstanding request waits, and all others are open.
 pub fn sessions_are_in_order()
     ensures { SessionsAreInOrder }
 {}
 
-/// In a history that the requester made, the number of a session's next record is the count of those sealed
-/// under its purpose.
+/// In a history that the requester made, the number of a session's next record is the count of those sealed under its
+/// purpose.
 pub fn numbers_are_counts()
     ensures { NumbersAreCounts }
 {}
 
-/// In a history that the requester made, the number of a session's next response is the count of those
-/// taken under its purpose.
+/// In a history that the requester made, the number of a session's next response is the count of those taken under its
+/// purpose.
 pub fn responses_are_counts()
     ensures { ResponsesAreCounts }
 {}

@@ -1,10 +1,9 @@
-//! How many records the keys of a session seal and take, each law as the contract of a function that does
-//! nothing.
+//! How many records the keys of a session seal and take, each law as the contract of a function that does nothing.
 
 ghost use Rattle.requester_machine.specs.SpentLaws.{NumbersAreFew, KeysAreFew, TakenNumberIsFew};
 
-/// In each session of a history that the requester made, each record was sealed and taken under a number of at
-/// most 65,535, and no next number passes 65,536, nor 65,535 while nothing is asked.
+/// In each session of a history that the requester made, each record was sealed and taken under a number of at most
+/// 65,535, and no next number passes 65,536, nor 65,535 while nothing is asked.
 pub fn numbers_are_few()
     ensures { NumbersAreFew }
 {}

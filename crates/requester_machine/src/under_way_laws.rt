@@ -1,10 +1,9 @@
-//! What is under way in a history that the requester made, each law as the contract of a function that does
-//! nothing.
+//! What is under way in a history that the requester made, each law as the contract of a function that does nothing.
 
 ghost use Rattle.requester_machine.specs.UnderWay.{SizesAreSetUp, SessionSizesAreSetUp, LiveIsUnderNegotiation, ChunksAreUnderWay};
 
-/// From CAPABILITIES on, what both ends can do is what the told capabilities have in common, and the sizes of
-/// messages to the requester are its own.
+/// From CAPABILITIES on, what both ends can do is what the told capabilities have in common, and the sizes of messages
+/// to the requester are its own.
 pub fn sizes_are_set_up()
     ensures { SizesAreSetUp }
 {}
@@ -19,8 +18,8 @@ pub fn live_is_under_negotiation()
     ensures { LiveIsUnderNegotiation }
 {}
 
-/// What is outstanding: a request whole, one chunk of it, CHUNK_GET behind the chunks that a collector accepted
-/// and that are under way, or the record that its session sealed last.
+/// What is outstanding: a request whole, one chunk of it, CHUNK_GET after the chunks that a collector accepted and that
+/// are under way, or the record that its session sealed last.
 pub fn chunks_are_under_way()
     ensures { ChunksAreUnderWay }
 {}
