@@ -36,7 +36,7 @@ use Rattle.spdm_grammar.specs.declared.told.phase.Stage.{Stage}
 use Rattle.spdm_machine.specs.Keys.{Draw}
 use Rattle.spdm_basis.proofs.Bools.{and_rest}
 
--- What is told of an outcome tells the data that it brought, as they are kept after it.
+-- What is reported of an outcome tells the data that it brought, as they are kept after it.
 pub record TellsData (h : History) (before : List ℕ) (o : Outcome) : Type 0 where
   pub short : IsShort (heard_of o) (after h o)
   pub same : last_for (heard_of o) (after h o) before ≡ data_or before (data_of o)

@@ -15,7 +15,7 @@ use Rattle.responder_machine.specs.History.{History}
 use Rattle.responder_machine.specs.Responding.{Connection, changed, connection_of, with_history}
 use Rattle.responder_machine.specs.Setup.{RspPart, RspSetup}
 
--- The end point of a connection is that of its requester.
+-- The endpoint of a connection is that of its requester.
 pub peer_of : (x : Peer) (p : RspPart) (given : List PacketFields) (c : Connection) → peers.StandsFor x p given c → c.setup.peer ≡ x.known.eid.number
 peer_of x p given c s = ap (λ (r : RspSetup). r.peer) s.setup
 
@@ -45,7 +45,7 @@ others_stand p given packet [] (c ∷ cs) are none = are
 others_stand p given packet (x ∷ xs) [] are none = are
 others_stand p given packet (x ∷ xs) (c ∷ cs) are none = (other_stands x p given c packet are.0 none.0, others_stand p given packet xs cs are.1 none.1)
 
--- A packet for another end point.
+-- A packet for another endpoint.
 pub none_here : (p : RspPart) (packet : PacketFields) (xs : List Peer) → (packet.to == p.eid) ≡ false → IsNoneOurs p packet xs
 none_here p packet [] other = tt
 none_here p packet (x ∷ xs) other = (ap (λ (b : Bool). b && packet.from == x.known.eid.number) other, none_here p packet xs other)
@@ -84,7 +84,7 @@ OthersStand p given after eid = (x : Peer) (d : Connection) → peers.StandsFor 
 pub others_without : (p : RspPart) (given : List PacketFields) (packet : PacketFields) → OthersStand p given (packet ∷ given) packet.from
 others_without p given packet x d s other = other_stands x p given d packet s (not_ours p.eid x.known.eid.number packet (λ same. other (peer_of x p given d s ∙ sym same)))
 
--- Connections with other end points keep their histories.
+-- Connections with other endpoints keep their histories.
 changed_others : (p : RspPart) (given after : List PacketFields) (eid : ℕ) (change : History → History) (xs : List Peer) (cs : List Connection) → OthersStand p given after eid → ArePeers xs p given cs
     → AllByRecursion (λ (d : Connection). d.setup.peer ≢ eid) cs → ArePeers xs p after (with_history eid change cs)
 changed_others p given after eid change [] [] stand are apart = tt

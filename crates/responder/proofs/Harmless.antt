@@ -67,7 +67,7 @@ clear_bytes : (r : RspSetup) (h : History) (tag : ℕ) (m : List ℕ) (f : Free)
 unfolding on_clear
 clear_bytes r h tag m f d = clear_sent (is_repeat (kept_of h) tag m) (kept_reply (kept_of h)) tag (turn_of r (clear_place h) m f) d
 
--- Nothing is taken of what is told so.
+-- Nothing is taken of what is reported so.
 tells_nothing : Heard → Bool
 tells_nothing heard.Same = true
 tells_nothing heard.Unopened = true

@@ -20,7 +20,7 @@ use Rattle.spdm_basis.specs.declared.DropCause.{DropCause}
 use Rattle.spdm_basis.specs.declared.DropCause.TheVariants.{NoStart, NotOurs}
 use Rattle.spdm_grammar.specs.declared.told.heard.Heard.{Heard}
 
--- A whole body goes from the peer to the own end point.
+-- A whole body goes from the peer to the own endpoint.
 abbrev pub EndsAt : Receiver → Gathered → Type 0
 EndsAt r (Whole route body) = (route.to ≡ r.own) × (route.from ≡ r.peer)
 EndsAt r More = Unit {0}

@@ -27,7 +27,7 @@ pub data Came : Type 0 where
   Told : (told : Heard) → Came
   Does : (route : RouteFields) → (body : List ℕ) → (outcome : Outcome) → Came
 
--- A whole body, while this draw stands next.
+-- A whole body, with this draw next.
 abbrev pub came_whole : Connection → Draw → RouteFields → List ℕ → Came
 came_whole c d route body =
     if not route.owner then Told (heard.Ignored ignored.NotRequest)
@@ -45,7 +45,7 @@ abbrev pub step_of : Responding → Connection → List ℕ → Came → RspStep
 step_of r c packet (Told told) = ignores r packet told
 step_of r c packet (Does route body outcome) = answers r c packet route body outcome
 
--- What is told, and what is sent.
+-- What is reported, and what is sent.
 abbrev pub told_of : Came → Heard
 told_of (Told told) = told
 told_of (Does route body outcome) = heard_of outcome

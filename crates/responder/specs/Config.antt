@@ -10,11 +10,11 @@ use Rattle.responder.specs.declared.config.RspConfig.{RspConfig}
 use Rattle.responder.specs.declared.fault.RspConfigFault.{RspConfigFault}
 use Rattle.responder.specs.declared.fault.RspConfigFault.TheVariants.{Inventory, OutOfMemory, SameEid, SamePsk, SizeRange, TooManyRequesters}
 
--- A requester has this end point,
+-- A requester has this endpoint,
 abbrev pub is_eid_of_one : ℕ → List Known → Bool
 is_eid_of_one eid known = list_any (λ k. k.eid.number == eid) known
 
--- or two of this end point and those of the requesters are equal.
+-- or two of this endpoint and those of the requesters are equal.
 abbrev pub has_same_eid : ℕ → List Known → Bool
 has_same_eid eid [] = false
 has_same_eid eid (k ∷ others) = is_eid_of_one eid (k ∷ others) || has_same_eid k.eid.number others
@@ -49,11 +49,11 @@ set_up_fault c = first_of_tests (
     ∷ (is_out_of_range c, SizeRange)
     ∷ [])
 
--- The first reason: one of those before that the measurements make no inventory. Want of memory is none.
+-- The first reason: one of those before that the measurements make no inventory. Allocation failure is none.
 abbrev pub config_fault : RspConfig → Option RspConfigFault
 config_fault c = option_or (set_up_fault c) (option_map Inventory (inventory_fault c.blocks.now))
 
--- The cause of a fault: want of memory comes only where there is no other.
+-- The cause of a fault: allocation failure comes only where there is no other.
 abbrev pub IsCause : RspConfig → RspConfigFault → Type 0
 IsCause c OutOfMemory = config_fault c ≡ None
 IsCause c fault = config_fault c ≡ Some fault

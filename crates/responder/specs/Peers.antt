@@ -27,8 +27,8 @@ pub record StandsFor (seen : Peer) (p : RspPart) (given : List PacketFields) (c 
 abbrev pub gathered_at : RspPart → List PacketFields → Connection → PacketFields → Gathered
 gathered_at p given c packet = gathered (receiver_of p.eid c.setup.peer) given packet
 
--- A packet came while the draw of this number of this seed stood next: all that comes of it is met, and what is kept
--- is that of the connection after it.
+-- A packet came while the draw of this number of this seed was next: all that comes of it is met, and what is kept is
+-- that of the connection after it.
 pub record IsTaken (p : RspPart) (given : List PacketFields) (c : Connection) (packet : PacketFields) (tells : Heard) (sends : List (List ℕ)) (new : Peer) (before after : Shared) : Type 0 where
   pub met : IsMet c (came_of c (draw_of before.draws.seed before.draws.number) (gathered_at p given c packet)) tells sends new.connection before after
   pub stands : StandsFor new p (packet ∷ given) (changed (λ h. history_after h (came_of c (draw_of before.draws.seed before.draws.number) (gathered_at p given c packet))) c)

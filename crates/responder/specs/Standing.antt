@@ -16,7 +16,7 @@ use Rattle.spdm_grammar.specs.declared.told.session_view.SessionView.{SessionVie
 use Rattle.spdm_machine.specs.Packets.{fields_in}
 use Rattle.responder_machine.specs.Heard.{views_of}
 
--- The requester has this end point.
+-- The requester has this endpoint.
 abbrev pub has_eid : ℕ → Peer → Bool
 has_eid eid x = x.known.eid.number == eid
 
@@ -27,7 +27,7 @@ ArePeers [] p given (c ∷ others) = ⊥
 ArePeers (x ∷ rest) p given [] = ⊥
 ArePeers (x ∷ rest) p given (c ∷ others) = peers.StandsFor x p given c × ArePeers rest p given others
 
--- The end points of the connections differ.
+-- The endpoints of the connections differ.
 abbrev pub AreApart : List Connection → Type 0
 AreApart [] = Unit {0}
 AreApart (c ∷ others) = AllByRecursion (λ (d : Connection). d.setup.peer ≢ c.setup.peer) others × AreApart others

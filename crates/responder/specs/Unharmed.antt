@@ -27,7 +27,7 @@ pub record IsRefusedHere (r : Responding) (packet : List ℕ) (next : List Conne
   pub refused : IsRefusedAt c.history outcome code
   pub others : next ≡ with_history c.setup.peer (λ h. after h outcome) r.connections
 
--- A packet, by what is told of it, with the connections after it: a refusal is harmless; where nothing is taken no
+-- A packet, by what is reported of it, with the connections after it: a refusal is harmless; where nothing is taken no
 -- connection changes.
 abbrev pub IsHarmlessBy : Responding → List ℕ → (next : List Connection) → Heard → Type 0
 IsHarmlessBy r packet next (heard.Refused code) = IsRefusedHere r packet next code

@@ -9,7 +9,7 @@ use spdm_grammar::names::message_type::{SECURED, SPDM};
 /// The body of an MCTP message: its type, and an SPDM message or a record.
 pub(crate) type Body = Buffer<4161>;
 
-/// Writes a type and a message of at most 4,160 bytes in place of what a body holds.
+/// Overwrites a body with a message type and a message of at most 4,160 bytes.
 pub(crate) fn write_body(kind: u8, message: &[u8], body: &mut Body)
     requires { length message.now ≤ 4160 }
     ensures { body.new ≡ kind ∷ message.now }
@@ -19,7 +19,7 @@ pub(crate) fn write_body(kind: u8, message: &[u8], body: &mut Body)
     let _ = body.extend(message);
 }
 
-/// Writes what answers a record: ERROR comes in the clear where no session opens it, and all else is a record.
+/// Writes the response to a record: ERROR in the clear if no session opens it, else a record.
 pub(crate) fn write_reply(heard: Heard, reply: &[u8], body: &mut Body)
     requires { length reply.now ≤ 4160 }
     ensures { body.new ≡ body_by heard reply.now }

@@ -8,14 +8,14 @@ use negotiate::Sizes;
 use spdm_basis::Eid;
 use std::alloc::Global;
 
-// Whether a requester has this end point.
+// Whether a requester has this endpoint ID.
 fn is_eid_of_one(eid: Eid, known: &[Known]) -> bool
     ensures { result ≡ is_eid_of_one eid.number known.now }
 {
     known.iter().any(|known| known.eid.number() == eid.number())
 }
 
-// Whether two of this end point and those of the requesters are equal.
+// Whether this endpoint ID and those of the requesters are not distinct.
 fn has_same_eid(eid: Eid, known: &[Known]) -> bool
     ensures { result ≡ has_same_eid eid.number known.now }
 {
@@ -74,7 +74,7 @@ impl RspConfig<'_> {
             || has_long_hint(self.known)
     }
 
-    // The first reason why it is no set-up of a responder whatever its measurements.
+    // The first fault of the configuration, apart from its measurements.
     fn set_up_fault(&self) -> Option<RspConfigFault>
         ensures { result ≡ set_up_fault self.now }
     {
@@ -93,8 +93,7 @@ impl RspConfig<'_> {
         None
     }
 
-    /// The measurements of a responder that is set up so, or the first reason why there is none, in
-    /// the order of `RspConfigFault`.
+    /// The measurements of a responder with this configuration, or its first fault, in the order of `RspConfigFault`.
     pub fn inventory(&self, alloc: Global) -> Result<Inventory, RspConfigFault>
         ensures value { IfOk result (λ inventory. inventory ≡ by_index self.now.blocks.now) }
         ensures sound { OnOk result (config_fault self.now ≡ None) }

@@ -1,39 +1,39 @@
 use spdm_basis::{Bytes, Eid, Psk};
 use spdm_grammar::{BlockSpec, FlagSet, Suites};
 
-/// What a responder knows of a requester.
+/// A requester known to the responder.
 #[derive(Drop)]
 pub struct Known {
-    /// Its end point.
+    /// Its endpoint ID.
     pub eid: Eid,
-    /// The PSKHint that it gives: at most 64 bytes.
+    /// PSKHint of its PSK_EXCHANGE: at most 64 bytes.
     pub hint: Bytes,
-    /// The key that is shared with it.
+    /// The pre-shared key.
     pub psk: Psk,
 }
 
-/// How a responder is set up.
+/// The configuration of a responder.
 #[derive(Clone, Copy)]
 pub struct RspConfig<'a> {
-    /// Its end point.
+    /// Its endpoint ID.
     pub eid: Eid,
-    /// DataTransferSize: the longest message that it takes in one piece, from 42 to 4,096 bytes.
+    /// DataTransferSize: the longest message that it receives unchunked, from 42 to 4,096 bytes.
     pub transfer: u32,
-    /// MaxSPDMmsgSize: the longest message that it takes in chunks, from its DataTransferSize to
-    /// 4,096 bytes, and equal to it where it takes no chunks.
+    /// MaxSPDMmsgSize: the longest message that it receives in chunks, from DataTransferSize to 4,096 bytes; without
+    /// CHUNK_CAP equal to DataTransferSize.
     pub max: u32,
-    /// How many bytes of a body its packets carry, from 64 to 1,024.
+    /// Payload bytes per packet (the transmission unit), from 64 to 1,024.
     pub unit: u16,
     /// HeartbeatPeriod, in seconds.
     pub beat: u8,
-    /// The capabilities that it announces beside those that each responder of this profile has.
+    /// The optional capabilities that it announces.
     pub flags: FlagSet,
     /// OpaqueData of PSK_EXCHANGE_RSP: at most 1,024 bytes.
     pub opaque: &'a [u8],
-    /// Its measurement blocks, in whatever order.
+    /// Its measurement blocks, in any order.
     pub blocks: &'a [BlockSpec],
-    /// The requesters that it knows: at most eight.
+    /// The known requesters: at most eight.
     pub known: &'a [Known],
-    /// The algorithms that it has.
+    /// The algorithms that it supports.
     pub suites: Suites,
 }

@@ -1,22 +1,22 @@
 use measurements::InventoryFault;
 use thiserror::Error;
 
-/// Why no responder is made, in the order in which it is tested.
+/// Why a configuration is rejected, in the order of the checks.
 #[derive(Clone, Copy, Debug, PartialEq, Eq, Error)]
 pub enum RspConfigFault {
-    /// It knows more than eight requesters.
+    /// There are more than eight requesters.
     #[error("more than eight requesters")]
     TooManyRequesters,
-    /// Two of its own EID and those of the requesters are equal.
+    /// The responder and the requesters do not have distinct EIDs.
     #[error("an end point that is taken")]
     SameEid,
-    /// Two requesters have one pre-shared key.
+    /// Two requesters have the same pre-shared key.
     #[error("a pre-shared key that is taken")]
     SamePsk,
     /// A size, a length or the unit is out of its range.
     #[error("a size out of its range")]
     SizeRange,
-    /// The measurement blocks make no inventory. It is never want of memory.
+    /// The measurement blocks are invalid. Never an allocation failure.
     #[error("{0}")]
     Inventory(InventoryFault),
     #[error("out of memory")]

@@ -17,7 +17,7 @@ use session_keys::context_of;
 use spdm_basis::Buffer;
 use spdm_grammar::Heard;
 
-// Writes the application data that is sent next in answer in place of what `reply` holds.
+// Overwrites `reply` with the next application data to send in reply.
 fn write_next_reply(connection: &Connection, reply: &mut Buffer<1024>)
     ensures { (r : RspSetup) (h : History) → StandsFor connection.now r h
         → reply.new ≡ first_queued (queue_of h) }
@@ -26,8 +26,8 @@ fn write_next_reply(connection: &Connection, reply: &mut Buffer<1024>)
     let _ = reply.extend(connection.next_reply());
 }
 
-/// A clear message came with a tag, while this draw stands next. The body that answers it is written in place
-/// of what the room's `body` holds.
+/// Handles a clear message with its tag; `drawn` is the next unused draw. The response body overwrites the room's
+/// `body`.
 pub(crate) fn hear_clear(
     connection: &mut Connection,
     setup: &Setup<'_>,
@@ -63,8 +63,7 @@ pub(crate) fn hear_clear(
     heard
 }
 
-/// A record came, while this draw stands next. The body that answers it is written in place of what the
-/// room's `body` holds.
+/// Handles a record; `drawn` is the next unused draw. The response body overwrites the room's `body`.
 pub(crate) fn hear_record(
     connection: &mut Connection,
     setup: &Setup<'_>,

@@ -7,7 +7,7 @@ use spdm_basis::{Bytes, Eid};
 use spdm_grammar::{FlagSet, Suites};
 use std::alloc::Global;
 
-// What a responder keeps of its set-up for all requesters.
+// The part of a responder's configuration that concerns all requesters.
 #[derive(Drop)]
 pub struct Part {
     pub(crate) eid: Eid,
@@ -31,7 +31,7 @@ impl Part {
     ghost use Rattle.responder.specs.SetUp.{IsPart, known_of, part_of};
     ghost use Rattle.responder_machine.specs.Setup.{RspPart, towards};
 
-    // What is kept of a configuration, or the first fault of it.
+    // Extracts it from a configuration, or returns the configuration's first fault.
     pub(crate) fn new(alloc: Global, config: &RspConfig<'_>) -> Result<Part, RspConfigFault>
         ensures kept { IfOk result (λ part. IsPart part (part_of config.now)) }
         ensures sound { OnOk result (config_fault config.now ≡ None) }
@@ -54,7 +54,7 @@ impl Part {
         })
     }
 
-    // How the responder is set up towards a requester.
+    // The configuration of the connection with one requester.
     pub(crate) fn towards<'a>(&'a self, known: &'a Known) -> Setup<'a>
         ensures set { (p : RspPart) → IsPart self.now p
             → IsSetUp result (towards p (known_of known.now)) }

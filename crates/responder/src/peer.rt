@@ -21,8 +21,8 @@ use spdm_grammar::{Heard, ReplyFault, RspIgnored};
 use std::alloc::Global;
 use spdm_grammar::names::MAX_BODY_SIZE;
 
-// What a responder keeps of a requester: what it knows of it, the connection with it, and the body that is being
-// gathered from its packets.
+// The state of one requester: its configuration, the connection with it, and the message body that is being assembled
+// from its packets.
 #[derive(Drop)]
 pub struct Peer {
     pub(crate) known: Known,
@@ -46,7 +46,7 @@ fn copy_of(alloc: Global, known: &Known) -> Result<Known, OutOfMemory>
 }
 
 impl Peer {
-    // What is kept of a requester from which nothing came yet.
+    // The initial state of a requester.
     pub(crate) fn new(alloc: Global, part: &Part, known: &Known) -> Result<Peer, OutOfMemory>
         ensures { (p : RspPart) → IsPart part.now p
             → IfOk result (λ peer. StandsFor peer p [] (new_connection p (known_of known.now))) }
@@ -61,8 +61,8 @@ impl Peer {
         })
     }
 
-    // A packet came of this requester, for the responder. The packets that answer it are put in place of what
-    // `out` holds; where nothing answers it, `out` stays.
+    // Handles a packet from this requester to the responder. The response packets overwrite `out`; without a response
+    // `out` is unchanged.
     pub(crate) fn on_packet(
         &mut self,
         part: &Part,
@@ -93,7 +93,7 @@ impl Peer {
         }
     }
 
-    // Application data waits to be sent to this requester in answer. A refusal changes nothing.
+    // Queues application data to send in reply to this requester. On an error nothing changes.
     pub(crate) fn queue(&mut self, bytes: &[u8]) -> Result<(), ReplyFault>
         ensures { (p : RspPart) (given : List PacketFields) (c : responding.Connection)
             → StandsFor self.old p given c
@@ -107,7 +107,7 @@ impl Peer {
         }
     }
 
-    // Seconds pass for this requester.
+    // Advances the clock of this requester's sessions.
     pub(crate) fn tick(&mut self, seconds: u32)
         ensures { (p : RspPart) (given : List PacketFields) (c : responding.Connection)
             → StandsFor self.old p given c

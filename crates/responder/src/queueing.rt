@@ -2,15 +2,15 @@ use crate::Responder;
 use spdm_basis::Eid;
 use spdm_grammar::ReplyFault;
 
-// Application data that wait to be sent in answer, and time.
+// The reply queue, and the clock.
 impl Responder {
     ghost use Rattle.std.specs.Prelude.{◌≡◌, None, Some, MatchResult};
     ghost use Rattle.responder.specs.Standing.{StandsFor};
     ghost use Rattle.responder_machine.specs.Independence.{after_reply};
     ghost use Rattle.responder_machine.specs.Responding.{Responding, connection_of, reply_fault_of, ticks};
 
-    /// Application data waits to be sent in answer to this end point. `ReplyFault` lists the faults in the order
-    /// in which they are tested; after one of them nothing has changed. It takes no memory.
+    /// Queues application data to send in reply to this endpoint. `ReplyFault` lists the faults in the order of the
+    /// checks; on a fault nothing changes. Never allocates.
     pub fn queue(&mut self, eid: Eid, bytes: &[u8]) -> Result<(), ReplyFault>
         ensures fault { (r : Responding) → StandsFor self.old r → MatchResult result
             (λ _. reply_fault_of (connection_of eid.number r.connections) bytes.now ≡ None)
@@ -28,8 +28,8 @@ impl Responder {
         }
     }
 
-    /// Seconds pass for all connections: a session past its handshake that has waited for twice its
-    /// HeartbeatPeriod is gone (DSP0274, "HEARTBEAT"). It takes no memory.
+    /// Advances the clock of all connections: removes each established session that has waited for twice its
+    /// HeartbeatPeriod (DSP0274, "HEARTBEAT"). Never allocates.
     pub fn tick(&mut self, seconds: u32)
         ensures { (r : Responding) → StandsFor self.old r → StandsFor self.new (ticks r seconds) }
     {

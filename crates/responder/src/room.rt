@@ -2,24 +2,24 @@ use crate::body::Body;
 use responder_session::Work;
 use spdm_basis::{Buffer, Frame, RecordFrame};
 
-// Room for what answers a body, so that no packet clears a place of its own. What it holds between two bodies
-// does not matter.
+// Scratch buffers for one response, allocated once so that no packet clears buffers of its own. Their contents between
+// two bodies are irrelevant.
 #[derive(Drop)]
 pub struct Room {
-    // The body that answers.
+    // The response body.
     pub(crate) body: Body,
-    // The message that answers in the clear.
+    // The response in the clear.
     pub(crate) message: Frame,
-    // The record that answers.
+    // The response record.
     pub(crate) record: RecordFrame,
-    // The application data that is sent next in answer: up to 1,024 bytes.
+    // The next application data to send in reply: up to 1,024 bytes.
     pub(crate) reply: Buffer<1024>,
-    // What a session needs while it takes a record.
+    // Scratch space for handling a record.
     pub(crate) work: Work,
 }
 
 impl Room {
-    // Room that holds nothing.
+    // Empty buffers.
     pub(crate) fn new() -> Room {
         Room {
             body: Body::new(),

@@ -15,21 +15,21 @@ use spdm_basis::{Buffer, DropCause, OutOfMemory};
 use spdm_grammar::{Heard, RspIgnored};
 use std::alloc::Global;
 
-// How many packets a responder takes.
+// The lifetime limit of a responder, in packets.
 const WEAR_LIMIT: u64 = 1_099_511_627_776;
 
-/// A responder with a connection for each requester that it knows. All its memory is taken when it is made.
+/// A responder with a connection for each known requester. Allocates only when constructed.
 #[derive(Drop)]
 pub struct Responder {
     pub(crate) part: Part,
     pub(crate) shared: Shared,
-    // How many packets were taken.
+    // The number of packets received.
     pub(crate) given: u64,
     // The requesters, in the order of the configuration.
     pub(crate) peers: Vec<Peer>,
 }
 
-// What is kept of the requesters from which nothing came yet.
+// The initial state of the requesters.
 fn peers_of(alloc: Global, part: &Part, config: &RspConfig<'_>) -> Result<Vec<Peer>, OutOfMemory>
     ensures { (p : RspPart) → IsPart part.now p
         → IfOk result (λ peers. ArePeers peers.items p []
@@ -56,8 +56,7 @@ impl Responder {
     ghost use Rattle.std.specs.List.{position_from};
     ghost use Rattle.responder_machine.specs.Responding.{Responding, hears_packet, is_worn, new_responding, next_draw, responder_hears};
 
-    /// A responder that was given nothing yet. `RspConfigFault` lists the faults in the order in which they are
-    /// tested.
+    /// A responder in its initial state. `RspConfigFault` lists the faults in the order of the checks.
     pub fn new(
         alloc: Global,
         config: &RspConfig<'_>,
@@ -71,8 +70,8 @@ impl Responder {
         Responder::resume(alloc, config, seed, 0)
     }
 
-    /// A responder that was given nothing yet, after so many boots with the same seed: at most 2^24 - 2. The draws
-    /// of each boot are its own. The faults are those of `new`.
+    /// A responder in its initial state, after `boot` earlier boots with the same seed: at most 2^24 - 2. Each boot has
+    /// draws of its own. Faults as for `new`.
     pub fn resume(
         alloc: Global,
         config: &RspConfig<'_>,
@@ -102,10 +101,9 @@ impl Responder {
         })
     }
 
-    /// A packet is given to the responder. The packets that answer it are put in place of what `out` holds. It
-    /// takes no memory. A refused request changes no session but for the numbers, the kept reply and the clock of
-    /// the one that its record names, and nothing of another connection; where nothing is taken no connection
-    /// changes.
+    /// Handles a received packet. The response packets overwrite `out`. Never allocates. A refused request changes
+    /// nothing in the sessions but the record numbers, the stored response and the clock of the session that its record
+    /// names, and nothing in other connections. If nothing is taken no connection changes.
     pub fn on_packet(&mut self, packet: &[u8], out: &mut PacketList) -> Heard
         ensures step { (r : Responding) → StandsFor self.old r
             → IsStep (responder_hears r packet.now) result out.new self.new }
@@ -125,7 +123,7 @@ impl Responder {
         }
     }
 
-    // The place of the requester with this end point, if there is one.
+    // The index of the requester with this endpoint ID.
     pub(crate) fn place_of(&self, eid: u8) -> Option<usize>
         ensures place { result ≡ position_from (has_eid eid) 0 self.now.peers.items }
         ensures inside { IfSome result (λ place. place < length self.now.peers.items) }
@@ -135,7 +133,7 @@ impl Responder {
             .position(|peer| peer.known.eid.number() == eid)
     }
 
-    // A packet is given to the responder, which is not worn.
+    // Handles a packet below the lifetime limit.
     fn on_view(&mut self, view: PacketView<'_>, out: &mut PacketList) -> Heard
         requires sequence { view.sequence < 4 }
         requires tag { view.tag < 8 }

@@ -11,8 +11,8 @@ use hmac_hkdf::DrawStream;
 use spdm_basis::Buffer;
 use spdm_grammar::Heard;
 
-// What all connections of a responder share: the draws, the application data that was taken last, and room for
-// an answer.
+// State shared by all connections of a responder: the draws, the application data received last, and scratch buffers
+// for a response.
 #[derive(Drop)]
 pub struct Shared {
     pub(crate) draws: DrawStream,
@@ -21,8 +21,8 @@ pub struct Shared {
 }
 
 impl Shared {
-    // A body came to a connection, of which this is told: the draw that it took is gone, and the data that it
-    // brought is kept.
+    // Applies the outcome of a body at a connection: discards the draw that it used, and copies the data that it
+    // brought.
     pub(crate) fn follow(&mut self, connection: &Connection, heard: Heard)
         ensures seed { self.new.draws.seed ≡ self.old.draws.seed }
         ensures number { self.old.draws.number < 2 ^ 64 - 1

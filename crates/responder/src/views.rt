@@ -2,7 +2,7 @@ use crate::Responder;
 use spdm_basis::Eid;
 use spdm_grammar::{Phase, SessionList, SessionView};
 
-// What is seen of a responder.
+// Accessors.
 impl Responder {
     ghost use Rattle.std.specs.Prelude.{◌≡◌};
     ghost use Rattle.std.specs.Option.{option_map};
@@ -10,7 +10,7 @@ impl Responder {
     ghost use Rattle.responder_machine.specs.History.{clear_turns, phase_of};
     ghost use Rattle.responder_machine.specs.Responding.{Responding, connection_of, last_data};
 
-    /// How far the connection with this end point has come; `None` exactly where no requester has it.
+    /// The phase of the connection with this endpoint; `None` exactly when no requester has this endpoint ID.
     pub fn phase(&self, eid: Eid) -> Option<Phase>
         ensures { (r : Responding) → StandsFor self.now r
             → result ≡ option_map (λ c. phase_of (clear_turns c.history))
@@ -22,7 +22,7 @@ impl Responder {
         }
     }
 
-    /// The session of this RspSessionID with this end point as it is shown; none where there is none.
+    /// A view of the session with this endpoint and RspSessionID; `None` if there is none.
     pub fn session(&self, eid: Eid, id: u16) -> Option<SessionView>
         ensures { (r : Responding) → StandsFor self.now r
             → IsSessionAt result id (connection_of eid.number r.connections) }
@@ -33,8 +33,7 @@ impl Responder {
         }
     }
 
-    /// The sessions with this end point as they are shown, by rising RspSessionID; none where no requester has
-    /// it.
+    /// Views of the sessions with this endpoint, by rising RspSessionID; empty if no requester has this endpoint ID.
     pub fn sessions(&self, eid: Eid) -> SessionList
         ensures { (r : Responding) → StandsFor self.now r
             → result ≡ views_at (connection_of eid.number r.connections) }
@@ -45,7 +44,7 @@ impl Responder {
         }
     }
 
-    /// The application data that was taken last, over all connections; no bytes before the first.
+    /// The application data received last, over all connections; empty before the first.
     pub fn last_data(&self) -> &[u8]
         ensures { (r : Responding) → StandsFor self.now r → result.now ≡ last_data r }
     {

@@ -24,7 +24,7 @@ use mctp_framing::{PacketList, Route};
 use spdm_grammar::{Heard, RspIgnored};
 use spdm_grammar::names::message_type::{SECURED, SPDM};
 
-/// The route of an answer.
+/// The route of a response.
 fn reversed(route: Route) -> Route
     ensures { route_of result
         ≡ record {
@@ -42,8 +42,8 @@ fn reversed(route: Route) -> Route
     }
 }
 
-/// A whole body came with a tag, while this draw stands next; it is `None` where its type is another than those
-/// of SPDM messages and records. The body that answers it is written in place of what the room's `body` holds.
+/// Handles a complete message body with its tag; `drawn` is the next unused draw. The body is `None` if its message
+/// type is neither that of SPDM messages nor that of records. The response body overwrites the room's `body`.
 fn hear_body(
     connection: &mut Connection,
     setup: &Setup<'_>,
@@ -74,8 +74,8 @@ fn hear_body(
     }
 }
 
-/// A whole body came by a route. The packets that answer it are put in place of what `out` holds; where nothing
-/// answers it, `out` stays.
+/// Handles a complete message body that arrived by this route. The response packets overwrite `out`; without a response
+/// `out` is unchanged.
 pub(crate) fn hear_whole(
     connection: &mut Connection,
     part: &Part,
