@@ -43,7 +43,7 @@ exchange_long r p m f exchange =
     let verify = length_verify (place_terms p).choice r.psk (t1_with r p m f exchange) direction.Response (t1_with r p m f exchange) in
     simp length-append (omega arith)
 
--- A chunk of a large answer, with what stands round it, fits the transfer size.
+-- A chunk of a large response, with what stands round it, fits the transfer size.
 pub chunk_fits : (transfer handle : ℕ) (message : List ℕ) (k : ℕ) → 16 ≤ transfer → length (canonical_response (ChunkResponse (nth_chunk transfer handle message k))) ≤ transfer
 chunk_fits transfer handle message k least =
     let framed = chunk_framed transfer handle message k least in

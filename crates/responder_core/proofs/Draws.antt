@@ -124,7 +124,7 @@ session_tells : (r : RspSetup) (s : Events) (inner : List ℕ) (f : Free) (id : 
 unfolding session_turn
 session_tells r s inner f id = session_by r s inner f id (inner_refusal (stage_of s) inner)
 
--- What is told of a record tells whether it took a draw.
+-- What is reported of a record tells whether it took a draw.
 pub record_tells : (r : RspSetup) (h : History) (tag : ℕ) (sealed : List ℕ) (f : Free) (d : Draw) → tells_measured (heard_of (on_record r h tag sealed f d)) ≡ is_drawn (on_record r h tag sealed f d)
 record_tells r h tag sealed f d =
     by_record r h tag sealed f d (λ (o : Outcome). tells_measured (heard_of o) ≡ is_drawn o) (λ body. refl) (λ body. refl) (λ s inner reply. session_tells r s inner f (record_id sealed))

@@ -1,4 +1,4 @@
--- A PSK_EXCHANGE that begins a session, in the clear or by chunks.
+-- A PSK_EXCHANGE that begins a session, in the clear or in chunks.
 use Rattle.std.proofs.Common.{refl, ◌∙◌, ◌≡◌, ◌≤◌, ℕ, List, [], true, Bool, Option, Some, None, length, ap, sym, subst, arith}
 use Rattle.std.proofs.lemmas.Bool.{false≢true, ltb-false}
 use Rattle.std.proofs.lemmas.Bool.Decides.{nat_tests}

@@ -39,7 +39,7 @@ use Rattle.transcript.specs.Transcripts.{Negotiation}
 abbrev IsTold : Turn → Type 0
 IsTold t = takes GET_VERSION t ≡ tells_version (heard_in t no_id t.refused)
 
--- What is told of a turn that is not refused and took no application data.
+-- What is reported of a turn that is not refused and took no application data.
 plainly : (t : Turn) (m : List ℕ) → t.refused ≡ None → is_data t.effect ≡ false → t.message ≡ m → tells_version (heard_in t no_id t.refused) ≡ (code_of m == GET_VERSION)
 plainly t m taken none message =
     ap (λ (x : Option ErrorCode). tells_version (heard_in t no_id x)) taken

@@ -24,7 +24,7 @@ use Rattle.spdm_grammar.specs.declared.messages.choice.Choice.{Choice}
 use Rattle.spdm_grammar.specs.declared.names.request_code.TheConstants.{GET_CAPABILITIES, GET_VERSION, PSK_EXCHANGE}
 use Rattle.spdm_machine.specs.Terms.{hash_len}
 
--- What stands behind the code of a request that these bytes spell.
+-- What follows the code of a request that these bytes encode.
 record BehindCode (size : ℕ) (m : List ℕ) (asked : RequestMessage) : Type 0 where
   code : ℕ
   others : List ℕ
@@ -49,7 +49,7 @@ behind_code size m asked s = record {
   body = s.5.5;
 }
 
--- A field, and what stands behind it.
+-- A field, and what follows it.
 field_first : (bytes field others : List ℕ) (width : ℕ) → bytes ≡ field ++ others → length field ≡ width → length bytes ≡ width + length others
 field_first bytes field others width is long = omega (arith, ap length is, length-append field others)
 
@@ -120,7 +120,7 @@ abbrev summary_in : RequestMessage → ℕ
 summary_in (PskExchange exchange) = exchange.summary
 summary_in _ = 0
 
--- What the first field behind the code shows.
+-- What the first field after the code shows.
 record IsKind (asked : RequestMessage) (others : List ℕ) : Type 0 where
   field : List ℕ
   behind : List ℕ

@@ -45,7 +45,7 @@ pub settled_at : (seen : Seen) (at : Where) (turns : List Turn) (held : ℕ) →
 settled_at seen at turns held stands =
     record { settled = subst (λ (x : Phase). IsSettled x (place_terms (place_at at turns held)).common) (sym stands.negotiating.phase) (subst (IsSettled seen.negotiating.phase) (sym stands.negotiating.common) stands.negotiating.settled) }
 
--- Large answers go in chunks of the transfer size of the place.
+-- Large responses go in chunks of the transfer size of the place.
 pub large_at : (seen : Seen) (at : Where) (turns : List Turn) (held : ℕ) → StandsFor seen turns → large_answer.StandsFor seen.large (place_terms (place_at at turns held)).common.to_requester.transfer turns
 large_at seen at turns held stands = subst (λ (c : Common). large_answer.StandsFor seen.large c.to_requester.transfer turns) (sym stands.negotiating.common) stands.large
 

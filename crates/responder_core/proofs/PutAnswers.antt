@@ -76,7 +76,7 @@ pub record Keeps (change : Turn → Turn) : Type 0 where
 module _ (change : Turn → Turn) (keeps : Keeps change) where
   -- ---- What does not hang on the bytes.
 
-  -- One record, with its bytes or without them, behind the same.
+  -- One record, with its bytes or without them, after the same.
   module _ (tag : ℕ) (m : List ℕ) (t : Turn) (reply : List ℕ) (d : Draw) (same older : History) where
     abbrev one : Bool → History
     one b = if b then Sealed tag m (change t) reply d ∷ older else Sealed tag m t reply d ∷ same

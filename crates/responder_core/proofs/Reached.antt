@@ -55,7 +55,7 @@ nothing_reached = record {
 of_effect : (seen : Seen) (turns : List Turn) (t : Turn) (e : Effect) → t.effect ≡ e → StandsFor seen (record t { effect = e } ∷ turns) → StandsFor seen (t ∷ turns)
 of_effect seen turns t e is stands = subst (λ (x : Effect). StandsFor seen (record t { effect = x } ∷ turns)) (sym is) stands
 
--- Messages are kept behind others where they fit.
+-- Messages are kept after others where they fit.
 abbrev IsKept : (before request answer after : List ℕ) → Type 0
 IsKept before request answer after = length before + length request + length answer ≤ 8768 → after ≡ before ++ request ++ answer
 

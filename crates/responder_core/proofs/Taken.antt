@@ -84,7 +84,7 @@ offer_chosen r p m f offer answer t taking =
 
 -- ---- The large answer.
 
--- An answer that does not go by chunks has no handle.
+-- An answer that does not be sent in chunks has no handle.
 pub no_handle : (p : Place) (f : Free) (answer : List ℕ) → goes_large p answer ≡ false → handle_for p f answer ≡ None
 no_handle p f answer small = ap (λ (b : Bool). if b then Some f.handle else None) small
 
@@ -111,7 +111,7 @@ known_sized Versioned common settled known = absurd (false≢true known)
 known_sized Capable common settled known = settled
 known_sized Negotiated common settled known = settled
 
--- A chunk of a large answer does not go by chunks itself.
+-- A chunk of a large response does not be sent in chunks itself.
 pub get_small : (r : RspSetup) (p : Place) (m : List ℕ) (f : Free) (handle number : ℕ) (answer : List ℕ) (t : Turn) → IsSettledAt p → IsTaking r p m f (ChunkGet handle number) answer t → goes_large p answer ≡ false
 get_small r p m f handle number answer t settled taking =
     small_by (sizes_are_known p.phase) transfer (bytes_round p.at) (length answer) (λ known.
@@ -158,7 +158,7 @@ pub caps_small : (r : RspSetup) (p : Place) (m : List ℕ) (f : Free) (caps : Ca
 caps_small r p m f caps answer t settled taking =
     short_small p answer settled (subst (λ (a : List ℕ). length a ≤ 36) (sym (taking.answer_is ∙ answer_is r p m f (GetCapabilities caps) taking.asked_is)) (omega arith))
 
--- An answer that goes by chunks is long for a transfer size of 42 at least.
+-- An answer that is sent in chunks is long for a transfer size of 42 at least.
 pub large_sized : (p : Place) (answer : List ℕ) → IsSettledAt p → goes_large p answer ≡ true
     → (MIN_DATA_TRANSFER_SIZE ≤ (place_terms p).common.to_requester.transfer) × ((place_terms p).common.to_requester.transfer < length answer + 16)
 large_sized p answer settled large =
@@ -169,7 +169,7 @@ large_sized p answer settled large =
 
 -- ---- Both parts.
 
--- Where no answer went by chunks the transfer size does not matter.
+-- Where no answer went in chunks the transfer size does not matter.
 any_transfer : (large : large_answer.Seen) (a b : ℕ) (turns : List Turn) → large_of turns ≡ None → large_answer.StandsFor large a turns → large_answer.StandsFor large b turns
 any_transfer large a b turns none stands = record {
   left = stands.left ∙ ap (large_answer.left_by a turns) none ∙ ap (large_answer.left_by b turns) (sym none);
@@ -193,7 +193,7 @@ common_kept turns t version capabilities = ap (λ (n : Negotiation). (terms_of n
     by_third true = algorithms_keep (negotiation_of turns) (request_in t.effect) (answer_in t.effect)
     by_third false = refl
 
--- The large answer goes on in the transfer size that stands after the turn.
+-- The large response goes on in the transfer size that stands after the turn.
 abbrev pub IsMoved : (old new : negotiating.Seen) (large : large_answer.Seen) (turns : List Turn) (t : Turn) → Type 0
 IsMoved old new large turns t = negotiating.StandsFor old turns → negotiating.StandsFor new (t ∷ turns)
     → large_answer.StandsFor large (terms_of (negotiation_of turns)).common.to_requester.transfer (t ∷ turns) → large_answer.StandsFor large new.common.to_requester.transfer (t ∷ turns)

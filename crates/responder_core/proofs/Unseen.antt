@@ -1,4 +1,4 @@
--- A request whose large answer was never seen: what of the history stays.
+-- A request whose large response was never seen: what of the history stays.
 use Rattle.std.proofs.Common.{refl, ◌∙◌, ◌≡◌, ◌≢◌, ℕ, List, [], ◌∷◌, true, false, Bool, Some, None, ap, sym, subst, eqb-true}
 use Rattle.std.proofs.lemmas.Bool.{false≢true}
 use Rattle.std.specs.Prelude.{◌==◌, ◌||◌, if◌then◌else◌, is_some}

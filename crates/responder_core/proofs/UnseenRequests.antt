@@ -1,4 +1,4 @@
--- A request whose large answer was never seen: what it leaves of the clear part and of the sessions.
+-- A request whose large response was never seen: what it leaves of the clear part and of the sessions.
 use Rattle.std.proofs.Common.{refl, ◌∙◌, ◌≡◌, ◌||◌, ℕ, zero, suc, List, [], ◌∷◌, true, false, Bool, Option, Some, None, cond, ap, sym, subst, arith}
 use Rattle.std.proofs.lemmas.Bool.Decides.{nat_tests}
 use Rattle.responder_core.proofs.Waiting.{Visits, all_visited}

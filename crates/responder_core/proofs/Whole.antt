@@ -101,7 +101,7 @@ refused_answered r h tag m f d e new out anew refused turned kept =
       });
     }
 
--- One that is taken is told by its code, and is kept.
+-- One that is taken is determined by its code, and is kept.
 pub taken_answered : (r : RspSetup) (h : History) (tag : ℕ) (m : List ℕ) (f : Free) (d : Draw) (new : Seen) (out : List ℕ) → is_repeat (kept_of h) tag m ≡ false
     → (turn_of r (clear_place h) m f).refused ≡ None → IsTurned r (clear_place h) m f new.requests out → new.kept ≡ Some (record { tag = tag; message = m; reply = out })
     → IsAnswered r h tag m f d (heard.Answered (code_of m)) new out

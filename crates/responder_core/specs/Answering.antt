@@ -7,8 +7,8 @@ use Rattle.spdm_grammar.specs.Message.{RequestMessage}
 use Rattle.spdm_grammar.specs.Message.RequestMessage.{ChunkGet, EndSession, Heartbeat, KeyUpdate, PskExchange, PskFinish}
 use Rattle.spdm_grammar.specs.declared.names.TheConstants.{MAX_MESSAGE_SIZE, MIN_DATA_TRANSFER_SIZE}
 
--- The request may be answered in the clear: it needs no session, and CHUNK_GET asks for the next chunk of a
--- pending answer.
+-- The request may be answered in the clear: it needs no session, and CHUNK_GET asks for the next chunk of a pending
+-- answer.
 abbrev pub IsAnswerable : large_answer.Seen → Place → RequestMessage → Type 0
 IsAnswerable large p (ChunkGet handle number) =
     large_answer.StandsFor large (place_terms p).common.to_requester.transfer p.turns

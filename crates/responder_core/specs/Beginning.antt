@@ -12,12 +12,12 @@ use Rattle.spdm_grammar.specs.declared.names.request_code.TheConstants.{PSK_EXCH
 use Rattle.spdm_machine.specs.Sessions.{id_in_exchange, is_past_handshake}
 use Rattle.spdm_machine.specs.Terms.{terms_of}
 
--- A session past its handshake; one that is in it is gone.
+-- An established session; one that is in it is gone.
 abbrev pub held_part : Events → Events
 held_part s = if is_past_handshake (stage_of s) then s else []
 
--- The turn took a PSK_EXCHANGE, whose answer gives this RspSessionID; this is the session that it
--- begins under the negotiation as it stands.
+-- The turn took a PSK_EXCHANGE, whose answer gives this RspSessionID; this is the session that it begins under the
+-- negotiation as it stands.
 pub record IsBeginningAt (r : RspSetup) (h : History) (t : Turn) (id : ℕ) (session : RspSession) (answer : List ℕ) : Type 0 where
   pub is_exchange : takes PSK_EXCHANGE t ≡ true
   pub id_is : id_in_exchange answer ≡ id

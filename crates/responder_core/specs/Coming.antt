@@ -77,8 +77,8 @@ pub record IsTurned (r : RspSetup) (p : Place) (m : List ℕ) (f : Free) (new : 
 abbrev pub IsTakenTurn : RspSetup → Place → List ℕ → Free → (new : Seen) → (out : List ℕ) → Type 0
 IsTakenTurn r p m f new out = ((turn_of r p m f).refused ≡ None) × IsTurned r p m f new out
 
--- By what is told of it: it is refused with this code; it is answered, takes
--- no PSK_EXCHANGE, and takes a draw or none; or it begins a session.
+-- By what is reported of it: it is refused with this code; it is answered, takes no PSK_EXCHANGE, and takes a draw or
+-- none; or it begins a session.
 abbrev pub IsCome : RspSetup → Place → List ℕ → Free → Came → (new : Seen) → (out : List ℕ) → Type 0
 IsCome r p m f (came.Refused code) new out = ((turn_of r p m f).refused ≡ Some code) × IsTurned r p m f new out
 IsCome r p m f (came.Answered drawn) new out = IsTakenTurn r p m f new out × (takes PSK_EXCHANGE (turn_of r p m f) ≡ false) × (drawn ≡ takes_draw (turn_of r p m f))

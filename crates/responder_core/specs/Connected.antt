@@ -32,8 +32,8 @@ pub record StandsBeside (seen : Connection) (r : RspSetup) (h : History) : Type 
   pub queue : seen.queue ≡ queue_of h
   pub sizes : HasSizesAt r (clear_turns h)
 
--- A body came that leads to this outcome: it is told, its body is sent, and what is kept is that of the history
--- after it.
+-- A body came that leads to this outcome: it is told, its body is sent, and what is kept is that of the history after
+-- it.
 pub record IsDone (r : RspSetup) (h : History) (o : Outcome) (hears : Heard) (sent : List ℕ) (new : Connection) : Type 0 where
   pub told : hears ≡ heard_of o
   pub body : sent ≡ body_of o
@@ -44,7 +44,7 @@ abbrev pub queue_left : Heard → List (List ℕ) → List (List ℕ)
 queue_left (heard.Taken id) waiting = drop 1 waiting
 queue_left _ waiting = waiting
 
--- What is told of a record whose request takes a draw.
+-- What is reported of a record whose request takes a draw.
 abbrev pub tells_measured : Heard → Bool
 tells_measured (heard.Answered code) = code == GET_MEASUREMENTS
 tells_measured _ = false

@@ -5,7 +5,7 @@ use Rattle.chunking.specs.Collecting.Collection.{More, Refused, Whole}
 use Rattle.responder_core.specs.declared.clear.gathering.Gathered.{Gathered}
 use Rattle.responder_core.specs.declared.clear.gathering.Gathered.TheVariants as seen
 
--- What a chunk led to, with the large request that is kept.
+-- The outcome of a chunk, with the large request that is kept.
 abbrev pub gathered_as : Gathered → (whole : List ℕ) → Collection
 gathered_as seen.Whole whole = Whole whole
 gathered_as seen.More whole = More

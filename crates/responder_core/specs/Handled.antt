@@ -1,4 +1,4 @@
--- What came of a message at a place of the clear part.
+-- The outcome of a message at a place of the clear part.
 use Rattle.std.specs.Prelude.{◌≡◌, ◌==◌, ◌∷◌, ℕ, List, true, false, None, Some}
 use Rattle.responder_core.specs.Refused.{chunk_refusal}
 use Rattle.responder_core.specs.Standing.{Seen, StandsFor}

@@ -1,4 +1,4 @@
--- A connection at which the first chunk of a large answer is asked for late, for one who judges answers whose bytes come
+-- A connection at which the first chunk of a large response is asked for late, for the checker answers whose bytes come
 -- chunk by chunk. This project's own.
 use Rattle.std.specs.Prelude.{ℕ, List, Option}
 use Rattle.responder_core.specs.Pending.{history_changed}

@@ -18,24 +18,24 @@ pub record StandsFor (seen : Live) (r : RspSetup) (s : Events) : Type 0 where
   pub period : seen.period ≡ period_of s
   pub sizes : HasSizes r (session_terms s).common
 
--- A slot is empty exactly where there is no session; else its session is kept.
+-- A slot is empty exactly when there is no session; else its session is kept.
 abbrev pub IsSlotOf : Option Live → RspSetup → Events → Type 0
 IsSlotOf None r s = s ≡ []
 IsSlotOf (Some live) r s = StandsFor live r s
 
--- The record that answers, by what is told of the one that came.
+-- The record that answers, by what is reported of the one that came.
 abbrev pub IsWritten : RspSetup → Events → Free → (sealed : List ℕ) → RspTold → (out : List ℕ) → Type 0
 IsWritten r s f sealed (told.Moved act) out = out ≡ reply_in r s f sealed
 IsWritten r s f sealed told.Same out = out ≡ kept_record (last_of s)
 IsWritten r s f sealed (told.Unopened fault) out = Unit {0}
 
--- The seconds since its last record, by what is told of the one that came.
+-- The seconds since its last record, by what is reported of the one that came.
 abbrev pub idle_after : RspTold → Events → ℕ
 idle_after (told.Moved act) s = 0
 idle_after told.Same s = idle_of s
 idle_after (told.Unopened fault) s = idle_of s
 
--- What came of a record at a session of these events.
+-- The outcome of a record at a session of these events.
 pub record IsTaken (r : RspSetup) (s : Events) (f : Free) (sealed : List ℕ) (after : Live) (result : RspTold) (out : List ℕ) : Type 0 where
   pub live : is_live s ≡ true
   pub told : IsTold r s f sealed after.session result

@@ -21,12 +21,12 @@ opens_in r s sealed = is_live s && is_none (opening_fault r.psk s sealed)
 abbrev pub belongs_in : RspSetup → Events → (sealed : List ℕ) → Bool
 belongs_in r s sealed = is_live s && session.belongs_to r.psk s sealed
 
--- The key of the next answer of a session; none exactly where it has none.
+-- The key of the next answer of a session; none exactly when it has none.
 abbrev pub IsNextKey : RspSetup → Events → Option AnswerKey → Type 0
 IsNextKey r s None = has_next s ≡ false
 IsNextKey r s (Some key) = (has_next s ≡ true) × IsKeyOfNext key r.psk s
 
--- The key of the answer to a record, with its inner message; none exactly where the record does not open.
+-- The key of the answer to a record, with its inner message; none exactly when the record does not open.
 abbrev pub IsReplyKey : RspSetup → Events → Free → (request inner : List ℕ) → Option AnswerKey → Type 0
 IsReplyKey r s f request inner None = opens_in r s request ≡ false
 IsReplyKey r s f request inner (Some key) =

@@ -1,5 +1,5 @@
--- A connection in which the pending answer of a session gets other bytes, or was never seen, for one who judges
--- answers whose bytes come chunk by chunk. This project's own.
+-- A connection in which the pending answer of a session gets other bytes, or was never seen, for the checker answers
+-- whose bytes come chunk by chunk. This project's own.
 use Rattle.std.specs.Prelude.{◌==◌, ◌≡◌, ◌≢◌, ◌&&◌, ◌||◌, not, if◌then◌else◌, ℕ, List, [], ◌∷◌, Bool, true, is_some}
 use Rattle.responder_rules.specs.LargeAnswer.{turn_unseen, turn_with}
 use Rattle.responder_machine.specs.History.{History, clear_turns, ended_of, kept_of, queue_of}
@@ -9,12 +9,12 @@ use Rattle.responder_machine.specs.Turn.{Turn, handle_in, is_taken, takes}
 use Rattle.responder_session.specs.Pending as sessions
 use Rattle.spdm_grammar.specs.declared.names.request_code.TheConstants.{CHUNK_GET, GET_MEASUREMENTS}
 
--- A message that was not taken, or CHUNK_GET: behind it a large answer is as pending as before.
+-- A message that was not taken, or CHUNK_GET: after it a large response is as pending as before.
 abbrev pub passes : Turn → Bool
 passes t = not (is_taken t) || takes CHUNK_GET t
 
 -- The history in which the turn changes so of the last record of the session of this id that was taken and is no
--- CHUNK_GET: a large answer that is pending there is its answer.
+-- CHUNK_GET: a large response that is pending there is its answer.
 abbrev pub history_changed : (Turn → Turn) → (id : ℕ) → History → History
 history_changed change id [] = []
 history_changed change id (Sealed tag m t reply d ∷ older) =

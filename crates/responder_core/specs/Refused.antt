@@ -22,8 +22,8 @@ IsClear InClear = Unit {0}
 IsClear InChunks = Unit {0}
 IsClear InSession = ⊥
 
--- What is refused of a request's contents before it has an answer, in the clear. What is refused there of
--- PSK_FINISH and KEY_UPDATE comes in sessions alone, and of CHUNK_SEND is told by the chunks that came before.
+-- What is refused of a request's contents before it has an answer, in the clear. What is refused there of PSK_FINISH
+-- and KEY_UPDATE comes in sessions alone, and of CHUNK_SEND is determined by the chunks that came before.
 abbrev pub tests_of_request : RspSetup → Place → RequestMessage → List (Bool × ErrorCode)
 tests_of_request r p asked =
     (lacks_flag (place_terms p) (code_for asked), UnsupportedRequest)
@@ -47,7 +47,7 @@ chunk_refusal None = None
 chunk_refusal (Some fault.TooLarge) = Some RequestTooLarge
 chunk_refusal (Some _) = Some InvalidRequest
 
--- CHUNK_GET comes where a large answer is pending.
+-- CHUNK_GET comes where a large response is pending.
 abbrev pub IsPendingFor : Place → RequestMessage → Type 0
 IsPendingFor p (ChunkGet handle number) = has_pending p ≡ true
 IsPendingFor p _ = Unit {0}

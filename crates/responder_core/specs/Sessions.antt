@@ -23,8 +23,8 @@ use Rattle.spdm_machine.specs.Sessions.{is_past_handshake}
 abbrev pub slot_of : Sessions → ℕ → Option Live
 slot_of seen id = if id == 0 || nat_lt 4 id then None else slice_index_or seen.slots (id - 1) None
 
--- They are those of this history: the slot of each RspSessionID has its session, and the last
--- record of the one ended session is kept.
+-- They are those of this history: the slot of each RspSessionID has its session, and the last record of the one ended
+-- session is kept.
 pub record StandsFor (seen : Sessions) (r : RspSetup) (h : History) : Type 0 where
   pub slots : (id : ℕ) → IsSlotOf (slot_of seen id) r (session_of id h)
   pub ended : seen.ended ≡ ended_of h
@@ -34,7 +34,7 @@ abbrev pub tells_version : Heard → Bool
 tells_version (heard.Answered code) = code == GET_VERSION
 tells_version _ = false
 
--- There is a session, and it is past its handshake.
+-- There is a session, and it is established.
 abbrev pub is_held_in : Events → Bool
 is_held_in s = is_live s && is_past_handshake (stage_of s)
 
@@ -47,8 +47,7 @@ abbrev pub IsViewOf : Option SessionView → Events → Type 0
 IsViewOf None s = s ≡ []
 IsViewOf (Some view) s = (is_live s ≡ true) × (view ≡ view_of s)
 
--- The body of an answer to a record: ERROR comes in the clear where no session opens it, and all
--- else is a record.
+-- The body of an answer to a record: ERROR comes in the clear where no session opens it, and all else is a record.
 abbrev pub body_by : Heard → List ℕ → List ℕ
 body_by heard.Unopened out = clear_body out
 body_by _ out = record_body out
@@ -61,16 +60,15 @@ pub record IsDelivered (r : RspSetup) (h : History) (sealed : List ℕ) (f : Fre
   pub others : (i : ℕ) → i ≢ id_in_record sealed → IsSlotOf (slot_of mid i) r (session_of i h)
   pub ended : mid.ended ≡ ended_of h
 
--- The session of an id is still in its slot if it is live; its last record is kept apart if it is
--- ended.
+-- The session of an id is still in its slot if it is live; its last record is kept apart if it is ended.
 pub record IsSettled (r : RspSetup) (sealed out : List ℕ) (mid new : Sessions) (id : ℕ) : Type 0 where
   pub live : (s : Events) → IsSlotOf (slot_of mid id) r s → new ≡ mid
   pub gone : (kept : Live) (bytes : List ℕ) → slot_of mid id ≡ Some kept → IsEnded kept.session bytes sealed out → length sealed ≤ 4160
       → (slot_of new id ≡ None) × (new.ended ≡ Some (record { sealed = sealed; reply = out }))
   pub others : (i : ℕ) → i ≢ id → slot_of new i ≡ slot_of mid i
 
--- The record was answered as the responder answers it under these values: it is told of it, what is
--- sent is written, and what is kept is that of the history after it.
+-- The record was answered as the responder answers it under these values: it is told of it, what is sent is written,
+-- and what is kept is that of the history after it.
 pub record IsAnswered (r : RspSetup) (h : History) (tag : ℕ) (sealed : List ℕ) (f : Free) (d : Draw) (heard : Heard) (new : Sessions) (out : List ℕ) : Type 0 where
   pub told : heard ≡ heard_of (on_record r h tag sealed f d)
   pub body : body_by heard out ≡ body_of (on_record r h tag sealed f d)

@@ -6,7 +6,7 @@ use Rattle.responder_machine.specs.History.{negotiation_of, phase_of}
 use Rattle.responder_machine.specs.Place.{Place, Where, place_terms}
 use Rattle.responder_machine.specs.Turn.{Turn}
 
--- A place in the clear of these turns, the newest first, beside so many sessions past their handshake.
+-- A place in the clear of these turns, the newest first, with so many established sessions.
 abbrev pub place_at : Where → List Turn → (held : ℕ) → Place
 place_at at turns held = record {
   at = at;
@@ -17,12 +17,12 @@ place_at at turns held = record {
   past_handshake = held;
 }
 
--- What is kept, as contracts see it: the negotiation, and the large answer.
+-- What is kept, as contracts see it: the negotiation, and the large response.
 pub record Seen : Type 0 where
   pub negotiating : negotiating.Seen
   pub large : large_answer.Seen
 
--- It is kept of a clear part of these turns. Large answers go in chunks of the requester's transfer size.
+-- It is kept of a clear part of these turns. Large responses go in chunks of the requester's transfer size.
 pub record StandsFor (seen : Seen) (turns : List Turn) : Type 0 where
   pub negotiating : negotiating.StandsFor seen.negotiating turns
   pub large : large_answer.StandsFor seen.large seen.negotiating.common.to_requester.transfer turns

@@ -1,4 +1,4 @@
--- What would come of a clear message, for one who judges it. This project's own.
+-- What would come of a clear message; used only by the checker. This project's own.
 use Rattle.std.specs.Prelude.{◌≡◌, ◌≢◌, ℕ, List, Option, None}
 use Rattle.responder_core.specs.Sessions.{slot_of}
 use Rattle.responder_core.specs.declared.connected.Connection.{Connection}
@@ -10,8 +10,8 @@ use Rattle.responder_machine.specs.Place.{clear_place}
 use Rattle.responder_machine.specs.Refusal.{has_pending}
 use Rattle.responder_machine.specs.Responder.{Outcome, after, body_of}
 
--- It would lead to this outcome: it is told, its body would be sent, and a large answer would be pending in the clear
--- behind it, or none.
+-- It would lead to this outcome: it is told, its body would be sent, and a large response would be pending in the clear
+-- after it, or none.
 pub record IsTried (h : History) (o : Outcome) (tried : Tried) (sent : List ℕ) : Type 0 where
   pub told : tried.heard ≡ heard_of o
   pub body : sent ≡ body_of o

@@ -1,4 +1,4 @@
--- A request in the clear whose large answer was never seen, for one who judges. This project's own.
+-- A request in the clear whose large response was never seen; used only by the checker. This project's own.
 use Rattle.std.specs.Prelude.{◌≡◌, ℕ, List, [], Bool, false, true, None}
 use Rattle.responder_machine.specs.Turn.{Turn, answer_in, handle_in, is_taken, takes}
 use Rattle.spdm_grammar.specs.declared.names.request_code.TheConstants.{CHUNK_GET, GET_CAPABILITIES, GET_VERSION, NEGOTIATE_ALGORITHMS, PSK_EXCHANGE}

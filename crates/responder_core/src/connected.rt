@@ -8,19 +8,18 @@ use spdm_basis::{Frame, RecordFrame};
 use spdm_grammar::Heard;
 use spdm_grammar::names::request_code::GET_MEASUREMENTS;
 
-/// A responder's connection with one requester (DSP0274, section 10), with every free value handed in: the
-/// clear part, the sessions by RspSessionID, and the application data that waits to be sent in answer. It lies
-/// in place, and takes no memory.
+/// A responder's connection with one requester (DSP0274, section 10), with every free value handed in: the clear part,
+/// the sessions by RspSessionID, and the queue of application data to send in reply. Fixed size; never allocates.
 #[derive(Drop)]
 pub struct Connection {
     pub(crate) clear: ClearPart,
     pub(crate) sessions: Sessions,
     pub(crate) queue: AppQueue,
-    // Whether the body that came last took a draw.
+    // Whether the last body used a draw.
     pub(crate) drawn: bool,
 }
 
-// Application data that was taken uses up what waits first.
+// Application data that was received takes the first reply off the queue.
 fn use_up(queue: &mut AppQueue, heard: Heard)
     ensures { queue.new ≡ queue_left heard queue.old }
 {
@@ -29,7 +28,7 @@ fn use_up(queue: &mut AppQueue, heard: Heard)
     }
 }
 
-// Whether what is told of a record tells GET_MEASUREMENTS, which takes a draw.
+// Whether the outcome of a record is an answered GET_MEASUREMENTS, which uses a draw.
 fn tells_measured(heard: Heard) -> bool
     ensures { result ≡ tells_measured heard }
 {
@@ -60,7 +59,7 @@ impl Connection {
     ghost use Rattle.responder_core.specs.Sessions.{body_by};
     ghost use Rattle.responder_core.specs.Setup.{IsSetUp};
 
-    /// Where nothing came yet.
+    /// The initial state, before any message.
     pub fn new(setup: &Setup<'_>) -> Connection
         ensures { (r : RspSetup) → IsSetUp setup.now r → StandsFor result r [] }
     {
@@ -72,9 +71,9 @@ impl Connection {
         }
     }
 
-    /// A clear message came with a tag, and its answer has these free values. The message that answers it is
-    /// written in place of what `out` holds. The id is from 1 to 4; the context is at least as long as the
-    /// chosen hash. A refused message, and one that comes again, changes no session and nothing else.
+    /// Handles a clear message with its tag; `free` are the values that its response may use. The response overwrites
+    /// `out`. The id is from 1 to 4; the context is at least as long as the chosen hash. A refused or repeated message
+    /// changes no session and nothing else.
     pub fn on_clear(
         &mut self,
         setup: &Setup<'_>,
@@ -138,9 +137,9 @@ impl Connection {
         Heard::Answered(code_at(message))
     }
 
-    /// A record came, and its answer has these free values. The record that answers, or ERROR DecryptError in
-    /// the clear, is written in place of what `out` holds. The nonce has 32 bytes, the opaque data and the reply
-    /// at most 1,024, and the padding at most 16. Application data that is taken uses up what waits first.
+    /// Handles a received record; `free` are the values that its response may use. The response record, or ERROR
+    /// DecryptError in the clear, overwrites `out`. The nonce has 32 bytes, the opaque data and the reply at most
+    /// 1,024, and the padding at most 16. Received application data takes the first reply off the queue.
     pub fn on_record(
         &mut self,
         setup: &Setup<'_>,
@@ -175,7 +174,7 @@ impl Connection {
         heard
     }
 
-    /// Application data waits to be sent in answer. A refusal changes nothing.
+    /// Queues application data to send in reply. On an error nothing changes.
     pub fn queue(&mut self, bytes: &[u8]) -> Result<(), QueueFault>
         ensures fault { (r : RspSetup) (h : History) → StandsFor self.old r h
             → MatchResult result (λ _. queue_fault (queue_of h) bytes.now ≡ None)
@@ -187,8 +186,8 @@ impl Connection {
         self.queue.push(bytes)
     }
 
-    /// Seconds pass: a session past its handshake that has waited for twice its HeartbeatPeriod is gone
-    /// (DSP0274, "HEARTBEAT").
+    /// Advances the clock: removes each established session that has waited for twice its HeartbeatPeriod (DSP0274,
+    /// "HEARTBEAT").
     pub fn tick(&mut self, seconds: u32)
         ensures { (r : RspSetup) (h : History) → StandsFor self.old r h
             → StandsFor self.new r (Ticked seconds ∷ h) }
@@ -196,7 +195,7 @@ impl Connection {
         self.sessions.tick(seconds);
     }
 
-    /// The session of this RspSessionID was dropped unseen, as a capture may show.
+    /// Removes the session with this RspSessionID, as if it timed out without a trace in the capture.
     pub fn drop_unseen(&mut self, id: u16)
         ensures { (r : RspSetup) (h : History) → StandsFor self.old r h
             → StandsFor self.new r (Dropped id ∷ h) }

@@ -1,6 +1,6 @@
 ghost use Rattle.std.specs.Prelude.{◌≤◌, ◌<◌, ◌^◌, length};
 
-/// The values that a responder chooses for an answer. Each answer takes what it needs of them.
+/// The values that a responder chooses for a response. Each response uses those that it needs.
 #[derive(Clone, Copy)]
 pub struct FreeValues<'a> {
     /// RspSessionID of a new session.
@@ -13,7 +13,7 @@ pub struct FreeValues<'a> {
     pub nonce: [u8; 32],
     /// OpaqueData of MEASUREMENTS: at most 1,024 bytes.
     pub measured_opaque: &'a [u8],
-    /// The handle of an answer that goes by chunks.
+    /// Handle of a response that is sent in chunks.
     pub handle: u8,
     /// The application data sent in answer to application data.
     pub reply: &'a [u8],

@@ -1,9 +1,9 @@
-//! A responder's side of the connection with one requester (DSP0274, section 10), with every free value
-//! handed in: the clear part, which holds how far the negotiation has come and what was settled; the sessions;
-//! and the application data that waits to be sent in answer.
+//! A responder's side of the connection with one requester (DSP0274, section 10), with every free value handed in: the
+//! clear part, which holds the state of the negotiation and its results; the sessions; and the queue of application
+//! data to send in reply.
 //!
-//! Read first: `StandsFor` in `specs/Connected.antt`, which history a connection stands for. Calls
-//! are `Connection::on_clear` and `Connection::on_record`.
+//! Read first: `StandsFor` in `specs/Connected.antt`, which history a connection stands for. Calls are
+//! `Connection::on_clear` and `Connection::on_record`.
 #![tactic(auto)]
 
 mod clear;

@@ -1,7 +1,7 @@
 use crate::Connection;
 use spdm_grammar::{Choice, Phase, SessionList, SessionView};
 
-// What is seen of a connection.
+// Accessors.
 impl Connection {
     ghost use Rattle.std.specs.Prelude.{◌≡◌, ◌≤◌, ◌<◌, ◌^◌, length};
     ghost use Rattle.chunking.specs.Collecting.{joined, under_way};
@@ -20,7 +20,7 @@ impl Connection {
     ghost use Rattle.responder_session.specs.Data.{data_of};
     ghost use Rattle.spdm_machine.specs.Terms.{terms_of};
 
-    /// How far it has come.
+    /// The phase of the negotiation.
     pub fn phase(&self) -> Phase
         ensures { (r : RspSetup) (h : History) → StandsFor self.now r h
             → result ≡ phase_of (clear_turns h) }
@@ -28,15 +28,15 @@ impl Connection {
         self.clear.standing().phase()
     }
 
-    /// Whether the body that came last took a draw: for the context of PSK_EXCHANGE_RSP, or for the nonce of
-    /// MEASUREMENTS.
+    /// Whether the last body used a draw: for the context of PSK_EXCHANGE_RSP, or for the nonce of MEASUREMENTS.
     pub fn is_drawn(&self) -> bool
         ensures { result ≡ self.now.drawn }
     {
         self.drawn
     }
 
-    /// Whether a clear message with this tag is the last one that was not refused, and so gets its answer again.
+    /// Whether this clear message and tag repeat the last one that was not refused; its stored response is then sent
+    /// again.
     pub fn is_repeat(&self, tag: u8, message: &[u8]) -> bool
         ensures { (r : RspSetup) (h : History) → StandsFor self.now r h
             → result ≡ is_repeat (kept_of h) tag message.now }
@@ -44,7 +44,7 @@ impl Connection {
         self.clear.is_repeat(tag, message)
     }
 
-    /// The algorithms that were chosen.
+    /// The negotiated algorithms.
     pub fn choice(&self) -> Choice
         ensures { (r : RspSetup) (h : History) → StandsFor self.now r h
             → result ≡ (terms_of (negotiation_of (clear_turns h))).choice }
@@ -52,14 +52,14 @@ impl Connection {
         self.clear.standing().choice()
     }
 
-    /// How many sessions are past their handshake.
+    /// The number of established sessions.
     pub fn held(&self) -> u8
         ensures { (r : RspSetup) (h : History) → StandsFor self.now r h → result ≡ held_of h }
     {
         self.sessions.held()
     }
 
-    /// The least RspSessionID that no session past its handshake has; 4 where all four have one.
+    /// The least RspSessionID without an established session; 4 if all four have one.
     pub fn free_id(&self) -> u16
         ensures value { (r : RspSetup) (h : History) → StandsFor self.now r h
             → result ≡ free_id h }
@@ -69,7 +69,7 @@ impl Connection {
         self.sessions.free_id()
     }
 
-    /// The bytes so far of the large request that comes by chunks in the clear; none where none does.
+    /// The bytes received so far of a large request in the clear; empty if there is none.
     pub fn under_way(&self) -> &[u8]
         ensures { (r : RspSetup) (h : History) → StandsFor self.now r h
             → result.now ≡ joined (under_way (chunks_of (clear_turns h))) }
@@ -77,7 +77,7 @@ impl Connection {
         self.clear.requests().under_way()
     }
 
-    /// The handle of the next clear answer that goes by chunks.
+    /// The handle of the next clear response that is sent in chunks.
     pub fn next_handle(&self) -> u8
         ensures { (r : RspSetup) (h : History) → StandsFor self.now r h
             → result ≡ next_handle (clear_turns h) }
@@ -85,7 +85,7 @@ impl Connection {
         self.clear.standing().next_handle()
     }
 
-    /// Whether a large answer is pending in the clear: a chunk of it is still to be given.
+    /// Whether a large response is pending in the clear, that is, some chunk of it was not sent yet.
     pub fn is_pending(&self) -> bool
         ensures { (r : RspSetup) (h : History) → StandsFor self.now r h
             → result ≡ has_pending (clear_place h) }
@@ -93,7 +93,7 @@ impl Connection {
         self.clear.standing().is_pending()
     }
 
-    /// The handle of the next answer that goes by chunks in the session of this RspSessionID.
+    /// The handle of the next chunked response in the session with this RspSessionID.
     pub fn next_handle_in(&self, id: u16) -> u8
         ensures { (r : RspSetup) (h : History) → StandsFor self.now r h
             → result ≡ next_handle (turns_of (session_of id h)) }
@@ -101,7 +101,7 @@ impl Connection {
         self.sessions.next_handle(id)
     }
 
-    /// The application data that is sent next in answer; no bytes where none waits.
+    /// The next application data to send in reply; empty if the queue is.
     pub fn next_reply(&self) -> &[u8]
         ensures value { (r : RspSetup) (h : History) → StandsFor self.now r h
             → result.now ≡ first_queued (queue_of h) }
@@ -110,7 +110,8 @@ impl Connection {
         self.queue.first()
     }
 
-    /// The session of this RspSessionID as it is shown; none where there is none. Fewer than 2^64 messages came.
+    /// A view of the session with this RspSessionID; `None` if there is none. Requires fewer than 2^64 received
+    /// messages.
     pub fn view(&self, id: u16) -> Option<SessionView>
         ensures { (r : RspSetup) (h : History) → StandsFor self.now r h → messages_of h < 2 ^ 64
             → IsViewOf result (session_of id h) }
@@ -118,7 +119,7 @@ impl Connection {
         self.sessions.view(id)
     }
 
-    /// The sessions as they are shown, by rising RspSessionID. Fewer than 2^64 messages came.
+    /// Views of the sessions, by rising RspSessionID. Requires fewer than 2^64 received messages.
     pub fn sessions(&self) -> SessionList
         ensures { (r : RspSetup) (h : History) → StandsFor self.now r h → messages_of h < 2 ^ 64
             → result ≡ views_of h }
@@ -126,8 +127,8 @@ impl Connection {
         SessionList::of(self.view(1), self.view(2), self.view(3), self.view(4))
     }
 
-    /// The application data that the session of this RspSessionID took last; no bytes before the first, and where
-    /// there is no session.
+    /// The application data that the session with this RspSessionID received last; empty before the first and without
+    /// such a session.
     pub fn data(&self, id: u16) -> &[u8]
         ensures { (r : RspSetup) (h : History) → StandsFor self.now r h
             → result.now ≡ data_of (session_of id h) }

@@ -25,9 +25,8 @@ use spdm_grammar::Request;
 use spdm_grammar::names::CHUNK_SEND_ACK_FIELDS_LEN;
 
 impl Standing {
-    /// Writes the whole answer to a request that is refused neither for its form nor for its contents, and
-    /// tells its length. Where that passes 4,096 bytes the answer is not whole in `out`. Of PSK_EXCHANGE_RSP
-    /// the length alone is told.
+    /// Writes the complete response to a request that passed its checks, and returns its length. A response above 4,096
+    /// bytes is incomplete in `out`. For PSK_EXCHANGE_RSP only the length is returned.
     pub fn write_answer(
         &self,
         place: &Place,

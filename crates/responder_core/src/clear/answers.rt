@@ -53,8 +53,8 @@ pub fn write_algorithms(setup: &Setup<'_>, offer: &AlgOffer<'_>, out: &mut Frame
     let _ = write_response(&Response::Algorithms(reply.message()), 0, false, out);
 }
 
-/// CHUNK_RESPONSE with a chunk of at most 4,096 bytes that has a spelling, and its length. One that passes
-/// 4,096 bytes is not whole in `out`.
+/// CHUNK_RESPONSE with a chunk of at most 4,096 bytes that has an encoding, and its length. One that passes 4,096 bytes
+/// is not whole in `out`.
 pub fn write_chunk_response(chunk: ChunkView<'_>, out: &mut Frame) -> usize
     ensures size { length chunk.entry.chunk.now ≤ MAX_MESSAGE_SIZE → result
         ≡ length (canonical_response (ChunkResponse (chunk_message chunk.entry))) }
@@ -81,8 +81,8 @@ fn large_len(large: Option<u32>) -> usize
     }
 }
 
-/// CHUNK_SEND_ACK to the chunk of this handle and number, with a response in it; one that passes 4,096 bytes
-/// is not whole in `out`.
+/// CHUNK_SEND_ACK to the chunk of this handle and number, with a response in it; one that passes 4,096 bytes is not
+/// whole in `out`.
 pub fn write_acknowledgement(handle: u8, number: u16, response: &[u8], out: &mut Frame)
     ensures { length response.now + 6 ≤ MAX_MESSAGE_SIZE
         → out.new ≡ canonical_response (ChunkSendAck false handle number response.now) }

@@ -19,8 +19,7 @@ use spdm_basis::HashBytes;
 use spdm_grammar::{Choice, Phase};
 
 impl Standing {
-    /// The messages of the negotiation, one behind the other; VCA in phase Negotiated (DSP0274, "Transcript
-    /// hash").
+    /// The messages of the negotiation, one after the other; VCA in phase Negotiated (DSP0274, "Transcript hash").
     pub fn vca(&self) -> &[u8]
         ensures { (turns : List Turn) → StandsFor self.now turns
             → result.now ≡ vca_of (negotiation_of turns) }
@@ -42,8 +41,8 @@ impl Standing {
         }
     }
 
-    /// MeasurementSummaryHash of PSK_EXCHANGE_RSP, where a PSK_EXCHANGE asks for this kind: the hash of the
-    /// blocks of the trusted computing base for 1, and of all for 255; none for another kind.
+    /// MeasurementSummaryHash of PSK_EXCHANGE_RSP, where a PSK_EXCHANGE asks for this kind: the hash of the blocks of
+    /// the trusted computing base for 1, and of all for 255; none for another kind.
     pub fn summary(&self, setup: &Setup<'_>, kind: u8) -> Option<HashBytes>
         ensures value { (r : RspSetup) (at : Where) (turns : List Turn) (held : ℕ)
             → IsSetUp setup.now r → StandsFor self.now turns
@@ -57,14 +56,14 @@ impl Standing {
             .summary_by(self.negotiating.choice().hash, kind)
     }
 
-    /// The handle of the next answer that goes by chunks.
+    /// The handle of the next answer that is sent in chunks.
     pub fn next_handle(&self) -> u8
         ensures { (turns : List Turn) → StandsFor self.now turns → result ≡ next_handle turns }
     {
         self.large.next_handle()
     }
 
-    /// Whether a large answer is pending: a chunk of it is still to be given.
+    /// Whether a large response is pending: a chunk of it is still to be given.
     pub fn is_pending(&self) -> bool
         ensures { (at : Where) (turns : List Turn) (held : ℕ) → StandsFor self.now turns
             → result ≡ has_pending (place_at at turns held) }

@@ -9,7 +9,7 @@ pub enum Begun {
     InChunks { handle: u8, number: u16 },
 }
 
-/// What came of a request in the clear.
+/// The outcome of a request in the clear.
 #[derive(Clone, Copy, Debug, PartialEq, Eq)]
 pub enum Came {
     /// It is refused with this code.

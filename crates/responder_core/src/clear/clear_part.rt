@@ -19,8 +19,8 @@ use spdm_basis::Frame;
 use spdm_grammar::Heard;
 use std::marker::Model;
 
-/// The clear part of a responder's connection with one requester: what it keeps of the requests, and the kept
-/// reply. It lies in place, and takes no memory.
+/// The clear part of a responder's connection with one requester: the state of its requests, and the stored response.
+/// Fixed size; never allocates.
 #[derive(Drop)]
 pub struct ClearPart {
     pub(crate) requests: Requests,
@@ -46,7 +46,7 @@ pub fn code_at(message: &[u8]) -> u8
 }
 
 impl ClearPart {
-    /// Where nothing came yet.
+    /// The initial state, before any message.
     pub fn new(setup: &Setup<'_>) -> ClearPart
         ensures { (r : RspSetup) → IsSetUp setup.now r → StandsFor result r [] }
     {
@@ -56,7 +56,7 @@ impl ClearPart {
         }
     }
 
-    /// An equal one where no large answer is pending; none where one is.
+    /// Returns a copy; `None` while a large response is pending.
     pub fn idle_copy(&self) -> Option<ClearPart>
         ensures same { IfSome result (λ copy. copy ≡ self.now) }
         ensures idle { (r : RspSetup) (h : History) → StandsFor self.now r h
@@ -76,16 +76,16 @@ impl ClearPart {
         &self.requests
     }
 
-    /// Whether a message with this tag is the last one that was not refused.
+    /// Whether this message and tag repeat the last request that was not refused.
     pub fn is_repeat(&self, tag: u8, message: &[u8]) -> bool
         ensures { result ≡ responder.is_repeat self.now.kept tag message.now }
     {
         self.kept.is_repeat(tag, message)
     }
 
-    /// A clear message came with a tag, beside so many sessions past their handshake. The message that answers
-    /// it is written in place of what `out` holds: a repeat gets the kept reply. Where it begins a session
-    /// nothing is sent yet: `begin` ends its turn.
+    /// Handles a clear message with its tag; `held` counts established sessions. The response overwrites `out`: a
+    /// repeat gets the stored response. If the message begins a session nothing is sent yet, and `begin` completes the
+    /// turn.
     pub fn on_clear(
         &mut self,
         setup: &Setup<'_>,
@@ -122,9 +122,8 @@ impl ClearPart {
         }
     }
 
-    /// Ends the turn of a clear message that begins a session, with PSK_EXCHANGE_RSP whole, of at most 4,096
-    /// bytes, and with this handle where it goes by chunks. The message that is sent is written in place of
-    /// what `out` holds.
+    /// Completes the turn of a clear message that begins a session: `answer` is the PSK_EXCHANGE_RSP, of at most 4,096
+    /// bytes, with this handle if it is sent in chunks. The message sent overwrites `out`.
     pub fn begin(
         &mut self,
         begun: Begun,

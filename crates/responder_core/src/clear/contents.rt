@@ -52,8 +52,7 @@ pub fn announced(setup: &Setup<'_>) -> Caps
     }
 }
 
-/// What a requester with these capabilities and the responder can do together; none where they do not go
-/// together.
+/// What a requester with these capabilities and the responder can do together; `None` where they do not go together.
 pub fn common_with(setup: &Setup<'_>, caps: &Caps) -> Option<Common>
     ensures value { (r : RspSetup) → IsSetUp setup.now r
         → result ≡ result_ok (common_of caps.now (responder_caps r)) }
@@ -62,7 +61,7 @@ pub fn common_with(setup: &Setup<'_>, caps: &Caps) -> Option<Common>
     common(caps, &announced(setup)).ok()
 }
 
-/// What the responder chooses of an offer; none where it finds no choice.
+/// What the responder chooses of an offer; `None` where it finds no choice.
 pub fn choice_of(setup: &Setup<'_>, offer: &AlgOffer<'_>) -> Option<Choice>
     ensures { (r : RspSetup) → IsSetUp setup.now r
         → result ≡ selected (offer_message offer.now) (policy_of r) }
@@ -109,8 +108,8 @@ pub fn has_no_block(setup: &Setup<'_>, request: &Request<'_>) -> bool
     }
 }
 
-/// Whether it is PSK_EXCHANGE with another hint than this requester's, or one that asks for a summary
-/// where measurements were not chosen.
+/// Whether it is PSK_EXCHANGE with another hint than this requester's, or one that asks for a summary where
+/// measurements were not chosen.
 pub fn is_exchange_refused(setup: &Setup<'_>, place: &Place, request: &Request<'_>) -> bool
     ensures { (r : RspSetup) (p : places.Place) → IsSetUp setup.now r → IsPlace place.now p
         → result ≡ refusal.is_exchange_refused r p (Some (request_message request.now)) }

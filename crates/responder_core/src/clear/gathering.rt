@@ -19,8 +19,7 @@ pub enum Gathered {
     Refused(ChunkFault),
 }
 
-/// Gives a chunk to a collector. A large request that it completes is written in place of what `whole` holds;
-/// else that stays.
+/// Gives a chunk to a collector. A large request that it completes overwrites `whole`; else that stays.
 pub fn gather(collector: &mut Collector, chunk: ChunkView<'_>, whole: &mut Frame) -> Gathered
     ensures answer { (accepted : List ChunkMessage) → keeping.StandsFor collector.old accepted
         → gathered_as result whole.new

@@ -1,6 +1,6 @@
 use spdm_grammar::{ChunkView, ErrorCode, Exchange};
 
-/// What came of a message at a place of the clear part.
+/// The outcome of a message at a place of the clear part.
 #[derive(Clone, Copy, Debug, PartialEq, Eq)]
 pub enum Handled<'a> {
     /// It is refused with this code.

@@ -20,8 +20,8 @@ use responder_rules::{Place, Where, write_large_response};
 use spdm_basis::Frame;
 use spdm_grammar::Request;
 
-/// Writes what is sent for an answer, in its place: LargeResponse with this handle where it goes by chunks,
-/// else the answer itself.
+/// Turns a response into what is sent: LargeResponse with this handle if it is sent in chunks, else the response
+/// itself.
 pub fn send(place: &Place, handle: u8, out: &mut Frame)
     ensures { (p : places.Place) (f : Free) → IsPlace place.now p → f.handle ≡ handle
         → out.new ≡ sent_for p f out.old }
@@ -31,7 +31,7 @@ pub fn send(place: &Place, handle: u8, out: &mut Frame)
     }
 }
 
-/// Writes these bytes, of which there are at most 4,096, in place of what `out` holds.
+/// Overwrites `out` with these bytes, of which there are at most 4,096.
 pub fn replace(out: &mut Frame, bytes: &[u8])
     requires { length bytes.now ≤ MAX_MESSAGE_SIZE }
     ensures { out.new ≡ bytes.now }
@@ -64,9 +64,8 @@ impl Standing {
         send(place, handle, out);
     }
 
-    /// Handles a message at a place of the clear part: in the clear, or inside a large request. What is sent
-    /// is written in place of what `out` holds; for a chunk, and for PSK_EXCHANGE, nothing is sent yet. `held`
-    /// is the number of sessions past their handshake.
+    /// Handles a message at a place of the clear part: in the clear, or inside a large request. The message sent
+    /// overwrites `out`; for a chunk and for PSK_EXCHANGE nothing is sent yet. `held` counts established sessions.
     pub fn handle<'a>(
         &mut self,
         at: Where,
@@ -99,8 +98,8 @@ impl Standing {
         }
     }
 
-    /// PSK_EXCHANGE was taken at a place, with this whole answer of at most 4,096 bytes. What is sent for it is
-    /// written in place of what `out` holds, with this handle where it goes by chunks.
+    /// Completes a PSK_EXCHANGE that was accepted at a place, with its complete response of at most 4,096 bytes. The
+    /// message sent overwrites `out`, with this handle if the response is sent in chunks.
     pub fn begin(&mut self, at: Where, answer: &[u8], handle: u8, out: &mut Frame)
         requires { length answer.now ≤ MAX_MESSAGE_SIZE }
         ensures stands { (r : RspSetup) (turns : List Turn) (held : ℕ) (m : List ℕ) (f : Free)

@@ -5,8 +5,8 @@ ghost use Rattle.spdm_grammar.specs.declared.names.TheConstants.{MAX_MESSAGE_SIZ
 use spdm_basis::Frame;
 use std::marker::Model;
 
-/// The last clear request that was not refused, with its tag and its reply. It lies in place, and holds no
-/// memory of its own. Contracts see whether there is one, and it.
+/// The last clear request that was not refused, with its tag and its response. Fixed size; never allocates. In
+/// contracts, an option of these.
 #[derive(Drop)]
 pub struct KeptReply {
     is_there: bool,
@@ -29,7 +29,7 @@ impl Model for KeptReply {
 }
 
 impl KeptReply {
-    /// Where no request came yet.
+    /// The initial state, before any request.
     pub fn new() -> KeptReply
         ensures { result ≡ None }
     {
@@ -41,7 +41,7 @@ impl KeptReply {
         }
     }
 
-    /// An equal one.
+    /// Returns a copy.
     pub fn copy(&self) -> KeptReply
         ensures { result ≡ self.now }
     {
@@ -64,7 +64,7 @@ impl KeptReply {
         self.is_there && self.tag == tag && self.message.as_slice() == message
     }
 
-    /// The kept reply; no bytes where none is kept.
+    /// The kept reply; empty where none is kept.
     pub fn reply(&self) -> &[u8]
         ensures value { result.now ≡ responder.kept_reply self.now }
         ensures fits { length result.now ≤ MAX_MESSAGE_SIZE }

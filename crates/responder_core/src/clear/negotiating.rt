@@ -69,7 +69,7 @@ impl Model for Negotiating {
 }
 
 impl Negotiating {
-    /// Where no request came yet.
+    /// The initial state, before any request.
     pub fn new() -> Negotiating
         ensures { StandsFor result [] }
     {
@@ -81,7 +81,7 @@ impl Negotiating {
         }
     }
 
-    /// An equal one.
+    /// Returns a copy.
     pub fn copy(&self) -> Negotiating
         ensures { result ≡ self.now }
     {
@@ -121,7 +121,7 @@ impl Negotiating {
         &self.messages
     }
 
-    /// The bytes of its messages so far, one behind the other; in phase Negotiated the whole VCA.
+    /// The bytes of its messages so far, one after the other; in phase Negotiated the whole VCA.
     pub fn messages(&self) -> &[u8]
         ensures { result.now ≡ self.now.messages }
     {

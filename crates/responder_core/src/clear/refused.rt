@@ -2,8 +2,8 @@ ghost use Rattle.std.specs.Prelude.{◌≡◌, ℕ};
 
 use spdm_grammar::ErrorCode;
 
-/// Why a request is refused: the code of its ERROR, and for ResponseTooLarge the length of the answer that
-/// was too long.
+/// Why a request is refused: the code of its ERROR, and for ResponseTooLarge the length of the answer that was too
+/// long.
 #[derive(Clone, Copy, Debug, PartialEq, Eq)]
 pub struct Refused {
     pub code: ErrorCode,

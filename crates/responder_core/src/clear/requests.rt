@@ -30,7 +30,7 @@ use spdm_grammar::names::request_code::GET_MEASUREMENTS;
 use spdm_grammar::{ChunkFault, ChunkView, ErrorCode};
 use std::marker::Model;
 
-/// The requests of the clear part of a connection: how it stands, and the large request that comes by chunks.
+/// The requests of the clear part of a connection: how it stands, and the large request that arrives in chunks.
 #[derive(Drop)]
 pub struct Requests {
     pub(crate) standing: Standing,
@@ -61,7 +61,7 @@ fn code_of_fault(fault: ChunkFault) -> ErrorCode
 }
 
 impl Requests {
-    /// Where no request came yet.
+    /// The initial state, before any request.
     pub fn new(setup: &Setup<'_>) -> Requests
         ensures { (r : RspSetup) → IsSetUp setup.now r → StandsFor result r [] }
     {
@@ -72,7 +72,7 @@ impl Requests {
         }
     }
 
-    /// An equal one where no large answer is pending; none where one is.
+    /// Returns a copy; `None` while a large response is pending.
     pub fn idle_copy(&self) -> Option<Requests>
         ensures same { IfSome result (λ copy. copy ≡ self.now) }
         ensures idle { (at : places.Where) (turns : List Turn) (held : ℕ)
@@ -97,7 +97,7 @@ impl Requests {
         self.whole.as_slice()
     }
 
-    /// The bytes so far of the large request that comes by chunks; none where none does.
+    /// The bytes so far of the large request that arrives in chunks; none where none does.
     pub fn under_way(&self) -> &[u8]
         ensures { (r : RspSetup) (turns : List Turn) → StandsFor self.now r turns
             → result.now ≡ joined (under_way (chunks_of turns)) }
@@ -112,7 +112,7 @@ impl Requests {
         &self.standing
     }
 
-    /// The length that the large request under way tells; 0 where none is.
+    /// The announced length of the large request in progress; 0 if there is none.
     pub fn told(&self) -> u32
         ensures value { (r : RspSetup) (turns : List Turn) → StandsFor self.now r turns
             → result ≡ told_size (under_way (chunks_of turns)) }
@@ -195,9 +195,8 @@ impl Requests {
         }
     }
 
-    /// Handles a request in the clear that is no repeat, beside so many sessions past their handshake. What is
-    /// sent is written in place of what `out` holds. Where it begins a session nothing is sent yet: `begin`
-    /// ends the turn.
+    /// Handles a clear request that is not a repeat; `held` counts established sessions. The response overwrites `out`.
+    /// If the request begins a session nothing is sent yet, and `begin` completes the turn.
     pub fn on_request(
         &mut self,
         setup: &Setup<'_>,
@@ -226,8 +225,8 @@ impl Requests {
         }
     }
 
-    /// Ends the turn of a PSK_EXCHANGE that begins a session, with PSK_EXCHANGE_RSP whole: what is sent for it
-    /// is written in place of what `out` holds, with this handle where it goes by chunks.
+    /// Completes the turn of a PSK_EXCHANGE that begins a session, with the complete PSK_EXCHANGE_RSP. The message sent
+    /// overwrites `out`; it has this handle if it is sent in chunks.
     pub fn begin(&mut self, begun: Begun, answer: &[u8], handle: u8, out: &mut Frame)
         requires { length answer.now ≤ MAX_MESSAGE_SIZE }
         ensures { (r : RspSetup) (turns : List Turn) (held : ℕ) (m : List ℕ) (f : Free)

@@ -10,8 +10,8 @@ use responder_rules::{LargeAnswer, Place, Where};
 use spdm_grammar::Stage;
 use std::marker::Model;
 
-/// How the clear part of a connection stands, but for its large request: the negotiation, and the large
-/// answer that is still to be given.
+/// How the clear part of a connection stands, but for its large request: the negotiation, and the large response that
+/// is still to be given.
 #[derive(Drop)]
 pub struct Standing {
     pub(crate) negotiating: Negotiating,
@@ -27,7 +27,7 @@ impl Model for Standing {
 }
 
 impl Standing {
-    /// Where no request came yet.
+    /// The initial state, before any request.
     pub fn new() -> Standing
         ensures { StandsFor result [] }
     {
@@ -37,7 +37,7 @@ impl Standing {
         }
     }
 
-    /// An equal one where no large answer is pending; none where one is.
+    /// Returns a copy; `None` while a large response is pending.
     pub fn idle_copy(&self) -> Option<Standing>
         ensures same { IfSome result (λ copy. copy ≡ self.now) }
         ensures idle { (at : places.Where) (turns : List Turn) (held : ℕ) → StandsFor self.now turns

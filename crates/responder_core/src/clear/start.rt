@@ -31,7 +31,7 @@ fn req_id_in(exchange: &[u8]) -> u16
     LittleEndian::read_u16(&id)
 }
 
-// The bytes of a summary; none where there is none.
+// The bytes of a summary; `None` if there is none.
 fn summary_bytes(summary: &Option<HashBytes>) -> &[u8]
     ensures { result.now ≡ unwrap_or summary.now [] }
 {
@@ -58,8 +58,8 @@ impl Standing {
         }
     }
 
-    /// The session that a PSK_EXCHANGE begins; its whole PSK_EXCHANGE_RSP, of at most 4,096 bytes, is written in
-    /// place of what `out` holds. The context is at least as long as the hash.
+    /// The session that a PSK_EXCHANGE begins; its whole PSK_EXCHANGE_RSP, of at most 4,096 bytes, overwrites `out`.
+    /// The context is at least as long as the hash.
     pub fn start(
         &self,
         setup: &Setup<'_>,
@@ -97,8 +97,8 @@ impl Standing {
 }
 
 impl ClearPart {
-    /// The session that begins with a clear message; its whole PSK_EXCHANGE_RSP, of at most 4,096 bytes, is written
-    /// in place of what `out` holds. The context is at least as long as the hash.
+    /// The session that begins with a clear message; its whole PSK_EXCHANGE_RSP, of at most 4,096 bytes, overwrites
+    /// `out`. The context is at least as long as the hash.
     pub fn start(
         &self,
         begun: Begun,

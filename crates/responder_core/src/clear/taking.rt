@@ -52,8 +52,8 @@ fn settle(
     }
 }
 
-// A request of this code was taken: CHUNK_GET goes on in the large answer; any other drops it, and begins one
-// where its own answer goes by chunks.
+// A request of this code was taken: CHUNK_GET goes on in the large response; any other drops it, and begins one where
+// its own answer is sent in chunks.
 fn settle_large(large: &mut LargeAnswer, place: &Place, code: u8, answer: &[u8], handle: u8)
     requires { length answer.now ≤ MAX_MESSAGE_SIZE }
     ensures { (r : RspSetup) (p : places.Place) (m : List ℕ) (f : Free) (asked : RequestMessage)
@@ -74,8 +74,8 @@ fn settle_large(large: &mut LargeAnswer, place: &Place, code: u8, answer: &[u8],
 }
 
 impl Standing {
-    /// A request was taken at this place, with this whole answer of at most 4,096 bytes. Where that goes by
-    /// chunks it has this handle.
+    /// A request was taken at this place, with this whole answer of at most 4,096 bytes. Where that is sent in chunks
+    /// it has this handle.
     pub fn take(
         &mut self,
         place: &Place,
@@ -97,7 +97,7 @@ impl Standing {
         settle_large(&mut self.large, place, code_of(request), answer, handle);
     }
 
-    /// PSK_EXCHANGE was taken at this place, with this whole answer of at most 4,096 bytes. Where that goes by
+    /// PSK_EXCHANGE was taken at this place, with this whole answer of at most 4,096 bytes. Where that is sent in
     /// chunks it has this handle.
     pub fn take_exchange(&mut self, place: &Place, answer: &[u8], handle: u8)
         requires { length answer.now ≤ MAX_MESSAGE_SIZE }
@@ -111,7 +111,7 @@ impl Standing {
         settle_large(&mut self.large, place, PSK_EXCHANGE, answer, handle);
     }
 
-    /// A chunk of a large request was taken, and no request with it: it drops the pending large answer.
+    /// A chunk of a large request was taken, and no request with it: it drops the pending large response.
     pub fn take_nothing(&mut self)
         ensures { (turns : List Turn) (t : Turn) → StandsFor self.old turns → is_taken t ≡ true
             → t.effect ≡ NoEffect → StandsFor self.new (t ∷ turns) }

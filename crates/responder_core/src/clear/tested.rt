@@ -26,7 +26,7 @@ use spdm_basis::Frame;
 use spdm_grammar::names::request_code::PSK_EXCHANGE;
 use spdm_grammar::{ErrorCode, Request};
 
-// How long a request may be: the own transfer size, and the own max size where it came by chunks.
+// How long a request may be: the own transfer size, and the own max size where it arrived in chunks.
 fn limit_of(setup: &Setup<'_>, at: Where) -> u32
     ensures { (r : RspSetup) → IsSetUp setup.now r → result ≡ refusal.limit_of r (where_of at) }
 {
@@ -49,8 +49,8 @@ fn is_get_refused(large: &LargeAnswer, request: &Request<'_>) -> bool
     }
 }
 
-// The code for which the answer to a request of this code is refused, or the session that it would begin
-// beside so many that are past their handshake.
+// The error code for a response to a request of this code, or for the session that it would begin; `held` counts
+// established sessions.
 fn answer_fault(place: &Place, code: u8, len: usize, held: u8) -> Option<ErrorCode>
     ensures { (p : places.Place) (answer : List ℕ) → IsPlace place.now p → len ≡ length answer
         → p.past_handshake ≡ held → result ≡ first_of_tests (tests_of_answer p code answer) }
@@ -101,9 +101,9 @@ impl Standing {
         None
     }
 
-    /// Tests a message at a place: the request that it is, or why it is refused. The answer to a request that
-    /// is not refused is written in place of what `answer` holds, but for PSK_EXCHANGE_RSP. A chunk is refused
-    /// for none of the chunks before it. `held` is the number of sessions past their handshake.
+    /// Checks a message at a place: returns the request, or why it is refused. Unless the request is refused, or is
+    /// PSK_EXCHANGE, its response overwrites `answer`. Chunk sequence errors are not checked here. `held` counts
+    /// established sessions.
     pub fn tested<'a>(
         &self,
         place: &Place,

@@ -1,7 +1,7 @@
 use crate::Begun;
 use spdm_grammar::Heard;
 
-/// What is told of a clear message.
+/// What is reported of a clear message.
 #[derive(Clone, Copy, Debug, PartialEq, Eq)]
 pub enum Told {
     /// It was answered, or refused; whether it took a draw.

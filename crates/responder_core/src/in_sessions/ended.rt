@@ -6,8 +6,8 @@ use session_keys::same_bytes;
 use spdm_basis::RecordFrame;
 use std::marker::Model;
 
-/// The last record of the one ended session, with its reply. It lies in place, and holds no memory
-/// of its own. Contracts see whether there is one, and it.
+/// The last record of the one ended session, with its response. Fixed size; never allocates. In contracts, an option of
+/// these.
 #[derive(Drop)]
 pub struct EndedRecord {
     is_there: bool,
@@ -39,7 +39,7 @@ impl EndedRecord {
         }
     }
 
-    /// An equal one.
+    /// Returns a copy.
     pub fn copy(&self) -> EndedRecord
         ensures { result ≡ self.now }
     {
@@ -61,7 +61,7 @@ impl EndedRecord {
         self.is_there && same_bytes(self.sealed.as_slice(), sealed)
     }
 
-    /// The kept reply; no bytes where none is kept.
+    /// The kept reply; empty where none is kept.
     pub fn reply(&self) -> &[u8]
         ensures value { result.now ≡ responder.kept_record self.now }
         ensures fits { length result.now ≤ 4160 }
@@ -83,7 +83,7 @@ impl EndedRecord {
         replace_record(&mut self.reply, reply);
     }
 
-    /// Keeps none any more.
+    /// Forgets the record.
     pub fn clear(&mut self)
         ensures { self.new ≡ None }
     {

@@ -6,8 +6,8 @@ use responder_session::{RecordFree, RspSession, RspTold, Work};
 use spdm_basis::RecordFrame;
 use spdm_grammar::Stage;
 
-/// A live session, with the seconds since its last record and its HeartbeatPeriod in seconds. It
-/// lies in place: it moves once, when it is made.
+/// A live session, with the seconds since its last record and its HeartbeatPeriod in seconds. Fixed size; moved once,
+/// at construction.
 #[derive(Drop)]
 pub struct Live {
     pub(crate) session: RspSession,
@@ -52,7 +52,7 @@ impl Live {
         }
     }
 
-    /// Whether the session is past its handshake.
+    /// Whether the session is established.
     pub fn is_held(&self) -> bool
         ensures { (r : RspSetup) (s : Events) → StandsFor self.now r s
             → result ≡ is_past_handshake (stage_of s) }
@@ -72,8 +72,8 @@ impl Live {
         self.session.stage().is_none()
     }
 
-    /// A record for this session, which is no repeat of an ended one's. The record that answers is
-    /// written in place of what `out` holds, unless this one does not open.
+    /// A record for this session, which is no repeat of an ended one's. The response record overwrites `out`, unless
+    /// this one does not open.
     pub fn take(
         &mut self,
         sealed: &[u8],
@@ -104,7 +104,7 @@ impl Live {
         }
     }
 
-    // Seconds pass: whether the session still stands.
+    // Advances the clock; returns whether the session is still live.
     pub(crate) fn wait(&mut self, seconds: u32) -> bool
         ensures { (r : RspSetup) (s : Events) → StandsFor self.old r s
             → IsWaited r (after_tick s seconds) self.new result }
@@ -120,7 +120,7 @@ impl Live {
         true
     }
 
-    // Writes the reply to the last record, where there is one, in place of what `out` holds.
+    // Overwrites `out` with the reply to the last record, where there is one.
     fn write_reply(&self, out: &mut RecordFrame)
         ensures { (reply : List ℕ) → kept_reply self.now.session ≡ Some reply → out.new ≡ reply }
     {

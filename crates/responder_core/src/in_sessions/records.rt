@@ -11,7 +11,7 @@ use spdm_grammar::names::response_code::ERROR;
 use spdm_grammar::names::spdm_version::{V1_0, V1_2};
 use spdm_grammar::{ErrorCode, Phase};
 
-/// Writes a record of at most 4,160 bytes in place of what `out` holds.
+/// Overwrites `out` with a record of at most 4,160 bytes.
 pub fn replace_record(out: &mut RecordFrame, sealed: &[u8])
     ensures { length sealed.now ≤ 4160 → out.new ≡ sealed.now }
 {
@@ -39,7 +39,7 @@ fn version_in(phase: Phase) -> u8
     }
 }
 
-/// Writes ERROR DecryptError in this phase, in place of what `out` holds.
+/// Overwrites `out` with ERROR DecryptError in this phase.
 pub fn write_decrypt_error(phase: Phase, out: &mut RecordFrame)
     ensures { clear_body out.new ≡ decrypt_error phase }
 {

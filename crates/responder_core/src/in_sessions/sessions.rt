@@ -11,8 +11,8 @@ use spdm_basis::{RecordFrame, SessionId};
 use spdm_grammar::names::request_code::GET_VERSION;
 use spdm_grammar::{Heard, Phase, SessionView};
 
-/// The sessions of a connection: a slot for each RspSessionID from 1 to 4, and the last record of
-/// the one ended session. They lie in place.
+/// The sessions of a connection: a slot for each RspSessionID from 1 to 4, and the last record of the one ended
+/// session. Fixed size; never allocates.
 #[derive(Drop)]
 pub struct Sessions {
     pub(crate) slots: [Option<Live>; 4],
@@ -83,7 +83,7 @@ impl Sessions {
         }
     }
 
-    // A record for the session of this RspSessionID; none where there is none.
+    // A record for the session with this RspSessionID; none where there is none.
     fn take(
         &mut self,
         id: u16,
@@ -112,8 +112,8 @@ impl Sessions {
         }
     }
 
-    // Where END_SESSION ended the session of this RspSessionID, its last record and reply are kept
-    // apart, and its slot is empty.
+    // Where END_SESSION ended the session with this RspSessionID, its last record and reply are kept apart, and its
+    // slot is empty.
     fn settle(&mut self, id: u16, sealed: &[u8], reply: &[u8])
         requires reply { length reply.now ≤ 4160 }
         ensures live { (r : RspSetup) (s : Events) → IsSlotOf (slot_of self.old id) r s
@@ -159,10 +159,9 @@ impl Sessions {
         }
     }
 
-    /// A record came in this phase of the connection, and its answer has these free values. The
-    /// record that answers, or ERROR DecryptError in the clear, is written in place of what `out`
-    /// holds. The nonce has 32 bytes, the opaque data and the reply at most 1,024, and the padding
-    /// at most 16.
+    /// Handles a record received in this phase of the connection; `free` are the values that its response may use. The
+    /// response record, or ERROR DecryptError in the clear, overwrites `out`. The nonce has 32 bytes, the opaque data
+    /// and the reply at most 1,024, and the padding at most 16.
     pub fn on_record(
         &mut self,
         phase: Phase,
@@ -195,7 +194,7 @@ impl Sessions {
         }
     }
 
-    // Seconds pass for the session of this RspSessionID.
+    // Advances the clock of the session with this RspSessionID.
     fn wait(&mut self, id: u16, seconds: u32)
         ensures own { (r : RspSetup) (s : Events) → IsSlotOf (slot_of self.old id) r s
             → IsSlotOf (slot_of self.new id) r (after_tick s seconds) }
@@ -215,8 +214,8 @@ impl Sessions {
         }
     }
 
-    /// Seconds pass: a session past its handshake that has waited for twice its HeartbeatPeriod is
-    /// gone, and its kept reply with it (DSP0274, "HEARTBEAT"). One whose period is 0 is not timed.
+    /// Advances the clock: removes each established session that has waited for twice its HeartbeatPeriod, with its
+    /// stored response (DSP0274, "HEARTBEAT"). A period of 0 disables the timeout.
     pub fn tick(&mut self, seconds: u32)
         ensures { (r : RspSetup) (h : History) → StandsFor self.old r h
             → StandsFor self.new r (Ticked seconds ∷ h) }
@@ -227,7 +226,7 @@ impl Sessions {
         self.wait(4, seconds);
     }
 
-    /// The session of this RspSessionID was dropped unseen, as a capture may show.
+    /// Removes the session with this RspSessionID, as if it timed out without a trace in the capture.
     pub fn drop_unseen(&mut self, id: u16)
         ensures { (r : RspSetup) (h : History) → StandsFor self.old r h
             → StandsFor self.new r (Dropped id ∷ h) }
@@ -235,7 +234,7 @@ impl Sessions {
         self.empty(id);
     }
 
-    // Empties the slot of this RspSessionID.
+    // Empties the slot with this RspSessionID.
     fn empty(&mut self, id: u16)
         ensures own { slot_of self.new id ≡ None }
         ensures others { (i : ℕ) → i ≢ id → slot_of self.new i ≡ slot_of self.old i }
@@ -246,7 +245,7 @@ impl Sessions {
         }
     }
 
-    // A session of this RspSessionID that is in its handshake is gone.
+    // A session with this RspSessionID that is in its handshake is gone.
     pub(crate) fn leave(&mut self, id: u16)
         ensures own { (r : RspSetup) (s : Events) → IsSlotOf (slot_of self.old id) r s
             → IsSlotOf (slot_of self.new id) r (held_part s) }
@@ -266,9 +265,8 @@ impl Sessions {
         }
     }
 
-    /// PSK_EXCHANGE was taken: this session, which moves into its slot, begins under this
-    /// RspSessionID from 1 to 4 with this whole PSK_EXCHANGE_RSP. A session in its handshake is
-    /// gone, and so is the last record of an ended one.
+    /// Installs the session of an accepted PSK_EXCHANGE under this RspSessionID, from 1 to 4, with its complete
+    /// PSK_EXCHANGE_RSP. Removes the session that is in its handshake, and the last record of an ended session.
     pub fn begin(&mut self, id: u16, session: RspSession, answer: &[u8])
         requires least { 1 ≤ id }
         requires most { id ≤ 4 }
@@ -284,7 +282,7 @@ impl Sessions {
         self.put(id, Live::begin(session, answer));
     }
 
-    /// GET_VERSION was taken: all sessions are gone, and so is the last record of an ended one.
+    /// GET_VERSION was accepted: removes all sessions, and the last record of an ended one.
     pub fn clear(&mut self)
         ensures { (r : RspSetup) (h : History) (tag : ℕ) (t : Turn) (d : Draw)
             → takes GET_VERSION t ≡ true → StandsFor self.old r h
@@ -297,8 +295,8 @@ impl Sessions {
         self.ended.clear();
     }
 
-    /// A clear message that begins no session was answered so: GET_VERSION ends all sessions, and nothing else
-    /// changes one.
+    /// Applies the outcome of a clear message that begins no session: GET_VERSION removes all sessions, and nothing
+    /// else changes one.
     pub fn follow(&mut self, heard: Heard)
         ensures { (r : RspSetup) (h : History) (tag : ℕ) (m : List ℕ) (f : Free) (d : Draw)
             → heard ≡ heard_of (on_clear r h tag m f d) → BeginsNone (on_clear r h tag m f d)
@@ -310,7 +308,7 @@ impl Sessions {
         }
     }
 
-    // Whether there is a session of this RspSessionID, past its handshake.
+    // Whether there is a session with this RspSessionID, past its handshake.
     fn is_held(&self, id: u16) -> bool
         ensures { (r : RspSetup) (s : Events) → IsSlotOf (slot_of self.now id) r s
             → result ≡ is_held_in s }
@@ -321,7 +319,7 @@ impl Sessions {
         }
     }
 
-    // The session of this RspSessionID; none where there is none.
+    // The session with this RspSessionID; `None` if there is none.
     pub(crate) fn session(&self, id: u16) -> Option<&Live>
         ensures { MatchOption result (slot_of self.now id ≡ None)
             (λ live. slot_of self.now id ≡ Some live.now) }
@@ -332,8 +330,8 @@ impl Sessions {
         self.slots[usize::from(id) - 1].as_ref()
     }
 
-    /// The session of this RspSessionID as it is shown, where fewer than 2^64 messages came; none where there is
-    /// none.
+    /// A view of the session with this RspSessionID; `None` if there is none. Requires fewer than 2^64 received
+    /// messages.
     pub fn view(&self, id: u16) -> Option<SessionView>
         ensures { (r : RspSetup) (h : History) → StandsFor self.now r h → messages_of h < 2 ^ 64
             → IsViewOf result (session_of id h) }
@@ -344,8 +342,8 @@ impl Sessions {
         }
     }
 
-    /// The application data that the session of this RspSessionID took last; no bytes before the first, and where
-    /// there is no session.
+    /// The application data that the session with this RspSessionID took last; empty before the first, and where there
+    /// is no session.
     pub fn data(&self, id: u16) -> &[u8]
         ensures { (r : RspSetup) (h : History) → StandsFor self.now r h
             → result.now ≡ data_of (session_of id h) }
@@ -356,7 +354,7 @@ impl Sessions {
         }
     }
 
-    /// The handle that is given to the next large answer of the session of this RspSessionID; 0 where there is
+    /// The handle that is given to the next large response of the session with this RspSessionID; 0 where there is
     /// none.
     pub fn next_handle(&self, id: u16) -> u8
         ensures { (r : RspSetup) (h : History) → StandsFor self.now r h
@@ -368,7 +366,7 @@ impl Sessions {
         }
     }
 
-    /// How many sessions are past their handshake.
+    /// The number of established sessions.
     pub fn held(&self) -> u8
         ensures value { (r : RspSetup) (h : History) → StandsFor self.now r h → held_of h ≡ result }
         ensures most { result ≤ 4 }
@@ -379,7 +377,7 @@ impl Sessions {
             + one_if(self.is_held(4))
     }
 
-    /// The least RspSessionID that no session past its handshake has; 4 where all four have one.
+    /// The least RspSessionID without an established session; 4 if all four have one.
     pub fn free_id(&self) -> u16
         ensures value { (r : RspSetup) (h : History) → StandsFor self.now r h → result ≡ free_id h }
         ensures least { 1 ≤ result }
@@ -397,7 +395,7 @@ impl Sessions {
         4
     }
 
-    // Puts a session into the slot of this RspSessionID.
+    // Puts a session into the slot with this RspSessionID.
     fn put(&mut self, id: u16, live: Live)
         requires least { 1 ≤ id }
         requires most { id ≤ 4 }

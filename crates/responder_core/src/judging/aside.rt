@@ -4,7 +4,7 @@ impl Sessions {
     ghost use Rattle.std.specs.Prelude.{◌≡◌, ◌≢◌, ℕ, None};
     ghost use Rattle.responder_core.specs.Sessions.{slot_of};
 
-    // Takes the session of this RspSessionID out of its slot; none where there is none.
+    // Takes the session with this RspSessionID out of its slot; `None` if there is none.
     fn take_out(&mut self, id: u16) -> Option<Live>
         ensures taken { result ≡ slot_of self.old id }
         ensures own { slot_of self.new id ≡ None }
@@ -31,7 +31,7 @@ impl Sessions {
     }
 }
 
-// A session that is set aside for a while, for one who judges.
+// A session that is set aside for a while; used only by the checker.
 impl Connection {
     ghost use Rattle.std.specs.Prelude.{◌≡◌, ◌∷◌, ℕ};
     ghost use Rattle.responder_core.specs.Connected.{StandsFor};
@@ -40,7 +40,7 @@ impl Connection {
     ghost use Rattle.responder_machine.specs.History.Entry.{Dropped};
     ghost use Rattle.responder_machine.specs.Setup.{RspSetup};
 
-    /// Sets the session of this RspSessionID aside, if there is one: what is left stands as if it had been dropped
+    /// Sets the session with this RspSessionID aside, if there is one: what is left stands as if it had been dropped
     /// unseen.
     pub fn set_aside(&mut self, id: u16) -> Option<Live>
         ensures stands { (r : RspSetup) (h : History) → StandsFor self.old r h

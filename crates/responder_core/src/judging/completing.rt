@@ -13,8 +13,8 @@ impl Requests {
     ghost use Rattle.responder_core.specs.Coming.{StandsFor};
     ghost use Rattle.responder_core.specs.Gathering.{IsCompletedBy};
 
-    /// Whether a chunk completes the large request that comes by chunks; that is then written in place of what
-    /// `whole` holds. Nothing changes.
+    /// Whether a chunk completes the large request that arrives in chunks; that request then overwrites `whole`.
+    /// Nothing changes.
     pub fn completes(&self, chunk: ChunkView<'_>, whole: &mut Frame) -> bool
         ensures { (r : RspSetup) (turns : List Turn) → StandsFor self.now r turns → IsCompletedBy
             (collected r.max (chunks_of turns) (chunk_message chunk.entry)) result whole.new }
@@ -38,8 +38,8 @@ impl Connection {
     ghost use Rattle.responder_core.specs.Connected.{StandsFor};
     ghost use Rattle.responder_core.specs.Gathering.{IsCompletedBy};
 
-    /// Whether a chunk completes the large request that comes by chunks in the clear; that is then written in
-    /// place of what `whole` holds. Nothing changes.
+    /// Whether a chunk completes the large request that arrives in chunks in the clear; that request then overwrites
+    /// `whole`. Nothing changes.
     pub fn completes(&self, chunk: ChunkView<'_>, whole: &mut Frame) -> bool
         ensures { (r : RspSetup) (h : History) → StandsFor self.now r h → IsCompletedBy
             (collected r.max (chunks_of (clear_turns h)) (chunk_message chunk.entry)) result

@@ -1,7 +1,7 @@
 use crate::{ClearPart, Connection, Live, Requests, Sessions, Standing};
 
-// The clear part without the MEASUREMENTS that were to go by LargeResponse in answer to what was taken
-// last: they were never seen.
+// The clear part without the MEASUREMENTS that were to go by LargeResponse in answer to what was taken last: they were
+// never seen.
 impl Standing {
     ghost use Rattle.std.specs.Prelude.{◌∷◌, List};
     ghost use Rattle.responder_rules.specs.LargeAnswer.{turn_unseen};
@@ -95,7 +95,7 @@ impl Sessions {
     ghost use Rattle.responder_core.specs.Pending.{history_unseen};
     ghost use Rattle.responder_core.specs.Sessions.{StandsFor, slot_of};
 
-    // The session of this RspSessionID.
+    // The session with this RspSessionID.
     fn forget_at(&mut self, id: u16)
         ensures own { (r : RspSetup) (s : Events) → is_some (large_of (turns_of s)) ≡ true
             → last_takes GET_MEASUREMENTS (turns_of s) ≡ true → IsSlotOf (slot_of self.old id) r s
@@ -120,7 +120,7 @@ impl Sessions {
         self.forget_at(id);
     }
 
-    // The session of this RspSessionID.
+    // The session with this RspSessionID.
     fn uncount_at(&mut self, id: u16)
         ensures own { (r : RspSetup) (s e : Events) → sessions.IsUncounted s e
             → IsSlotOf (slot_of self.old id) r s → IsSlotOf (slot_of self.new id) r e }
@@ -136,7 +136,7 @@ impl Sessions {
     }
 }
 
-// A request whose large answer was never seen, for one who judges it.
+// A request whose large response was never seen; used only by the checker.
 impl Connection {
     ghost use Rattle.std.specs.Prelude.{◌≡◌, ◌∷◌, ℕ, is_some, true};
     ghost use Rattle.responder_rules.specs.LargeAnswer.{last_takes, turn_unseen};
@@ -151,8 +151,8 @@ impl Connection {
     ghost use Rattle.responder_core.specs.Pending.{GoesLarge, IsUncounted, history_unseen};
     ghost use Rattle.spdm_grammar.specs.declared.names.request_code.TheConstants.{GET_MEASUREMENTS};
 
-    /// The MEASUREMENTS that were to go by LargeResponse in answer to the clear message that came last were never
-    /// seen: they stand with no bytes, are not pending, and took no handle.
+    /// The MEASUREMENTS that were to go by LargeResponse in answer to the clear message that came last were never seen:
+    /// they stand with no bytes, are not pending, and took no handle.
     pub fn forget_clear(&mut self)
         ensures { (r : RspSetup) (h : History) (tag : ℕ) (t : Turn) (d : Draw) → GoesLarge t
             → StandsFor self.old r (Clear tag t d ∷ h)
@@ -161,7 +161,7 @@ impl Connection {
         self.clear.forget();
     }
 
-    /// The MEASUREMENTS that went by LargeResponse last in the session of this RspSessionID were never seen, though
+    /// The MEASUREMENTS that went by LargeResponse last in the session with this RspSessionID were never seen, though
     /// chunks of them may have been given: they stand with no bytes, are not pending, and took no handle.
     pub fn forget_in(&mut self, id: u16)
         ensures { (r : RspSetup) (h : History)
@@ -172,8 +172,8 @@ impl Connection {
         self.sessions.forget(id);
     }
 
-    /// A large answer of the session of this RspSessionID was never seen, and other messages were taken there since:
-    /// it took no handle.
+    /// A large response of the session with this RspSessionID was never seen, and other messages were taken there
+    /// since: it took no handle.
     pub fn uncount_in(&mut self, id: u16)
         ensures { (r : RspSetup) (h k : History) → IsUncounted id h k → StandsFor self.old r h
             → StandsFor self.new r k }

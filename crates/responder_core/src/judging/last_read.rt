@@ -11,8 +11,7 @@ impl Sessions {
     ghost use Rattle.responder_core.specs.Sessions.{StandsFor};
 
     // Whether these are the last record of the session that it names and its reply, and both open under the present
-    // keys, by the numbers before the next ones. Their inner messages are then written in place of what `inner` and
-    // `reply` hold.
+    // keys, by the numbers before the next ones. Their inner messages then overwrite `inner` and `reply`.
     fn read_last(
         &self,
         sealed: &[u8],
@@ -34,7 +33,7 @@ impl Sessions {
     }
 }
 
-// The last record of a session read again, for one who judges what came upon its repeat.
+// The last record of a session read again, to judge the response to its repeat; used only by the checker.
 impl Connection {
     ghost use Rattle.std.specs.Prelude.{◌≡◌, true};
     ghost use Rattle.responder_machine.specs.History.{History};
@@ -44,8 +43,8 @@ impl Connection {
     ghost use Rattle.responder_core.specs.Connected.{StandsFor};
 
     /// Whether these are the last record of the session that it names and its reply, and both open under the present
-    /// keys of that session, by the numbers before the next ones: so it is unless the record changed a key. Their
-    /// inner messages are then written in place of what `inner` and `reply` hold. Nothing changes.
+    /// keys of that session, by the numbers before the next ones: so it is unless the record changed a key. Their inner
+    /// messages then overwrite `inner` and `reply`. Nothing changes.
     pub fn read_last(
         &self,
         sealed: &[u8],

@@ -31,7 +31,7 @@ impl Sessions {
     ghost use Rattle.responder_core.specs.Live.{IsSlotOf};
     ghost use Rattle.responder_core.specs.Sessions.{StandsFor, slot_of};
 
-    // The session of this RspSessionID.
+    // The session with this RspSessionID.
     fn make_at(&mut self, id: u16, answer: &[u8], handle: u8)
         requires { length answer.now ≤ MAX_MESSAGE_SIZE }
         ensures own { (r : RspSetup) (s : Events)
@@ -61,7 +61,7 @@ impl Sessions {
     }
 }
 
-// A large answer whose first chunk is asked for late, for one who judges it.
+// A large response whose first chunk is asked for late; used only by the checker.
 impl Connection {
     ghost use Rattle.std.specs.Prelude.{◌≡◌, ◌≤◌, ◌<◌, ◌+◌, length};
     ghost use Rattle.responder_machine.specs.History.{History, ended_of};
@@ -79,16 +79,16 @@ impl Connection {
         self.sessions.ended.copy()
     }
 
-    /// Puts a last record of the ended session in the place of the one that is kept, or of none: PSK_EXCHANGE that
-    /// is handed in late forgets it, and where it came before END_SESSION it does not.
+    /// Puts a last record of the ended session in the place of the one that is kept, or of none: PSK_EXCHANGE that is
+    /// handed in late forgets it, and where it came before END_SESSION it does not.
     pub fn put_ended(&mut self, last: EndedRecord)
         ensures { self.new ≡ with_ended self.old last }
     {
         self.sessions.ended = last;
     }
 
-    /// The MEASUREMENTS that answer the newest record of the session of this RspSessionID were never seen, and are
-    /// pending again: these bytes stand for them, which go by chunks under this handle, and no chunk of them was
+    /// The MEASUREMENTS that answer the newest record of the session with this RspSessionID were never seen, and are
+    /// pending again: these bytes stand for them, which are sent in chunks under this handle, and no chunk of them was
     /// given. `forget_in` undoes it.
     pub fn make_pending(&mut self, id: u16, answer: &[u8], handle: u8)
         requires { length answer.now ≤ MAX_MESSAGE_SIZE }

@@ -15,8 +15,8 @@ impl Sessions {
     ghost use Rattle.responder_core.specs.OwnAnswers.{IsNextKey, IsReplyKey, belongs_in, opens_in};
     ghost use Rattle.responder_core.specs.Sessions.{StandsFor};
 
-    /// Whether a record opens as the next one of the session that it names; its inner message is
-    /// then written in place of what `inner` holds. Nothing changes.
+    /// Whether a record opens as the next one of the session that it names; its inner message then overwrites `inner`.
+    /// Nothing changes.
     pub fn reads_request(&self, sealed: &[u8], inner: &mut RecordFrame) -> bool
         ensures opens { (r : RspSetup) (h : History) → StandsFor self.now r h
             → result ≡ opens_in r (session_of (id_in_record sealed.now) h) sealed.now }
@@ -48,8 +48,7 @@ impl Sessions {
         self.ended.is_repeat(sealed)
     }
 
-    /// Whether a record is the last one that the session that it names took, or opens in it. What
-    /// `inner` holds before and after does not matter.
+    /// Whether a record is the last one that the session that it names took, or opens in it. `inner` is scratch space.
     pub fn belongs(&self, sealed: &[u8], inner: &mut RecordFrame) -> bool
         ensures { (r : RspSetup) (h : History) → StandsFor self.now r h
             → result ≡ belongs_in r (session_of (id_in_record sealed.now) h) sealed.now }
@@ -60,8 +59,8 @@ impl Sessions {
         }
     }
 
-    /// The key of the next answer of the session that a record names; none where there is no
-    /// session, and where its key has sealed 65,536 records.
+    /// The key of the next answer of the session that a record names; `None` where there is no session, and where its
+    /// key has sealed 65,536 records.
     pub fn next_answer_key(&self, sealed: &[u8]) -> Option<AnswerKey>
         ensures { (r : RspSetup) (h : History) → StandsFor self.now r h
             → IsNextKey r (session_of (id_in_record sealed.now) h) result }
@@ -72,9 +71,8 @@ impl Sessions {
         }
     }
 
-    /// The key of the answer to this record, which depends on no free value; its inner message is
-    /// written in place of what `inner` holds. None where the session that it names does not open
-    /// it.
+    /// The key of the answer to this record, which depends on no free value; its inner message then overwrites `inner`.
+    /// `None` where the session that it names does not open it.
     pub fn answer_key(&self, request: &[u8], inner: &mut RecordFrame) -> Option<AnswerKey>
         ensures { (r : RspSetup) (h : History) (f : Free) → messages_of h < 2 ^ 64 - 1
             → StandsFor self.now r h
@@ -99,8 +97,8 @@ impl Connection {
     ghost use Rattle.responder_core.specs.Connected.{StandsFor};
     ghost use Rattle.responder_core.specs.OwnAnswers.{IsNextKey, IsReplyKey, belongs_in, opens_in};
 
-    /// Whether a record opens as the next one of the session that it names; its inner message is then written in
-    /// place of what `inner` holds. Nothing changes.
+    /// Whether a record opens as the next one of the session that it names; its inner message then overwrites `inner`.
+    /// Nothing changes.
     pub fn reads_request(&self, sealed: &[u8], inner: &mut RecordFrame) -> bool
         ensures opens { (r : RspSetup) (h : History) → StandsFor self.now r h
             → result ≡ opens_in r (session_of (id_in_record sealed.now) h) sealed.now }
@@ -126,8 +124,7 @@ impl Connection {
         self.sessions.repeats_ended(sealed)
     }
 
-    /// Whether a record is the last one that the session that it names took, or opens in it. What `inner` holds
-    /// before and after does not matter.
+    /// Whether a record is the last one that the session that it names took, or opens in it. `inner` is scratch space.
     pub fn belongs(&self, sealed: &[u8], inner: &mut RecordFrame) -> bool
         ensures { (r : RspSetup) (h : History) → StandsFor self.now r h
             → result ≡ belongs_in r (session_of (id_in_record sealed.now) h) sealed.now }
@@ -135,8 +132,8 @@ impl Connection {
         self.sessions.belongs(sealed, inner)
     }
 
-    /// The key of the next answer of the session that a record names; none where there is no session, and where
-    /// its key has sealed 65,536 records.
+    /// The key of the next answer of the session that a record names; `None` where there is no session, and where its
+    /// key has sealed 65,536 records.
     pub fn next_answer_key(&self, sealed: &[u8]) -> Option<AnswerKey>
         ensures { (r : RspSetup) (h : History) → StandsFor self.now r h
             → IsNextKey r (session_of (id_in_record sealed.now) h) result }
@@ -144,9 +141,8 @@ impl Connection {
         self.sessions.next_answer_key(sealed)
     }
 
-    /// The key of the answer to this record, which depends on no free value; its inner message is written in
-    /// place of what `inner` holds. None where the session that it names does not open it. Fewer than 2^64 - 1
-    /// messages came.
+    /// The key of the answer to this record, which depends on no free value; its inner message then overwrites `inner`.
+    /// `None` where the session that it names does not open it. Fewer than 2^64 - 1 messages came.
     pub fn answer_key(&self, request: &[u8], inner: &mut RecordFrame) -> Option<AnswerKey>
         ensures { (r : RspSetup) (h : History) (f : Free) → messages_of h < 2 ^ 64 - 1
             → StandsFor self.now r h

@@ -40,7 +40,7 @@ impl Sessions {
     ghost use Rattle.responder_core.specs.Pending.{history_with};
     ghost use Rattle.responder_core.specs.Sessions.{StandsFor, slot_of};
 
-    // The MEASUREMENTS that are pending in the session of this RspSessionID get these bytes.
+    // The MEASUREMENTS that are pending in the session with this RspSessionID get these bytes.
     fn put_at(&mut self, id: u16, answer: &[u8])
         requires { length answer.now ≤ MAX_MESSAGE_SIZE }
         ensures own { (r : RspSetup) (s : Events)
@@ -59,8 +59,8 @@ impl Sessions {
         }
     }
 
-    /// The MEASUREMENTS that are pending in the session of this RspSessionID get these bytes, which
-    /// go by chunks; as many chunks of them are given as were.
+    /// The MEASUREMENTS that are pending in the session with this RspSessionID get these bytes, which are sent in
+    /// chunks; as many chunks of them are given as were.
     pub fn put_pending(&mut self, id: u16, answer: &[u8])
         requires { length answer.now ≤ MAX_MESSAGE_SIZE }
         ensures { (r : RspSetup) (h : History)
@@ -73,7 +73,7 @@ impl Sessions {
     }
 }
 
-// A large answer in a session whose bytes come chunk by chunk, for one who judges it.
+// A large response in a session whose bytes come chunk by chunk; used only by the checker.
 impl Connection {
     ghost use Rattle.std.specs.Prelude.{◌≡◌, ◌≤◌, ◌<◌, ◌+◌, length, true};
     ghost use Rattle.responder_rules.specs.LargeAnswer.{last_takes};
@@ -87,8 +87,8 @@ impl Connection {
     ghost use Rattle.responder_core.specs.Connected.{StandsFor};
     ghost use Rattle.responder_core.specs.Pending.{history_with};
 
-    /// The MEASUREMENTS that are pending in the session of this RspSessionID get these bytes, which go by chunks;
-    /// as many chunks of them are given as were. They need not be as long as those before.
+    /// The MEASUREMENTS that are pending in the session with this RspSessionID get these bytes, which are sent in
+    /// chunks; as many chunks of them are given as were. They need not be as long as those before.
     pub fn put_pending(&mut self, id: u16, answer: &[u8])
         requires { length answer.now ≤ MAX_MESSAGE_SIZE }
         ensures { (r : RspSetup) (h : History)

@@ -25,7 +25,7 @@ impl Sessions {
     ghost use Rattle.responder_core.specs.SeenTerms.{AreTermsIn};
     ghost use Rattle.responder_core.specs.Sessions.{StandsFor};
 
-    /// What the session of this RspSessionID stands under; none where there is none.
+    /// What the session with this RspSessionID stands under; `None` if there is none.
     pub fn terms(&self, id: u16) -> Option<SessionTerms>
         ensures { (r : RspSetup) (h : History) → StandsFor self.now r h
             → AreTermsIn result (session_of id h) }
@@ -66,7 +66,7 @@ impl Connection {
         self.clear.requests().told()
     }
 
-    /// What the session of this RspSessionID stands under; none where there is none.
+    /// What the session with this RspSessionID stands under; `None` if there is none.
     pub fn session_terms(&self, id: u16) -> Option<SessionTerms>
         ensures { (r : RspSetup) (h : History) → StandsFor self.now r h
             → AreTermsIn result (session_of id h) }

@@ -6,7 +6,7 @@ impl Live {
     ghost use Rattle.responder_machine.specs.Setup.{RspSetup};
     ghost use Rattle.responder_core.specs.Live.{StandsFor};
 
-    /// Whether the session is timed: it is past its handshake, and its HeartbeatPeriod is not 0.
+    /// Whether the session is timed: it is established, and its HeartbeatPeriod is not 0.
     pub fn is_timed(&self) -> bool
         ensures { (r : RspSetup) (s : Events) → StandsFor self.now r s → result ≡ is_timed s }
     {
@@ -21,7 +21,7 @@ impl Sessions {
     ghost use Rattle.responder_machine.specs.Setup.{RspSetup};
     ghost use Rattle.responder_core.specs.Sessions.{StandsFor, is_timed_in};
 
-    /// Whether there is a session of this RspSessionID that is timed, and so may be dropped unseen.
+    /// Whether there is a session with this RspSessionID that is timed, and so may be dropped unseen.
     pub fn is_timed(&self, id: u16) -> bool
         ensures { (r : RspSetup) (h : History) → StandsFor self.now r h
             → result ≡ is_timed_in (session_of id h) }
@@ -41,7 +41,7 @@ impl Connection {
     ghost use Rattle.responder_core.specs.Connected.{StandsFor};
     ghost use Rattle.responder_core.specs.Sessions.{is_timed_in};
 
-    /// Whether there is a session of this RspSessionID that is timed, and so may be dropped unseen.
+    /// Whether there is a session with this RspSessionID that is timed, and so may be dropped unseen.
     pub fn is_timed(&self, id: u16) -> bool
         ensures { (r : RspSetup) (h : History) → StandsFor self.now r h
             → result ≡ is_timed_in (session_of id h) }

@@ -5,6 +5,6 @@ use spdm_grammar::Heard;
 pub struct Tried {
     /// What would be told of it.
     pub heard: Heard,
-    /// Whether a large answer would be pending behind it.
+    /// Whether a large response would be pending after it.
     pub pending: bool,
 }

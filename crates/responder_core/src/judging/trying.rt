@@ -15,8 +15,8 @@ impl ClearPart {
     ghost use Rattle.responder_core.specs.Free.{IsFree};
     ghost use Rattle.responder_core.specs.Setup.{IsSetUp};
 
-    // A clear message came with a tag, beside so many sessions past their handshake. The message that answers it
-    // is written in place of what `out` holds. The session that it may begin is not kept.
+    // Handles a clear message with its tag; `held` counts established sessions. The response overwrites `out`. A
+    // session that the message begins is not kept.
     fn answer(
         &mut self,
         setup: &Setup<'_>,
@@ -42,7 +42,7 @@ impl ClearPart {
     }
 }
 
-// What would come of a message, for one who judges it.
+// What would come of a message; used only by the checker.
 impl Connection {
     ghost use Rattle.std.specs.Prelude.{◌≡◌, true, false, IfSome, is_some};
     ghost use Rattle.responder_machine.specs.Answer.{Free};
@@ -59,8 +59,8 @@ impl Connection {
     ghost use Rattle.responder_core.specs.Setup.{IsSetUp};
     ghost use Rattle.responder_core.specs.Trying.{IsTried};
 
-    /// What would come of a clear message with a tag, whose answer has these free values. The message that would
-    /// answer it is written in place of what `out` holds. Nothing changes. None where a large answer is pending.
+    /// The outcome that a clear message with this tag would have, with these free values for its response. The response
+    /// that would be sent overwrites `out`. Nothing changes. `None` while a large response is pending.
     pub fn would_answer(
         &self,
         setup: &Setup<'_>,

@@ -1,6 +1,6 @@
 use crate::{ClearPart, Connection, Requests, Sessions, Standing};
 
-// How the clear part stands behind a request that was taken, whose large answer was never seen.
+// How the clear part follows a request that was taken, whose large response was never seen.
 impl Standing {
     ghost use Rattle.std.specs.Prelude.{◌∷◌, List};
     ghost use Rattle.responder_machine.specs.Turn.{Turn};
@@ -53,7 +53,7 @@ impl ClearPart {
     }
 }
 
-// The sessions behind it: PSK_EXCHANGE ends the one in its handshake, and begins none.
+// The sessions after it: PSK_EXCHANGE ends the one in its handshake, and begins none.
 impl Sessions {
     ghost use Rattle.std.specs.Prelude.{◌≡◌, ◌∷◌, ℕ, true};
     ghost use Rattle.responder_machine.specs.History.{History};
@@ -88,7 +88,7 @@ impl Sessions {
     }
 }
 
-// A request whose large answer was never seen, for one who judges it.
+// A request whose large response was never seen; used only by the checker.
 impl Connection {
     ghost use Rattle.std.specs.Prelude.{◌≤◌, ◌∷◌, length};
     ghost use Rattle.responder_machine.specs.History.{History};
@@ -100,10 +100,10 @@ impl Connection {
     ghost use Rattle.responder_core.specs.Connected.{StandsFor};
     ghost use Rattle.responder_core.specs.UnseenRequests.{IsTurnOf, IsUnseenTurn};
 
-    /// A request came in the clear with a tag, and got this LargeResponse; its answer was never seen. It is
-    /// GET_MEASUREMENTS, or PSK_EXCHANGE where `exchange` tells so, whole in one message. It is kept with its
-    /// reply, no large answer is pending, and PSK_EXCHANGE ends a handshake and begins no session. The message
-    /// and the reply have at most 4,096 bytes.
+    /// A clear request with this tag got this LargeResponse, and its response was never seen. The request is unchunked
+    /// GET_MEASUREMENTS, or PSK_EXCHANGE if `exchange` is set. It is stored with its response, no large response is
+    /// pending, and PSK_EXCHANGE removes a session in its handshake and begins none. Message and response have at most
+    /// 4,096 bytes.
     pub fn pass_unseen(&mut self, tag: u8, message: &[u8], reply: &[u8], exchange: bool)
         ensures { (r : RspSetup) (h : History) (t : Turn) (d : Draw)
             → length message.now ≤ MAX_MESSAGE_SIZE → length reply.now ≤ MAX_MESSAGE_SIZE

@@ -1,4 +1,4 @@
--- Where it is not copied, a large answer is pending.
+-- Where it is not copied, a large response is pending.
 use Rattle.std.proofs.Common.{◌∙◌, ap, sym, subst, is_some}
 use Rattle.std.proofs.lemmas.Bool.{false≢true}
 use Rattle.responder_machine.specs.History.{clear_turns}
