@@ -1,4 +1,4 @@
--- Two responders that are alike towards an end point do alike with a packet from it.
+-- Two responders that are alike towards an endpoint do alike with a packet from it.
 use Rattle.std.proofs.Common.{◌≡◌, ℕ, List, [], ◌∷◌, Bool, true, false, Option, Some, None, refl, sym, ap, ◌∙◌, subst, filter, if◌then◌else◌, ◌==◌, ◌||◌, not}
 use Rattle.mctp_framing.proofs.OwnPackets.{gathered-alike}
 use Rattle.mctp_framing.specs.Cutting.{RouteFields}

@@ -1,4 +1,4 @@
--- The request that bytes spell has the code that stands in them.
+-- The request that bytes encode has the code that stands in them.
 use Rattle.std.proofs.Common.{refl, ◌∙◌, ◌≡◌, ℕ, ◌+◌, List, [], ◌∷◌, true, false, Bool, Option, Some, None, Result, Ok, Err, ap, sym, subst, arith}
 use Rattle.std.proofs.Math.Bool.{or-false}
 use Rattle.std.proofs.lemmas.Bool.{false≢true}
@@ -72,7 +72,7 @@ gives_eq n k layout g is = subst (λ code. Gives code layout) (same n k is) g
     same : (n k : ℕ) → (n == k) ≡ true → k ≡ n
     same n k is = grind (arith, nat_tests)
 
--- One test of a code: the fields of the code that it asks for, or what stands behind it.
+-- One test of a code: the fields of the code that it asks for, or what follows it.
 gives_either : (n k : ℕ) (x : Bool) (a b : Layout RequestMessage) → (n == k) ≡ x → Gives k a → ((n == k) ≡ false → Gives n b) → Gives n (if x then a else b)
 gives_either n k true a b is g h = gives_eq n k a g is
 gives_either n k false a b is g h = h is
@@ -130,7 +130,7 @@ last_of_codes false b84 be1 be3 be0 be6 be7 be8 be9 bec b85 b86 is z84 ze1 ze3 z
     others : (be1 be3 be0 be6 be7 be8 be9 bec b85 b86 : Bool) → be1 ≡ false → be3 ≡ false → be0 ≡ false → be6 ≡ false → be7 ≡ false → be8 ≡ false → be9 ≡ false → bec ≡ false → b85 ≡ false → (be1 || (be3 || (be0 || (be6 || (be7 || (be8 || (be9 || (bec || (b85 || (b86 || false)))))))))) ≡ b86
     others be1 be3 be0 be6 be7 be8 be9 bec b85 b86 ze1 ze3 ze0 ze6 ze7 ze8 ze9 zec z85 = rw (ze1, ze3, ze0, ze6, ze7, ze8, ze9, zec, z85) (or-false b86)
 
--- The fields behind a code give requests of that code.
+-- The fields after a code give requests of that code.
 pub body-code : (hash_len version code : ℕ) → is_request_code version code ≡ true → Gives code (request_body hash_len code)
 unfolding request_body
 body-code hash_len version code is =
@@ -170,7 +170,7 @@ number_at-cons x rest at = rw (not_short x rest) refl
 then-at : {A : Type 0} (code : ℕ) (x : Result A Malformed) (a : A) (next : A → Result RequestMessage Malformed) → x ≡ Ok a → HasCode code (value_of (next a)) → HasCode code (value_of (and_then x next))
 then-at code x a next is h = subst (λ y. HasCode code (value_of (and_then y next))) (sym is) h
 
--- The reading behind SPDMVersion, and behind the code.
+-- The reading after SPDMVersion, and after the code.
 behind_version : (size x y : ℕ) (rest : List ℕ) → HasCode (little_number 1 (take 1 (y ∷ rest))) (value_of (read (Number 1 (is_request_code x) (λ code. request_body size code)) (record { rest = y ∷ rest; at = 0 + 1 })))
 behind_version size x y rest =
     then-at (little_number 1 (take 1 (y ∷ rest))) (number_at 1 (record { rest = y ∷ rest; at = 0 + 1 })) (little_number 1 (take 1 (y ∷ rest)), record { rest = rest; at = 0 + 1 + 1 }) _ (number_at-cons y rest (0 + 1))

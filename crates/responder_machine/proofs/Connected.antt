@@ -5,7 +5,7 @@ use Rattle.responder_machine.specs.Responding.{Connection, changed, changed_if, 
 use Rattle.responder_machine.specs.Setup.{RspSetup}
 use Rattle.spdm_machine.proofs.Members.{IsIn, in_map}
 
--- Each connection has an end point of its own.
+-- Each connection has an endpoint of its own.
 abbrev pub PeersDiffer : List Connection → Type 0
 PeersDiffer [] = Unit {0}
 PeersDiffer (c ∷ others) = ((d : Connection) → IsIn others d → d.setup.peer ≡ c.setup.peer → ⊥) × PeersDiffer others

@@ -40,7 +40,7 @@ before_tick (v ∷ s) seconds h =
     either (not (is_timed (v ∷ s))) (v ∷ s) _ (in_handshake (v ∷ s)) (λ x. x)
     (either (nat_le (2 * period_of (v ∷ s)) (idle_of (v ∷ s) + seconds)) [] (Waited seconds ∷ v ∷ s) (in_handshake (v ∷ s)) (λ x. absurd (false≢true x)) (λ x. x)) h
 
--- A session that an exchange leaves is past its handshake.
+-- A session that an exchange leaves is established.
 held : (live past : Bool) (s : Events) → is_live s ≡ live → is_past_handshake (stage_of s) ≡ past → in_handshake (if past then s else []) ≡ true → ⊥
 held live false s x y h = false≢true h
 held live true s x y h = false≢true (sym (none (is_live s)) ∙ sym (ap (λ p. is_live s && not p) y) ∙ h)

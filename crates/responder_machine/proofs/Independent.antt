@@ -1,4 +1,4 @@
--- A whole responder is towards each end point what a responder is that knows it alone.
+-- A whole responder is towards each endpoint what a responder is that knows it alone.
 use Rattle.std.proofs.Common.{◌≡◌, ◌≢◌, ℕ, List, [], ◌∷◌, ◌++◌, Bool, true, false, Option, Some, None, cond, map, not, ◌&&◌, ◌==◌, refl, sym, ap, ◌∙◌, subst, eqb-true, eq-eqb, true≢false}
 use Rattle.std.proofs.lemmas.List.{append-nil}
 use Rattle.std.specs.Option.{option_map, option_to_list}
@@ -32,7 +32,7 @@ mapped_by : (eid : ℕ) (change : History → History) (d : Connection) (others 
 mapped_by eid change d others true e next = rw e refl
 mapped_by eid change d others false e next = rw e next
 
--- A change of all histories changes that of this end point.
+-- A change of all histories changes that of this endpoint.
 mapped : (eid : ℕ) (change : History → History) (cs : List Connection) → connection_of eid (map (changed change) cs) ≡ option_map (changed change) (connection_of eid cs)
 mapped eid change [] = refl
 mapped eid change (d ∷ others) = mapped_by eid change d others (d.setup.peer == eid) refl (mapped eid change others)

@@ -1,4 +1,4 @@
--- A refused request in a record or by chunks leaves the rest of the connection.
+-- A refused request in a record or in chunks leaves the rest of the connection.
 use Rattle.std.proofs.Common.{refl, ◌∙◌, ◌≡◌, ℕ, List, [], ◌∷◌, true, false, Bool, Option, Some, ap, sym, subst}
 use Rattle.std.specs.Prelude.{if◌then◌else◌}
 use Rattle.spdm_grammar.specs.Message.{ChunkMessage}

@@ -1,4 +1,4 @@
--- A packet from one end point changes nothing of what a responder is towards another.
+-- A packet from one endpoint changes nothing of what a responder is towards another.
 use Rattle.std.proofs.Common.{◌≡◌, ◌≢◌, ℕ, List, [], ◌∷◌, Bool, true, false, Option, Some, None, refl, sym, ◌∙◌, subst, filter, if◌then◌else◌, ◌==◌, ◌&&◌, not, slice_index, eqb-true, ne_eqb}
 use Rattle.mctp_framing.specs.Cutting.{RouteFields}
 use Rattle.mctp_framing.specs.Gathering.{Gathered, is_ours}
@@ -37,7 +37,7 @@ found_by eid true c d others e is next = subst (λ (x : Connection). x.setup.pee
     some_same x y e = cc
 found_by eid false c d others e is next = next is
 
--- The connection that is found has the end point.
+-- The connection that is found has the endpoint.
 pub found : (eid : ℕ) (connections : List Connection) (d : Connection) → connection_of eid connections ≡ Some d → d.setup.peer ≡ eid
 found eid [] d is = absurd (none_some d is)
   where

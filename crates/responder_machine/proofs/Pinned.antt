@@ -1,5 +1,5 @@
--- What the rows of the responder's table are computed over: a responder and a requester, their messages, and
--- made-up places. No tag is computed in the rows.
+-- What the rows of the responder's table are computed over: a responder and a requester, their messages, and made-up
+-- places. No tag is computed in the rows.
 use Rattle.std.proofs.Common.{◌≡◌, ◌+◌, ℕ, List, [], ◌∷◌, drop, take, true, Option, Some, None}
 use Rattle.std.specs.Prelude.{codes, map, replicate}
 use Rattle.measurements.specs.Blocks.{up_to}
@@ -109,8 +109,8 @@ chunk_send = canonical_request (ChunkSend only_chunk)
 abbrev pub chunk_get : ℕ → ℕ → List ℕ
 chunk_get handle number = canonical_request (ChunkGet handle number)
 
--- The first four bytes of a request, with another SPDMVersion. The version is tested right behind the phase and
--- the stage, so VersionMismatch shows that they allow the request.
+-- The first four bytes of a request, with another SPDMVersion. The version is tested right after the phase and the
+-- stage, so VersionMismatch shows that they allow the request.
 abbrev pub misversioned : List ℕ → List ℕ
 misversioned m = 0x11 ∷ take 3 (drop 1 m)
 
@@ -179,7 +179,7 @@ opened = opened_with negotiation
 abbrev pub verifying : Events
 verifying = verifying_with negotiation
 
--- A large answer is pending in a session.
+-- A large response is pending in a session.
 abbrev pub with_large : Events → Events
 with_large s = Heard [] large [] ∷ s
 

@@ -33,9 +33,9 @@ refused = record { message = []; refused = Some InvalidRequest; chunk = None; ef
 abbrev after_turns : List Turn → Place
 after_turns turns = clear_with Negotiated turns negotiation
 
--- Where none is under way: the number is 0; at most 4,096 bytes are told; a chunk is not empty, does not pass
--- the told length, and has at least 26 bytes unless it is the last; the last mark stands exactly on the chunk
--- that reaches the told length.
+-- Where none is under way: the number is 0; at most 4,096 bytes are told; a chunk is not empty, does not pass the told
+-- length, and has at least 26 bytes unless it is the last; the last mark stands exactly on the chunk that reaches the
+-- told length.
 first_chunks : IsTable setup (after_turns []) (
     (sending first, None)
     ∷ (sending second, Some InvalidRequest)
@@ -61,7 +61,7 @@ own_max_size : IsTable (record setup { max = 60 }) (after_turns []) (
 unfolding computed
 own_max_size = refl
 
--- Where one is under way: its handle; the next number; the sizes and marks as before. Number 0 begins anew.
+-- Where one is under way: its handle; the next number; the sizes and marks as before. Number 0 starts over.
 next_chunks : IsTable setup (after_turns (taken_chunk first ∷ [])) (
     (sending second, None)
     ∷ (sending (record second { handle = 8 }), Some InvalidRequest)
@@ -123,7 +123,7 @@ fifth_get : IsTable setup (small_after (get ∷ get ∷ get ∷ get ∷ large �
 unfolding computed
 fifth_get = refl
 
--- A new large answer begins at its first chunk.
+-- A new large response begins at its first chunk.
 get_of_new_answer : IsTable setup (small_after (large ∷ get ∷ get ∷ large ∷ [])) ((chunk_get 5 0, None) ∷ (chunk_get 5 2, Some InvalidRequest) ∷ [])
 unfolding computed
 get_of_new_answer = refl

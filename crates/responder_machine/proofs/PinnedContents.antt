@@ -108,7 +108,7 @@ no_summary_without_measurements : refusal setup unmeasured psk_exchange free ≡
 unfolding computed
 no_summary_without_measurements = rw length_verify refl
 
--- Beside four sessions past their handshake no exchange is taken, beside three it is.
+-- Beside four established sessions no exchange is taken, beside three it is.
 fourth_session : refusal setup (record negotiated { past_handshake = 3 }) psk_exchange free ≡ None
 unfolding computed
 fourth_session = rw length_verify refl

@@ -1,4 +1,4 @@
--- Each of the eleven requests in each phase, where it came by chunks.
+-- Each of the eleven requests in each phase, where it arrived in chunks.
 use Rattle.std.proofs.Common.{refl, ◌≡◌, [], ◌∷◌, Some, None}
 use Rattle.spdm_grammar.specs.declared.messages.error_code.ErrorCode.TheVariants.{UnexpectedRequest, SessionRequired, VersionMismatch}
 use Rattle.spdm_grammar.specs.declared.told.phase.Phase.TheVariants.{Fresh, Versioned, Capable, Negotiated}

@@ -1,5 +1,4 @@
--- Which code a request gets that fails two tests: that of the earlier one. And which codes are those of
--- requests.
+-- Which code a request gets that fails two tests: that of the earlier one. And which codes are those of requests.
 use Rattle.std.proofs.Common.{refl, ◌≡◌, ℕ, List, [], ◌∷◌, ◌++◌, take, true, false, Bool, Option, Some, None}
 use Rattle.std.specs.Prelude.{◌==◌, map, not}
 use Rattle.std.specs.List.{filter, range_with_len}
@@ -61,8 +60,8 @@ short_before_long : IsTable (record setup { transfer = 2; max = 2 }) fresh ((tak
 unfolding computed
 short_before_long = refl
 
--- Longer than the limit, before an unknown code, a request of sessions, one of another phase, another version,
--- and no spelling.
+-- Longer than the limit, before an unknown code, a request of sessions, one of another phase, another version, and no
+-- encoding.
 long_before_others : IsTable (record setup { transfer = 4; max = 4 }) fresh (
     (unknown ++ 0 ∷ [], Some RequestTooLarge)
     ∷ (heartbeat ++ 0 ∷ [], Some RequestTooLarge)
@@ -82,17 +81,17 @@ unknown_in_session : IsTable setup (session_place begun) ((unknown, Some Unsuppo
 unfolding computed
 unknown_in_session = refl
 
--- A request of sessions, before its version and its spelling.
+-- A request of sessions, before its version and its encoding.
 session_before_others : IsTable setup fresh ((misversioned heartbeat, Some SessionRequired) ∷ (take 4 psk_finish, Some SessionRequired) ∷ (key_update 0, Some SessionRequired) ∷ [])
 unfolding computed
 session_before_others = refl
 
--- CHUNK_SEND in a session, before what its stage allows, its version and its spelling.
+-- CHUNK_SEND in a session, before what its stage allows, its version and its encoding.
 chunk_before_others : IsTable setup (session_place begun) ((chunk_send, Some UnsupportedRequest) ∷ (misversioned chunk_send, Some UnsupportedRequest) ∷ (take 4 chunk_send, Some UnsupportedRequest) ∷ [])
 unfolding computed
 chunk_before_others = refl
 
--- What the phase or the stage does not allow, before the version, the spelling and the flags.
+-- What the phase or the stage does not allow, before the version, the encoding and the flags.
 phase_before_others : IsTable setup (clear_with Negotiated [] without_options) (
     (misversioned get_capabilities, Some UnexpectedRequest)
     ∷ (take 4 get_capabilities, Some UnexpectedRequest)
@@ -109,7 +108,7 @@ stage_before_others : IsTable setup (session_place (opened_with without_options)
 unfolding computed
 stage_before_others = refl
 
--- The version, before the spelling and the flags.
+-- The version, before the encoding and the flags.
 version_before_others : IsTable setup (session_place (opened_with without_options)) (
     (misversioned (key_update 0), Some VersionMismatch)
     ∷ (misversioned heartbeat, Some VersionMismatch)
@@ -117,7 +116,7 @@ version_before_others : IsTable setup (session_place (opened_with without_option
 unfolding computed
 version_before_others = refl
 
--- The spelling, before the flags.
+-- The encoding, before the flags.
 spelling_before_flags : IsTable setup (session_place (opened_with without_options)) (
     (key_update 0, Some InvalidRequest)
     ∷ (heartbeat ++ 0 ∷ [], Some InvalidRequest)

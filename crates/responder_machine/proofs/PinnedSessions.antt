@@ -33,7 +33,7 @@ begins period id = Clear 0 (took (PskExchange exchange) (0x12 ∷ 0x66 ∷ perio
 abbrev in_session : ℕ → RequestMessage → Entry
 in_session id asked = Sealed 0 (1 ∷ 0 ∷ id ∷ 0 ∷ []) (took asked [] None) [] draw
 
--- The session with this id is past its handshake. Its period is 30 seconds.
+-- The session with this id is established. Its period is 30 seconds.
 abbrev finishes : ℕ → History → History
 finishes id h = in_session id (PskFinish []) ∷ begins 30 id ∷ h
 
@@ -76,8 +76,8 @@ ended_sessions : AreLive (
 unfolding session_of
 ended_sessions = refl
 
--- A session past its handshake is gone after twice its period without a record. One in its handshake, or with
--- period 0, stays.
+-- An established session is gone after twice its period without a record. One in its handshake, or with period 0,
+-- stays.
 idle_sessions : AreLive (
     (Ticked 59 ∷ finishes 1 [], 1 ∷ [])
     ∷ (Ticked 60 ∷ finishes 1 [], [])
@@ -145,8 +145,8 @@ counted_in s = record {
   taken = taken_of s;
 }
 
--- In this order: the stage, the epochs of requests and of responses, the next number of each, and how many
--- application messages were taken.
+-- In this order: the stage, the epochs of requests and of responses, the next number of each, and how many application
+-- messages were taken.
 abbrev counts : Stage → (request_updates response_updates next_request next_response taken : ℕ) → Counted
 counts stage a b c d e = record { stage = stage; request_updates = a; response_updates = b; next_request = c; next_response = d; taken = e }
 

@@ -169,7 +169,7 @@ first_chunk_is_acknowledged : told_to small sizes_told first_chunk ≡ answered 
 unfolding on_clear refused_form refused_contents refusal turn_of answer_bytes chosen session_of terms_of field_at number_at optional_at tables_at behind_tables behind_table request_body response_body get_version_layout get_capabilities_layout negotiate_algorithms_layout psk_finish_layout chunk_send_layout chunk_get_layout version_layout capabilities_layout algorithms_layout
 first_chunk_is_acknowledged = refl
 
--- The answer goes by chunks too.
+-- The answer is sent in chunks too.
 negotiation_by_chunks : told_to small (first_chunk ∷ sizes_told) last_chunk ≡ answered (0x12 ∷ 0x05 ∷ 0x00 ∷ 0x00 ∷ 0x01 ∷ 0x00 ∷ 0x12 ∷ 0x7f ∷ 0x0f ∷ 0x00 ∷ 0x00 ∷ [])
 unfolding on_clear refused_form refused_contents refusal turn_of answer_bytes chosen session_of terms_of field_at number_at optional_at tables_at behind_tables behind_table request_body response_body get_version_layout get_capabilities_layout negotiate_algorithms_layout psk_finish_layout chunk_send_layout chunk_get_layout version_layout capabilities_layout algorithms_layout
 negotiation_by_chunks = refl

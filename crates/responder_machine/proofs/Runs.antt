@@ -51,7 +51,7 @@ entry_more h (Adds (Ticked seconds)) = omega arith
 entry_more h (Adds (Dropped id)) = omega arith
 
 module _ (e : RspEnd) where
-  -- What a run keeps, with the end points that differ.
+  -- What a run keeps, with the endpoints that differ.
   record Keeps (r : Responding) : Type 0 where
     run : IsRun e r
     peers : PeersDiffer r.connections

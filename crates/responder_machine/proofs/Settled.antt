@@ -46,7 +46,7 @@ body_same : (a b code : ℕ) → (code == PSK_EXCHANGE) ≡ false → (code == P
 unfolding request_body
 body_same a b code x y = rw (x, y) refl
 
--- A reading with this layout behind the code.
+-- A reading with this layout after the code.
 abbrev with_body : ℕ → ℕ → Layout RequestMessage → List ℕ → Result RequestMessage Malformed
 with_body version code layout rest =
     if is_version version then (if is_request_code version code then read layout (record { rest = rest; at = 0 + 1 + 1 }) else Err (record { at = 0 + 1; what = Field }))

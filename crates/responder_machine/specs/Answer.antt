@@ -21,9 +21,9 @@ use Rattle.spdm_machine.specs.Terms.{no_choice, hash_len}
 use Rattle.transcript.specs.Transcripts.{vca_of}
 use Rattle.spdm_grammar.specs.declared.names.spdm_version.TheConstants.{V1_2}
 
--- All that an answer leaves free: the id, the context and the opaque data of PSK_EXCHANGE_RSP, the nonce and
--- the opaque data of MEASUREMENTS, the handle of a large answer, the application data sent in answer, and
--- the padding of a record.
+-- All that an answer leaves free: the id, the context and the opaque data of PSK_EXCHANGE_RSP, the nonce and the opaque
+-- data of MEASUREMENTS, the handle of a large response, the application data sent in answer, and the padding of a
+-- record.
 pub record Free : Type 0 where
   pub id : ℕ
   pub context : List ℕ
@@ -56,8 +56,8 @@ measurements_answer r f op = Measurements (record {
 abbrev pub summary_answer : RspSetup → Place → ℕ → List ℕ
 summary_answer r p kind = if kind == 0 then [] else unwrap_or (summary_of (hash_of (place_terms p).choice.hash) kind (inventory_of r)) []
 
--- "PSK_EXCHANGE_RSP" with this verify data. The heartbeat period is the configured one where both ends have
--- heartbeats, else 0.
+-- "PSK_EXCHANGE_RSP" with this verify data. The heartbeat period is the configured one where both ends have heartbeats,
+-- else 0.
 abbrev pub exchange_rsp : RspSetup → Place → Free → ExchangeMessage → List ℕ → ResponseMessage
 exchange_rsp r p f exchange verify = PskExchangeRsp (record {
   heartbeat = if (place_terms p).common.heartbeat then r.beat else 0;
@@ -77,13 +77,13 @@ abbrev pub exchange_answer : RspSetup → Place → List ℕ → Free → Exchan
 exchange_answer r p m f exchange =
     exchange_rsp r p f exchange (verify_data (place_terms p).choice r.psk (t1_with r p m f exchange) direction.Response (t1_with r p m f exchange))
 
--- "CHUNK_RESPONSE": the chunk of this number of the pending large answer.
+-- "CHUNK_RESPONSE": the chunk of this number of the pending large response.
 abbrev pub chunk_answer : Place → ℕ → ℕ → ResponseMessage
 chunk_answer p handle number =
     ChunkResponse (nth_chunk (place_terms p).common.to_requester.transfer handle (unwrap_or (pending_of (place_terms p).common.to_requester.transfer p.turns) []) number)
 
--- The answer to each request, of which m are the bytes. A chunk of a large request that is not the last is
--- acknowledged with no response.
+-- The answer to each request, of which m are the bytes. A chunk of a large request that is not the last is acknowledged
+-- with no response.
 abbrev pub answer_of : RspSetup → Place → List ℕ → Free → RequestMessage → ResponseMessage
 answer_of r p m f GetVersion = version_answer
 answer_of r p m f (GetCapabilities caps) = Capabilities (responder_caps r)

@@ -1,5 +1,5 @@
--- How far the counts of a history go: each is at most the number of messages that came. Each law is the
--- contract of a function of this crate. This project's own.
+-- How far the counts of a history go: each is at most the number of messages that came. Each law is the contract of a
+-- function of this crate. This project's own.
 use Rattle.std.specs.Prelude.{◌+◌, ◌≤◌, ℕ, [], ◌∷◌, length}
 use Rattle.std.specs.List.{AllByRecursion}
 use Rattle.responder_machine.specs.Does.{IsMade}
@@ -16,15 +16,15 @@ messages_of (Clear tag t d ∷ older) = messages_of older + 1
 messages_of (Sealed tag m t reply d ∷ older) = messages_of older + 1
 messages_of (_ ∷ older) = messages_of older
 
--- What is counted for a connection is at most a number: draws, application messages taken, and large answers of
--- its clear part.
+-- What is counted for a connection is at most a number: draws, application messages taken, and large responses of its
+-- clear part.
 pub record IsConnectionWithin (h : History) (most : ℕ) : Type 0 where
   pub draws : draws_of h ≤ most
   pub taken : all_taken h ≤ most
   pub larges : larges_of (clear_turns h) ≤ most
 
--- What is counted in a session is at most a number: records, updates of the keys of both directions,
--- application messages taken, and large answers.
+-- What is counted in a session is at most a number: records, updates of the keys of both directions, application
+-- messages taken, and large responses.
 pub record IsSessionWithin (s : Events) (most : ℕ) : Type 0 where
   pub records : length (turns_of s) ≤ most
   pub request_updates : request_epoch s ≤ most

@@ -1,5 +1,4 @@
--- The records of a session counted by the purpose under which each of them stood (DSP0277, "Sequence
--- number").
+-- The records of a session counted by the purpose under which each of them stood (DSP0277, "Sequence number").
 use Rattle.std.specs.Prelude.{◌≡◌, ◌+◌, ◌==◌, ◌&&◌, ℕ, List, [], ◌∷◌, if◌then◌else◌, Bool, true, false, bytes_eq}
 use Rattle.key_schedule.specs.Purpose.{Purpose, Kind}
 use Rattle.key_schedule.specs.Purpose.Kind.{Verify, HandshakeRecord, ApplicationRecord}
@@ -32,8 +31,8 @@ same_purpose p q =
     p.epoch == q.epoch && same_kind p.kind q.kind && same_direction p.direction q.direction
     && bytes_eq p.psk q.psk && bytes_eq p.transcript q.transcript
 
--- How many records of a session were taken under a purpose. A record is taken under the request purpose that
--- stood when it came.
+-- How many records of a session were taken under a purpose. A record is taken under the request purpose that stood when
+-- it came.
 abbrev pub taken_under : List ℕ → Purpose → Events → ℕ
 taken_under psk p [] = 0
 taken_under psk p (Heard m t reply ∷ older) = if same_purpose p (request_purpose psk older) then taken_under psk p older + 1 else taken_under psk p older

@@ -1,5 +1,5 @@
--- What this project's responder does: the one outcome at the values that it chooses. The choices are this
--- project's own.
+-- What this project's responder does: the one outcome at the values that it chooses. The choices are this project's
+-- own.
 use Rattle.std.specs.Prelude.{⊤, ◌≡◌, ◌<◌, ◌≤◌, ◌==◌, ℕ, List, [], ◌∷◌, drop, length, slice_index, if◌then◌else◌}
 use Rattle.responder_machine.specs.Answer.{Free}
 use Rattle.responder_machine.specs.History.{History, queue_of}
@@ -17,9 +17,9 @@ abbrev pub first_queued : List (List ℕ) → List ℕ
 first_queued [] = []
 first_queued (bytes ∷ others) = bytes
 
--- The least free id; the context and the nonce by the draw; the configured opaque data in PSK_EXCHANGE_RSP
--- and none in MEASUREMENTS; the handles of the place in order; the first application data of the queue, and
--- an empty one where none waits; no padding.
+-- The least free id; the context and the nonce by the draw; the configured opaque data in PSK_EXCHANGE_RSP and none in
+-- MEASUREMENTS; the handles of the place in order; the first application data of the queue, and an empty one where none
+-- waits; no padding.
 unfoldable pub chosen : RspSetup → History → Place → Draw → Free
 chosen r h p d = record {
   id = free_id h;
@@ -40,7 +40,7 @@ clear_chosen r h d = chosen r h (clear_place h) d
 abbrev pub record_chosen : RspSetup → History → List ℕ → Draw → Free
 record_chosen r h sealed d = chosen r h (session_place (session_of (id_in_record sealed) h)) d
 
--- A clear message came with a tag while this draw stood next.
+-- A clear message came with a tag with this draw next.
 abbrev pub clear_does : RspSetup → History → ℕ → List ℕ → Draw → Outcome
 clear_does r h tag m d = on_clear r h tag m (clear_chosen r h d) d
 
@@ -54,8 +54,8 @@ responder_does r h tag body d =
     if slice_index body 0 == 5 then clear_does r h tag (drop 1 body) d
     else record_does r h tag (drop 1 body) d
 
--- A history that this responder made: each entry is what it does at the older history, application data that
--- is queued has at most 1,024 bytes and finds fewer than 16 waiting, and sessions are dropped by time alone.
+-- A history that this responder made: each entry is what it does at the older history, application data that is queued
+-- has at most 1,024 bytes and finds fewer than 16 waiting, and sessions are dropped by time alone.
 abbrev pub IsMade : RspSetup → History → Type 0
 IsMade r [] = ⊤
 IsMade r (Clear tag t d ∷ older) = (clear_does r older tag t.message d ≡ Adds (Clear tag t d)) × IsMade r older

@@ -50,8 +50,8 @@ large_response handle = canonical_response (Error V1_2 (error_number LargeRespon
 
 -- ---- One message.
 
--- An answer that is not too long goes by LargeResponse where, with what stands round it, it passes the
--- requester's transfer size.
+-- An answer that is not too long goes by LargeResponse where, with what stands round it, it passes the requester's
+-- transfer size.
 abbrev pub goes_large : Place → List ℕ → Bool
 goes_large p answer =
     sizes_are_known p.phase && nat_lt (place_terms p).common.to_requester.transfer (bytes_round p.at + length answer)
@@ -95,8 +95,8 @@ acknowledged c response = canonical_response (ChunkSendAck false c.handle c.numb
 abbrev pub taken_chunk : List ℕ → ChunkMessage → Effect → List ℕ → Turn
 taken_chunk m c effect response = record { message = m; refused = None; chunk = Some c; effect = effect; reply = acknowledged c response }
 
--- The last chunk is answered by what the large request that it completes leads to. Where that is refused the
--- chunk is taken all the same.
+-- The last chunk is answered by what the large request that it completes leads to. Where that is refused the chunk is
+-- taken all the same.
 abbrev pub carried_turn : RspSetup → Place → List ℕ → Free → ChunkMessage → List ℕ → Option ErrorCode → Turn
 carried_turn r p m f c whole (Some e) = taken_chunk m c NoEffect (error_bytes r p whole f e)
 carried_turn r p m f c whole None = taken_chunk m c (request_effect r p whole f) (request_reply r p whole f)

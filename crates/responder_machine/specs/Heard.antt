@@ -1,4 +1,4 @@
--- What is told of a packet that a responder was given, and what is seen of its sessions. This project's own.
+-- What is reported of a packet that a responder was given, and what is seen of its sessions. This project's own.
 use Rattle.std.specs.Prelude.{ℕ, List, [], ◌∷◌, ◌++◌, if◌then◌else◌, Option, Some, None}
 use Rattle.spdm_basis.specs.declared.values.session_id.SessionId.{SessionId}
 use Rattle.spdm_grammar.specs.ErrorNumber.{error_number}
@@ -22,7 +22,7 @@ use Rattle.responder_machine.specs.Turn.{Turn, is_data}
 abbrev pub record_id : List ℕ → SessionId
 record_id sealed = record { req = little_number 2 sealed; rsp = little_number 2 (drop 2 sealed) }
 
--- A turn is told by the code with which it was refused, as data taken in the session, or by the code of its
+-- A turn is determined by the code with which it was refused, as data taken in the session, or by the code of its
 -- message, that of CHUNK_SEND for a large request.
 abbrev pub heard_in : Turn → SessionId → Option ErrorCode → Heard
 heard_in t id (Some e) = heard.Refused (error_number e)
@@ -32,7 +32,7 @@ heard_in t id None = if is_data t.effect then heard.Taken id else heard.Answered
 abbrev pub no_id : SessionId
 no_id = record { req = 0; rsp = 0 }
 
--- An entry is told by its turn: in the clear with no session, in a record with the session that it names. One
+-- An entry is determined by its turn: in the clear with no session, in a record with the session that it names. One
 -- that is no message, which no body adds, is told as a repeat.
 abbrev pub heard_by : Entry → Heard
 heard_by (Clear tag t d) = heard_in t no_id t.refused
@@ -51,7 +51,7 @@ heard_of (Adds entry) = heard_by entry
 abbrev pub session_id : Events → SessionId
 session_id s = record { req = id_in_exchange (exchange_of s); rsp = id_in_exchange (exchange_answer s) }
 
--- A session as it is shown, read off its own history.
+-- A view of a session, read off its own history.
 unfoldable pub view_of : Events → SessionView
 view_of s = record {
   id = session_id s;

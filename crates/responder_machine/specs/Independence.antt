@@ -1,4 +1,4 @@
--- Whole runs of a responder: what it sends to an end point is a function of what concerns that end point alone, its
+-- Whole runs of a responder: what it sends to an endpoint is a function of what concerns that endpoint alone, its
 -- packets with the draws that stood next, the data queued for it and time. This project's own.
 use Rattle.std.specs.Prelude.{⊤, ◌≡◌, ◌≢◌, ◌≤◌, ◌==◌, ◌&&◌, ◌++◌, not, ℕ, List, [], ◌∷◌, length, if◌then◌else◌}
 use Rattle.std.specs.List.{AllByRecursion}
@@ -14,13 +14,13 @@ use Rattle.spdm_machine.specs.Packets.{wear_limit}
 
 -- ---- A run.
 
--- What a responder is given: a packet, application data to be queued for an end point, seconds that pass.
+-- What a responder is given: a packet, application data to be queued for an endpoint, seconds that pass.
 pub data Given : Type 0 where
   Packet : (bytes : List ℕ) → Given
   Reply : (eid : ℕ) → (bytes : List ℕ) → Given
   Seconds : (seconds : ℕ) → Given
 
--- Application data are queued for an end point, unless they have a fault.
+-- Application data are queued for an endpoint, unless they have a fault.
 abbrev pub after_reply : ℕ → List ℕ → Responding → Responding
 after_reply eid bytes r = queues (reply_fault_of (connection_of eid r.connections) bytes) r eid bytes
 
@@ -35,13 +35,13 @@ abbrev pub run_of : RspEnd → List Given → Responding
 run_of e [] = new_responding e
 run_of e (g ∷ older) = after_given g (run_of e older)
 
--- The packets that answer a packet from this end point: they go back to it.
+-- The packets that answer a packet from this endpoint: they go back to it.
 abbrev pub answer_to : (eid : ℕ) → Given → Responding → List (List ℕ)
 answer_to eid (Packet bytes) r = if source_of bytes == eid then (responder_hears r bytes).sent else []
 answer_to eid (Reply other bytes) r = []
 answer_to eid (Seconds seconds) r = []
 
--- All packets that were sent to an end point, in order.
+-- All packets that were sent to an endpoint, in order.
 abbrev pub sent_to : RspEnd → (eid : ℕ) → List Given → List (List ℕ)
 sent_to e eid [] = []
 sent_to e eid (g ∷ older) = sent_to e eid older ++ answer_to eid g (run_of e older)
@@ -76,7 +76,7 @@ after_own eid (Came packet d) r = (hears_packet r d packet (parsed packet)).afte
 after_own eid (Waits bytes) r = after_reply eid bytes r
 after_own eid (Passed seconds) r = ticks r seconds
 
--- It after what concerns the end point, the newest first.
+-- It after what concerns the endpoint, the newest first.
 abbrev pub alone : RspEnd → (eid : ℕ) → List Own → Responding
 alone e eid [] = alone_at_first e eid
 alone e eid (x ∷ older) = after_own eid x (alone e eid older)
@@ -86,20 +86,19 @@ own_answer (Came packet d) r = (hears_packet r d packet (parsed packet)).sent
 own_answer (Waits bytes) r = []
 own_answer (Passed seconds) r = []
 
--- What it sends, in order: a function of what concerns the end point, and of nothing else.
+-- What it sends, in order: a function of what concerns the endpoint, and of nothing else.
 abbrev pub alone_sends : RspEnd → (eid : ℕ) → List Own → List (List ℕ)
 alone_sends e eid [] = []
 alone_sends e eid (x ∷ older) = alone_sends e eid older ++ own_answer x (alone e eid older)
 
 -- ---- The laws.
 
--- What a whole responder sends to an end point, and what it is towards it, is that of the responder that knows it
--- alone.
+-- What a whole responder sends to an endpoint, and what it is towards it, is that of the responder that knows it alone.
 abbrev pub ConnectionsAreIndependent : Type 0
 ConnectionsAreIndependent = (e : RspEnd) (eid : ℕ) (given : List Given)
     → (sent_to e eid given ≡ alone_sends e eid (own_of e eid given)) × AreAlike eid (run_of e given) (alone e eid (own_of e eid given))
 
--- Data queued for an end point, and seconds, leave two responders alike towards it that were alike; data queued for
+-- Data queued for an endpoint, and seconds, leave two responders alike towards it that were alike; data queued for
 -- another one change nothing of what a responder is towards it.
 abbrev pub GivenStandsAlike : Type 0
 GivenStandsAlike = (eid : ℕ) (r s : Responding)
@@ -109,7 +108,7 @@ GivenStandsAlike = (eid : ℕ) (r s : Responding)
 
 -- ---- What every run keeps.
 
--- No two requesters that a responder knows have one end point.
+-- No two requesters that a responder knows have one endpoint.
 abbrev pub AreKnownApart : List Known → Type 0
 AreKnownApart [] = ⊤
 AreKnownApart (q ∷ others) = AllByRecursion (λ (other : Known). other.eid ≢ q.eid) others × AreKnownApart others

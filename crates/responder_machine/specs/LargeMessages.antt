@@ -18,13 +18,12 @@ abbrev pub given_of : List Turn → ℕ
 given_of [] = 0
 given_of (t ∷ older) = if not (is_taken t) then given_of older else (if takes CHUNK_GET t then given_of older + 1 else 0)
 
--- The large answer, while a chunk of it is still to be given.
+-- The large response, while a chunk of it is still to be given.
 abbrev pub still_pending : ℕ → ℕ → Option (List ℕ) → Option (List ℕ)
 still_pending transfer given None = None
 still_pending transfer given (Some answer) = if nat_lt given (chunk_count transfer answer) then Some answer else None
 
--- The pending large answer: the last one, while fewer chunks of it were given than this transfer size cuts it
--- into.
+-- The pending large response: the last one, while fewer chunks of it were given than this transfer size cuts it into.
 abbrev pub pending_of : ℕ → List Turn → Option (List ℕ)
 pending_of transfer turns = still_pending transfer (given_of turns) (large_of turns)
 
@@ -44,13 +43,13 @@ next_handle turns = larges_of turns % 256
 
 -- THE LARGE REQUEST
 
--- The chunk in front of those before it; a message that is no chunk drops them.
+-- The chunk before those before it; a message that is no chunk drops them.
 abbrev pub chunks_with : Option ChunkMessage → List ChunkMessage → List ChunkMessage
 chunks_with None before = []
 chunks_with (Some c) before = c ∷ before
 
--- The chunks that were taken, the newest first, since the last taken message that was none. What of them is
--- under way, and what a further one leads to, is said where chunks are collected.
+-- The chunks that were taken, the newest first, since the last taken message that was none. What of them is under way,
+-- and what a further one leads to, is said where chunks are collected.
 abbrev pub chunks_of : List Turn → List ChunkMessage
 chunks_of [] = []
 chunks_of (t ∷ older) = if is_taken t then chunks_with t.chunk (chunks_of older) else chunks_of older

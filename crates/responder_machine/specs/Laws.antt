@@ -1,5 +1,5 @@
--- What holds of every responder and every history: the laws of the definitions. Each is the contract of a
--- function of this crate, which has its proof. This project's own.
+-- What holds of every responder and every history: the laws of the definitions. Each is the contract of a function of
+-- this crate, which has its proof. This project's own.
 use Rattle.std.specs.Prelude.{◌≡◌, ◌≢◌, ◌≤◌, ◌⊎◌, ℕ, List, [], ◌∷◌, length, true, false, Option, Some, None, nat_eq}
 use Rattle.std.specs.List.{AllByRecursion, IsDistinct}
 use Rattle.chunking.specs.Collecting.{under_way, joined_with}
@@ -110,8 +110,8 @@ TakenRecordIsRepeated = (r : RspSetup) (h : History) (tag other : ℕ) (m : List
     → on_record r h tag m f d ≡ Adds (Sealed tag m t reply d)
     → on_record r (Sealed tag m t reply d ∷ h) other m again next ≡ Same (sent_by (Sealed tag m t reply d))
 
--- What a record shows that was taken: it is no repeat, its session is live and opens it, its turn is that of
--- its inner message, and it is answered by the record of the answer.
+-- What a record shows that was taken: it is no repeat, its session is live and opens it, its turn is that of its inner
+-- message, and it is answered by the record of the answer.
 abbrev pub TakenRecordIsOpened : Type 0
 TakenRecordIsOpened = (r : RspSetup) (h : History) (tag : ℕ) (m : List ℕ) (f : Free) (d : Draw) (t : Turn) (reply : List ℕ)
     → on_record r h tag m f d ≡ Adds (Sealed tag m t reply d)
@@ -141,8 +141,7 @@ RequestHasItsCode = (p : Place) (m : List ℕ) (asked : RequestMessage) → requ
 
 -- ---- Sessions and their ids.
 
--- Where fewer than four sessions are past their handshake, the id that is given is from 1 to 4 and is none of
--- theirs.
+-- Where fewer than four sessions are established, the id that is given is from 1 to 4 and is none of theirs.
 abbrev pub FreeIdIsFree : Type 0
 FreeIdIsFree = (h : History) → held_of h ≢ 4 → (1 ≤ free_id h) × (free_id h ≤ 4) × (is_held h (free_id h) ≡ false)
 
@@ -150,11 +149,11 @@ FreeIdIsFree = (h : History) → held_of h ≢ 4 → (1 ≤ free_id h) × (free_
 abbrev pub LiveIdIsFromOneToFour : Type 0
 LiveIdIsFromOneToFour = (r : RspSetup) (h : History) (id : ℕ) → IsMade r h → is_live (session_of id h) ≡ true → (1 ≤ id) × (id ≤ 4)
 
--- The count of the sessions past their handshake is at most four.
+-- The count of the established sessions is at most four.
 abbrev pub FourAreHeldAtMost : Type 0
 FourAreHeldAtMost = (h : History) → held_of h ≤ 4
 
--- However many different ids are those of sessions past their handshake, they are four at most.
+-- However many different ids are those of established sessions, they are four at most.
 abbrev pub HeldAreFew : Type 0
 HeldAreFew = (r : RspSetup) (h : History) (ids : List ℕ) → IsMade r h → IsDistinct nat_eq ids → AllByRecursion (λ id. is_held h id ≡ true) ids
     → length ids ≤ 4
@@ -169,8 +168,8 @@ abbrev pub OneIsInHandshake : Type 0
 OneIsInHandshake = (h : History) (i j : ℕ) → i ≢ j → is_live (session_of i h) ≡ true → is_live (session_of j h) ≡ true
     → is_past_handshake (stage_of (session_of i h)) ≡ false → is_past_handshake (stage_of (session_of j h)) ≡ true
 
--- A PSK_EXCHANGE that is not refused begins a session under the id of its answer, which no session past its
--- handshake had, with the negotiation as it stands.
+-- A PSK_EXCHANGE that is not refused begins a session under the id of its answer, which no established session had,
+-- with the negotiation as it stands.
 abbrev pub NewSessionIsFresh : Type 0
 NewSessionIsFresh = (r : RspSetup) (h : History) (tag : ℕ) (m : List ℕ) (f : Free) (d : Draw) (exchange : ExchangeMessage)
     → IsAllowed h (clear_place h) f → request_at (clear_place h) m ≡ Some (PskExchange exchange) → refusal r (clear_place h) m f ≡ None

@@ -1,5 +1,5 @@
--- What any responder of this profile may do: the same outcome, at any values that are left free. The limits
--- of this profile are this project's own.
+-- What any responder of this profile may do: the same outcome, at any values that are left free. The limits of this
+-- profile are this project's own.
 use Rattle.std.specs.Prelude.{◌≡◌, ◌≢◌, ◌≤◌, ◌<◌, ◌==◌, ℕ, List, [], ◌∷◌, length, drop, slice_index, if◌then◌else◌, true, false}
 use Rattle.responder_machine.specs.Answer.{Free}
 use Rattle.responder_machine.specs.History.{History}
@@ -11,10 +11,10 @@ use Rattle.responder_machine.specs.Session.{session_of, id_in_record, is_live, i
 use Rattle.responder_machine.specs.Setup.{RspSetup}
 use Rattle.spdm_machine.specs.Terms.{hash_len}
 
--- The values that a responder may choose at a place: an id from 1 to 4 that no session past its handshake
--- has, where one is left (beside four of them no exchange is answered, whatever id its answer would have);
--- a context of at least the length of the hash; a nonce of 32 bytes; opaque data of at most 1,024; a handle
--- of one byte; application data of at most 1,024 bytes; and padding of at most 16.
+-- The values that a responder may choose at a place: an id from 1 to 4 that no established session has, where one is
+-- left (beside four of them no exchange is answered, whatever id its answer would have); a context of at least the
+-- length of the hash; a nonce of 32 bytes; opaque data of at most 1,024; a handle of one byte; application data of at
+-- most 1,024 bytes; and padding of at most 16.
 pub record IsAllowed (h : History) (p : Place) (f : Free) : Type 0 where
   pub least : 1 ≤ f.id
   pub most : f.id ≤ 4

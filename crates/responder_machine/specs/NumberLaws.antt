@@ -1,5 +1,5 @@
--- What holds of the numbers of records: the laws of the counts, each the contract of a function of this
--- crate. The numbers are those of DSP0277, "Sequence number"; the laws are this project's own.
+-- What holds of the numbers of records: the laws of the counts, each the contract of a function of this crate. The
+-- numbers are those of DSP0277, "Sequence number"; the laws are this project's own.
 use Rattle.std.specs.Prelude.{◌≡◌, ◌≤◌, ◌||◌, ℕ, List, ◌∷◌, true}
 use Rattle.responder_machine.specs.Counts.{IsStaged, taken_under, sealed_under}
 use Rattle.responder_machine.specs.Does.{IsMade}
@@ -12,13 +12,13 @@ use Rattle.responder_machine.specs.Setup.{RspSetup}
 use Rattle.responder_machine.specs.Turn.{Turn, takes, updates}
 use Rattle.spdm_grammar.specs.declared.names.request_code.TheConstants.{PSK_FINISH}
 
--- In each session of a history that the responder made, PSK_FINISH was taken in the handshake alone and
--- KEY_UPDATE after it alone.
+-- In each session of a history that the responder made, PSK_FINISH was taken in the handshake alone and KEY_UPDATE
+-- after it alone.
 abbrev pub MadeIsStaged : Type 0
 MadeIsStaged = (r : RspSetup) (h : History) (id : ℕ) → IsMade r h → IsStaged (session_of id h)
 
--- The next number of a request is how many records were taken under the present request purpose, and that of
--- a response how many were sealed under the present response purpose.
+-- The next number of a request is how many records were taken under the present request purpose, and that of a response
+-- how many were sealed under the present response purpose.
 abbrev pub NextNumbersAreCounts : Type 0
 NextNumbersAreCounts = (psk : List ℕ) (s : Events) → IsStaged s
     → (request_next s ≡ taken_under psk (request_purpose psk s) s) × (response_next s ≡ sealed_under psk (response_purpose psk s) s)

@@ -9,15 +9,14 @@ use Rattle.spdm_machine.specs.Terms.{Terms, terms_of}
 use Rattle.responder_machine.specs.Turn.{Turn}
 use Rattle.transcript.specs.Transcripts.{Negotiation}
 
--- The clear part of a connection, the inside of a large request that came there by chunks, or one session.
+-- The clear part of a connection, the inside of a large request that came there in chunks, or one session.
 pub data Where : Type 0 where
   InClear : Where
   InChunks : Where
   InSession : Where
 
--- Where it is, the phase, the turns there, the negotiation, the session's own history (none in the clear),
--- and how many sessions of the connection are live past their handshake (0 in a session, which no rule
--- there asks).
+-- Where it is, the phase, the turns there, the negotiation, the session's own history (none in the clear), and how many
+-- sessions of the connection are live past their handshake (0 in a session, which no rule there asks).
 pub record Place : Type 0 where
   pub at : Where
   pub phase : Phase
@@ -38,8 +37,8 @@ is_held h id = is_live (session_of id h) && is_past_handshake (stage_of (session
 abbrev pub held_of : History → ℕ
 held_of h = one_if (is_held h 1) + one_if (is_held h 2) + one_if (is_held h 3) + one_if (is_held h 4)
 
--- The least id from 1 to 4 that PSK_EXCHANGE may give. A session in its handshake is replaced, so its id is
--- free. Beside four that are held no exchange is answered; the length of its answer is then that with id 4.
+-- The least id from 1 to 4 that PSK_EXCHANGE may give. A session in its handshake is replaced, so its id is free.
+-- Beside four that are held no exchange is answered; the length of its answer is then that with id 4.
 abbrev pub free_id : History → ℕ
 free_id h =
     if not (is_held h 1) then 1
@@ -58,7 +57,7 @@ clear_place h = record {
   past_handshake = held_of h;
 }
 
--- The inside of a large request that came by chunks: all else is as at the place of its chunks.
+-- The inside of a large request that arrived in chunks: all else is as at the place of its chunks.
 abbrev pub inside : Place → Place
 inside p = record p { at = InChunks }
 

@@ -1,5 +1,5 @@
--- The records of a session at the responder: under which purpose and number the next ones are taken and
--- sealed. DSP0277, "Sequence number" and "Secured Message format"; DSP0274, "KEY_UPDATE".
+-- The records of a session at the responder: under which purpose and number the next ones are taken and sealed.
+-- DSP0277, "Sequence number" and "Secured Message format"; DSP0274, "KEY_UPDATE".
 use Rattle.std.specs.Prelude.{ℕ, List, length, take, not, nat_lt, Option, Some, if◌then◌else◌, ◌+◌, bytes_eq}
 use Rattle.key_schedule.specs.Purpose.{Purpose}
 use Rattle.key_schedule.specs.declared.direction.Direction.TheVariants.{Request, Response}
@@ -18,15 +18,15 @@ request_purpose psk s = purpose_in (stage_of s) psk (t1_of s) (t2_of s) Request 
 abbrev pub response_purpose : List ℕ → Events → Purpose
 response_purpose psk s = purpose_in (stage_of s) psk (t1_of s) (t2_of s) Response (response_epoch s)
 
--- Why a record that is no repeat does not open in a live session: a key is spent, or it is no record under
--- the present request key, of the session's id and of the next number.
+-- Why a record that is no repeat does not open in a live session: a key is spent, or it is no record under the present
+-- request key, of the session's id and of the next number.
 unfoldable pub opening_fault : List ℕ → Events → List ℕ → Option RecordFault
 opening_fault psk s sealed =
     if is_spent s then Some KeySpent
     else record_fault (session_terms s).choice (request_purpose psk s) (request_next s) (id_bytes s) sealed
 
--- Why a record that is no repeat does not open at an ended session: none does, and what is told is its length or its
--- id where they are wrong, and else its number. This project's own.
+-- Why a record that is no repeat does not open at an ended session: none does, and what is told is its length or its id
+-- where they are wrong, and else its number. This project's own.
 abbrev pub ended_fault : (id : List ℕ) → List ℕ → RecordFault
 ended_fault id sealed =
     if nat_lt (length sealed) 26 then Short
@@ -37,8 +37,8 @@ ended_fault id sealed =
 unfoldable pub opened : List ℕ → Events → List ℕ → List ℕ
 opened psk s sealed = inner_message (session_terms s).choice (request_purpose psk s) (request_next s) sealed
 
--- The purpose of the answer to a turn: UpdateAllKeys is answered under the new response key, and all else
--- under the standing one.
+-- The purpose of the answer to a turn: UpdateAllKeys is answered under the new response key, and all else under the
+-- standing one.
 abbrev pub reply_purpose : List ℕ → Events → Turn → Purpose
 reply_purpose psk s t =
     if updates 2 t then record (response_purpose psk s) { epoch = response_epoch s + 1 }

@@ -1,5 +1,5 @@
--- Which requests a responder refuses, with which error code: a list of tests in order, of which the first
--- that holds decides (DSP0274, "ERROR" and the error codes; the order is this project's own).
+-- Which requests a responder refuses, with which error code: a list of tests in order, of which the first that holds
+-- decides (DSP0274, "ERROR" and the error codes; the order is this project's own).
 use Rattle.std.specs.Prelude.{◌+◌, ◌==◌, ◌&&◌, ◌||◌, not, nat_lt, ℕ, List, [], ◌∷◌, length, slice_index, if◌then◌else◌, Bool, true, false, Option, Some, None, is_none, is_some, bytes_eq}
 use Rattle.std.specs.Option.{option_or}
 use Rattle.std.specs.Result.{result_ok}
@@ -47,14 +47,14 @@ needs_session InClear c = is_one_of (PSK_FINISH ∷ HEARTBEAT ∷ KEY_UPDATE ∷
 needs_session InChunks c = is_one_of (PSK_FINISH ∷ HEARTBEAT ∷ KEY_UPDATE ∷ END_SESSION ∷ []) c
 needs_session InSession c = false
 
--- Nothing is sent by chunks inside a session.
+-- Nothing is sent in chunks inside a session.
 abbrev pub is_chunk_in_session : Where → ℕ → Bool
 is_chunk_in_session InClear c = false
 is_chunk_in_session InChunks c = false
 is_chunk_in_session InSession c = c == CHUNK_SEND
 
--- GET_VERSION, GET_CAPABILITIES, NEGOTIATE_ALGORITHMS and PSK_EXCHANGE do not come in a session, and
--- GET_VERSION, CHUNK_SEND and CHUNK_GET not by chunks.
+-- GET_VERSION, GET_CAPABILITIES, NEGOTIATE_ALGORITHMS and PSK_EXCHANGE do not come in a session, and GET_VERSION,
+-- CHUNK_SEND and CHUNK_GET not in chunks.
 abbrev pub is_misplaced : Where → ℕ → Bool
 is_misplaced InClear c = false
 is_misplaced InChunks c = is_one_of (GET_VERSION ∷ CHUNK_SEND ∷ CHUNK_GET ∷ []) c
@@ -62,25 +62,25 @@ is_misplaced InSession c = is_one_of (GET_VERSION ∷ GET_CAPABILITIES ∷ NEGOT
 
 -- ---- What a phase and a stage allow.
 
--- CHUNK_GET needs a pending large answer in every phase. There is none before Capable.
+-- CHUNK_GET needs a pending large response in every phase. There is none before Capable.
 abbrev pub phase_allows : Phase → Bool → ℕ → Bool
 phase_allows Fresh pending c = c == GET_VERSION || (c == CHUNK_GET && pending)
 phase_allows Versioned pending c = is_one_of (GET_VERSION ∷ GET_CAPABILITIES ∷ []) c || (c == CHUNK_GET && pending)
 phase_allows Capable pending c = is_one_of (GET_VERSION ∷ NEGOTIATE_ALGORITHMS ∷ CHUNK_SEND ∷ []) c || (c == CHUNK_GET && pending)
 phase_allows Negotiated pending c = is_one_of (GET_VERSION ∷ GET_MEASUREMENTS ∷ PSK_EXCHANGE ∷ CHUNK_SEND ∷ []) c || (c == CHUNK_GET && pending)
 
--- The handshake allows PSK_FINISH alone, and Verifying KEY_UPDATE alone. Open allows GET_MEASUREMENTS,
--- HEARTBEAT, KEY_UPDATE and END_SESSION, and CHUNK_GET with a pending large answer.
+-- The handshake allows PSK_FINISH alone, and Verifying KEY_UPDATE alone. Open allows GET_MEASUREMENTS, HEARTBEAT,
+-- KEY_UPDATE and END_SESSION, and CHUNK_GET with a pending large response.
 abbrev pub stage_allows : Stage → Bool → ℕ → Bool
 stage_allows Handshake pending c = c == PSK_FINISH
 stage_allows Open pending c = is_one_of (GET_MEASUREMENTS ∷ HEARTBEAT ∷ KEY_UPDATE ∷ END_SESSION ∷ []) c || (c == CHUNK_GET && pending)
 stage_allows Verifying pending c = c == KEY_UPDATE
 
--- A large answer of the place is pending: a chunk of it is still to be given.
+-- A large response of the place is pending: a chunk of it is still to be given.
 abbrev pub has_pending : Place → Bool
 has_pending p = is_some (pending_of (place_terms p).common.to_requester.transfer p.turns)
 
--- The phase allows a request in the clear and by chunks, and the stage allows one in a session.
+-- The phase allows a request in the clear and in chunks, and the stage allows one in a session.
 abbrev pub is_allowed : Where → Place → ℕ → Bool
 is_allowed InClear p c = phase_allows p.phase (has_pending p) c
 is_allowed InChunks p c = phase_allows p.phase (has_pending p) c
@@ -88,8 +88,8 @@ is_allowed InSession p c = stage_allows (stage_of p.events) (has_pending p) c
 
 -- ---- What was not negotiated.
 
--- GET_MEASUREMENTS needs measurements in the choice, CHUNK_SEND and CHUNK_GET chunks in common, HEARTBEAT
--- and KEY_UPDATE theirs.
+-- GET_MEASUREMENTS needs measurements in the choice, CHUNK_SEND and CHUNK_GET chunks in common, HEARTBEAT and
+-- KEY_UPDATE theirs.
 abbrev pub lacks_flag : Terms → ℕ → Bool
 lacks_flag terms c =
     (c == GET_MEASUREMENTS && not terms.choice.measure) || (is_one_of (CHUNK_SEND ∷ CHUNK_GET ∷ []) c && not terms.common.chunk)
@@ -133,8 +133,7 @@ abbrev pub is_update_misplaced : Place → Option RequestMessage → Bool
 is_update_misplaced p (Some (KeyUpdate op tag)) = not (fits_stage (stage_of p.events) op)
 is_update_misplaced p _ = false
 
--- The rule of collecting that a chunk of a large request breaks; the greatest length is the responder's own
--- max size.
+-- The rule of collecting that a chunk of a large request breaks; the greatest length is the responder's own max size.
 abbrev pub chunk_fault : RspSetup → Place → Option RequestMessage → Option ChunkFault
 chunk_fault r p (Some (ChunkSend chunk)) = broken_rule r.max (under_way (chunks_of p.turns)) chunk
 chunk_fault r p _ = None
@@ -158,14 +157,14 @@ sizes_are_known Versioned = false
 sizes_are_known Capable = true
 sizes_are_known Negotiated = true
 
--- The bytes that stand round an answer: those of CHUNK_SEND_ACK, for a request that came by chunks.
+-- The bytes that stand round an answer: those of CHUNK_SEND_ACK, for a request that arrived in chunks.
 abbrev pub bytes_round : Where → ℕ
 bytes_round InClear = 0
 bytes_round InChunks = 6
 bytes_round InSession = 0
 
--- The answer passes the requester's max size; or with what stands round it its transfer size, and it can't
--- go by chunks.
+-- The answer passes the requester's max size; or with what stands round it its transfer size, and it can't are sent in
+-- chunks.
 abbrev pub is_answer_too_long : Place → List ℕ → Bool
 is_answer_too_long p answer =
     sizes_are_known p.phase
@@ -174,7 +173,7 @@ is_answer_too_long p answer =
 
 -- ---- The table.
 
--- How long a request may be: the own transfer size, and the own max size where it came by chunks.
+-- How long a request may be: the own transfer size, and the own max size where it arrived in chunks.
 abbrev pub limit_of : RspSetup → Where → ℕ
 limit_of r InClear = r.transfer
 limit_of r InChunks = r.max
@@ -223,7 +222,7 @@ refused_form r p m = first_of_tests (tests_of_form r p m)
 unfoldable pub refused_contents : RspSetup → Place → List ℕ → Free → Option ErrorCode
 refused_contents r p m f = first_of_tests (tests_of_contents r p m f)
 
--- The code with which a request that is no repeat is refused at a place, or none. The length of the answer is
--- that under the free values.
+-- The code with which a request that is no repeat is refused at a place, or none. The length of the answer is that
+-- under the free values.
 unfoldable pub refusal : RspSetup → Place → List ℕ → Free → Option ErrorCode
 refusal r p m f = option_or (refused_form r p m) (refused_contents r p m f)

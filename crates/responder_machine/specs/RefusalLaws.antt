@@ -1,5 +1,5 @@
--- What a refused request leaves of the connection, where it came in a record or by chunks: each law is the
--- contract of a function of this crate. This project's own.
+-- What a refused request leaves of the connection, where it came in a record or in chunks: each law is the contract of
+-- a function of this crate. This project's own.
 use Rattle.std.specs.Prelude.{◌≡◌, ℕ, List, [], ◌∷◌, true, false, Some, None}
 use Rattle.chunking.specs.Collecting.{under_way}
 use Rattle.spdm_grammar.specs.Message.{ChunkMessage}
@@ -25,8 +25,8 @@ abbrev pub RefusedRecordKeepsConnection : Type 0
 RefusedRecordKeepsConnection = (r : RspSetup) (h : History) (tag : ℕ) (m : List ℕ) (f : Free) (d : Draw) (t : Turn) (reply : List ℕ) (e : ErrorCode)
     → on_record r h tag m f d ≡ Adds (Sealed tag m t reply d) → t.refused ≡ Some e → IsSameConnection h (Sealed tag m t reply d ∷ h)
 
--- Phase, negotiation, ended session, queue, draws, application data taken, and the count and the last of the
--- handles given are as they were. The kept reply, the pending large answer and the chunks may have changed.
+-- Phase, negotiation, ended session, queue, draws, application data taken, and the count and the last of the handles
+-- given are as they were. The kept reply, the pending large response and the chunks may have changed.
 pub record IsSameBesideChunks (old new : History) : Type 0 where
   pub phase : phase_of (clear_turns new) ≡ phase_of (clear_turns old)
   pub negotiation : negotiation_of (clear_turns new) ≡ negotiation_of (clear_turns old)
@@ -45,8 +45,8 @@ RefusedInChunksKeepsConnection = (r : RspSetup) (h : History) (tag : ℕ) (m : L
     → refusal r (inside (clear_place h)) (completed_at (clear_place h) c) f ≡ Some e
     → IsSameBesideChunks h (after h (on_clear r h tag m f d))
 
--- What a last chunk changes that is taken and carries a refused request: with its acknowledgement, in which the
--- ERROR stands, it is the kept clear request; no large answer is pending; and no chunk is under way.
+-- What a last chunk changes that is taken and carries a refused request: with its acknowledgement, in which the ERROR
+-- stands, it is the kept clear request; no large response is pending; and no chunk is under way.
 pub record IsKeptChunk (r : RspSetup) (old : History) (tag : ℕ) (m : List ℕ) (f : Free) (c : ChunkMessage) (e : ErrorCode) (new : History) : Type 0 where
   pub kept : kept_of new ≡ Some (record { tag = tag; message = m; reply = acknowledged c (error_bytes r (inside (clear_place old)) (completed_at (clear_place old) c) f e) })
   pub pending : (transfer : ℕ) → pending_of transfer (clear_turns new) ≡ None

@@ -23,8 +23,8 @@ use Rattle.responder_machine.specs.Turn.{Turn, is_data}
 use Rattle.responder_machine.specs.Turn.Effect.{TookData}
 use Rattle.spdm_machine.specs.Bodies.{clear_body, record_body}
 
--- A body came: a repeat gets this body again; a record that no session opens gets this one; all else adds an
--- entry to the history.
+-- A body came: a repeat gets this body again; a record that no session opens gets this one; all else adds an entry to
+-- the history.
 pub data Outcome : Type 0 where
   Same : (body : List ℕ) → Outcome
   Unopened : (body : List ℕ) → Outcome
@@ -37,7 +37,7 @@ abbrev pub is_repeat : Option Kept → ℕ → List ℕ → Bool
 is_repeat None tag m = false
 is_repeat (Some kept) tag m = kept.tag == tag && bytes_eq kept.message m
 
--- The reply of the kept request; no bytes where none is kept.
+-- The reply of the kept request; empty where none is kept.
 abbrev pub kept_reply : Option Kept → List ℕ
 kept_reply None = []
 kept_reply (Some kept) = kept.reply
@@ -56,9 +56,9 @@ is_open Handshake = false
 is_open Open = true
 is_open Verifying = false
 
--- An inner message is a type and a message: 5 for an SPDM message, 1 for application data. What it is refused
--- for before it is read as a request: it is empty or of another type; application data comes where the
--- session is not open, or has more than 1,024 bytes.
+-- An inner message is a type and a message: 5 for an SPDM message, 1 for application data. What it is refused for
+-- before it is read as a request: it is empty or of another type; application data comes where the session is not open,
+-- or has more than 1,024 bytes.
 abbrev pub inner_refusal : Stage → List ℕ → Option ErrorCode
 inner_refusal stage inner = first_of_tests (
     (length inner == 0, InvalidRequest)
@@ -71,8 +71,8 @@ inner_refusal stage inner = first_of_tests (
 abbrev pub data_turn : Free → List ℕ → Turn
 data_turn f bytes = record { message = bytes; refused = None; chunk = None; effect = TookData bytes f.reply; reply = f.reply }
 
--- An inner message that has a code already is refused with it; else type 5 is handled as an SPDM message, and
--- type 1 as application data.
+-- An inner message that has a code already is refused with it; else type 5 is handled as an SPDM message, and type 1 as
+-- application data.
 abbrev pub session_turn_by : RspSetup → Events → List ℕ → Free → Option ErrorCode → Turn
 session_turn_by r s inner f (Some e) = refused_turn r (session_place s) (drop 1 inner) f e
 session_turn_by r s inner f None = if slice_index inner 0 == 5 then turn_of r (session_place s) (drop 1 inner) f else data_turn f (drop 1 inner)
@@ -92,7 +92,7 @@ abbrev pub repeats : Option KeptRecord → List ℕ → Bool
 repeats None sealed = false
 repeats (Some kept) sealed = bytes_eq kept.sealed sealed
 
--- The reply of the kept record; no bytes where none is kept.
+-- The reply of the kept record; empty where none is kept.
 abbrev pub kept_record : Option KeptRecord → List ℕ
 kept_record None = []
 kept_record (Some kept) = kept.reply

@@ -32,8 +32,8 @@ pub record Connection : Type 0 where
   pub setup : RspSetup
   pub history : History
 
--- A responder: how it is set up, the seed of its draws and the number of the first one, all packets that it was
--- given and all application data that it took, the newest first, and its connections in the order of the requesters.
+-- A responder: how it is set up, the seed of its draws and the number of the first one, all packets that it was given
+-- and all application data that it took, the newest first, and its connections in the order of the requesters.
 pub record Responding : Type 0 where
   pub part : RspPart
   pub seed : List ℕ
@@ -46,13 +46,13 @@ pub record Responding : Type 0 where
 abbrev pub new_connection : RspPart → Known → Connection
 new_connection part q = record { setup = towards part q; history = [] }
 
--- The responder that was given nothing yet, with a connection for each requester that it knows.
+-- The responder in its initial state, with a connection for each requester that it knows.
 abbrev pub new_responding : RspEnd → Responding
 new_responding e = record { part = e.part; seed = e.seed; first = e.first; given = []; taken = []; connections = map (new_connection e.part) e.known }
 
 -- ---- Which connection. The end points of the requesters differ.
 
--- The connection with this end point, if there is one.
+-- The connection with this endpoint, if there is one.
 abbrev pub connection_of : ℕ → List Connection → Option Connection
 connection_of eid connections = find (λ c. c.setup.peer == eid) connections
 
@@ -60,11 +60,11 @@ connection_of eid connections = find (λ c. c.setup.peer == eid) connections
 abbrev pub changed : (History → History) → Connection → Connection
 changed change c = record c { history = change c.history }
 
--- The same, where it is that with the end point.
+-- The same, where it is that with the endpoint.
 abbrev pub changed_if : ℕ → (History → History) → Connection → Connection
 changed_if eid change c = if c.setup.peer == eid then changed change c else c
 
--- The connections, of which that with the end point has another history.
+-- The connections, of which that with the endpoint has another history.
 abbrev pub with_history : ℕ → (History → History) → List Connection → List Connection
 with_history eid change connections = map (changed_if eid change) connections
 
@@ -79,7 +79,7 @@ over_all count (c ∷ others) = count c.history + over_all count others
 abbrev pub all_draws : List Connection → ℕ
 all_draws = over_all draws_of
 
--- The draw that stands next.
+-- The next unused draw.
 unfoldable pub next_draw : Responding → Draw
 next_draw r = draw_of r.seed (r.first + all_draws r.connections)
 
@@ -109,12 +109,12 @@ abbrev pub data_of : Outcome → Option (SessionId × List ℕ)
 data_of (Adds (Sealed tag sealed t reply d)) = data_in sealed t.effect
 data_of _ = None
 
--- Application data that were just taken, in front of the others.
+-- Application data that were just taken, before the others.
 abbrev pub with_taken : Option (SessionId × List ℕ) → List (List ℕ) → List (List ℕ)
 with_taken None others = others
 with_taken (Some new) others = new.1 ∷ others
 
--- The data of the last application message that was taken, over all connections; no bytes before the first.
+-- The data of the last application message that was taken, over all connections; empty before the first.
 abbrev pub last_data : Responding → List ℕ
 last_data r = first_or_none r.taken
   where
@@ -132,7 +132,7 @@ answers r c packet route body outcome = record {
   after = record r { given = packet ∷ r.given; taken = with_taken (data_of outcome) r.taken; connections = with_history c.setup.peer (λ h. after h outcome) r.connections };
 }
 
--- A body that is whole, while this draw stands next: it has to be a request, of a known type.
+-- A body that is whole, with this draw next: it has to be a request, of a known type.
 abbrev pub hears_whole : Responding → Draw → Connection → List ℕ → RouteFields → List ℕ → RspStep
 hears_whole r d c packet route body =
     if not route.owner then ignores r packet (heard.Ignored ignored.NotRequest)
@@ -145,7 +145,7 @@ hears_gathered r d c packet (Whole route body) = hears_whole r d c packet route 
 hears_gathered r d c packet More = ignores r packet heard.More
 hears_gathered r d c packet (Dropped cause) = ignores r packet (heard.Ignored (ignored.Dropped cause))
 
--- A packet from an end point without a connection is ignored.
+-- A packet from an endpoint without a connection is ignored.
 abbrev pub hears_from : Responding → Draw → List ℕ → PacketFields → Option Connection → RspStep
 hears_from r d packet fields None = ignores r packet (heard.Ignored ignored.UnknownPeer)
 hears_from r d packet fields (Some c) = hears_gathered r d c packet (gathered_from c.setup.eid c.setup.peer r.given fields)
@@ -171,8 +171,7 @@ responder_hears r packet = if is_worn r then worn_step r else hears_packet r (ne
 
 -- ---- Queued data and time.
 
--- Why application data is not queued: no requester has the end point, it has more than 1,024 bytes, or 16
--- messages wait.
+-- Why application data is not queued: no requester has the endpoint, it has more than 1,024 bytes, or 16 messages wait.
 abbrev pub reply_fault_of : Option Connection → List ℕ → Option ReplyFault
 reply_fault_of None bytes = Some reply_fault.UnknownPeer
 reply_fault_of (Some c) bytes =
@@ -180,7 +179,7 @@ reply_fault_of (Some c) bytes =
     else (if nat_le 16 (length (queue_of c.history)) then Some reply_fault.Full
     else None)
 
--- Application data is queued for an end point, unless it has a fault.
+-- Application data is queued for an endpoint, unless it has a fault.
 abbrev pub queues : Option ReplyFault → Responding → ℕ → List ℕ → Responding
 queues (Some fault) r eid bytes = r
 queues None r eid bytes = record r { connections = with_history eid (λ h. Queued bytes ∷ h) r.connections }

@@ -5,10 +5,9 @@ use Rattle.responder_machine.specs.LargeMessages.{pending_of, handle_of, given_o
 use Rattle.responder_machine.specs.Records.{request_purpose, response_purpose}
 use Rattle.responder_machine.specs.Session.{Events, is_live, stage_of, id_bytes, period_of, t1_of, t2_of, session_negotiation, session_terms, request_epoch, response_epoch, taken_of, turns_of}
 
--- Liveness, stage, id, heartbeat period, transcripts, the purposes of records in both directions, epochs,
--- negotiation, choice and common capabilities, application data taken, the pending large answer, the count of
--- large answers and the chunks taken are as they were. The counts of records, the kept reply and the clock may
--- have moved.
+-- Liveness, stage, id, heartbeat period, transcripts, the purposes of records in both directions, epochs, negotiation,
+-- choice and common capabilities, application data taken, the pending large response, the count of large responses and
+-- the chunks taken are as they were. The counts of records, the kept reply and the clock may have moved.
 pub record IsSameSession (old new : Events) : Type 0 where
   pub live : is_live new ≡ is_live old
   pub stage : stage_of new ≡ stage_of old

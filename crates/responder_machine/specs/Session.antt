@@ -1,5 +1,4 @@
--- One session at the responder: its own history, picked out of that of the connection, and what is counted
--- in it.
+-- One session at the responder: its own history, picked out of that of the connection, and what is counted in it.
 use Rattle.std.specs.Prelude.{◌+◌, ◌*◌, ◌==◌, ◌&&◌, ◌||◌, not, nat_le, ℕ, List, [], ◌∷◌, drop, if◌then◌else◌, Bool, true, false, Option, Some, None, slice_index}
 use Rattle.byteorder.specs.Endian.{little_number}
 use Rattle.running_hash.specs.Hash.{Hash, hash_of}
@@ -15,9 +14,8 @@ use Rattle.transcript.specs.Transcripts.{Negotiation, vca_of}
 use Rattle.spdm_machine.specs.Sessions.{id_in_exchange, is_past_handshake}
 use Rattle.spdm_grammar.specs.declared.names.request_code.TheConstants.{GET_VERSION, PSK_EXCHANGE, PSK_FINISH, KEY_UPDATE, END_SESSION}
 
--- What a session sees: PSK_EXCHANGE and PSK_EXCHANGE_RSP, which began it, with the negotiation that they
--- were made under; a record taken, with the turn of its inner message and the record sent in answer;
--- seconds that passed.
+-- What a session sees: PSK_EXCHANGE and PSK_EXCHANGE_RSP, which began it, with the negotiation that they were made
+-- under; a record taken, with the turn of its inner message and the record sent in answer; seconds that passed.
 pub data Event : Type 0 where
   Began : (negotiation : Negotiation) → (exchange : List ℕ) → (answer : List ℕ) → Event
   Heard : (sealed : List ℕ) → (turn : Turn) → (reply : List ℕ) → Event
@@ -112,8 +110,7 @@ response_epoch [] = 0
 response_epoch (Heard m t reply ∷ older) = if updates 2 t then response_epoch older + 1 else response_epoch older
 response_epoch (_ ∷ older) = response_epoch older
 
--- The records taken under the present request key. PSK_FINISH and an update are the last ones under the key
--- before.
+-- The records taken under the present request key. PSK_FINISH and an update are the last ones under the key before.
 abbrev pub request_next : Events → ℕ
 request_next [] = 0
 request_next (Heard m t reply ∷ older) = if takes PSK_FINISH t || updates 1 t || updates 2 t then 0 else request_next older + 1
@@ -162,7 +159,7 @@ t2_of s = transcript.t2_of (session_vca s) (exchange_of s) (exchange_answer s) (
 
 -- ---- Time (DSP0274, "HEARTBEAT"). Only a session past its handshake, with a period, is timed.
 
--- The session is past its handshake, and its period is not 0.
+-- The session is established, and its period is not 0.
 abbrev pub is_timed : Events → Bool
 is_timed s = is_past_handshake (stage_of s) && not (period_of s == 0)
 
@@ -181,7 +178,7 @@ after_tick s seconds =
 
 -- ---- The session of an id.
 
--- The id by which a record names its session: RspSessionID, which stands behind ReqSessionID.
+-- The id by which a record names its session: RspSessionID, which follows ReqSessionID.
 abbrev pub id_in_record : List ℕ → ℕ
 id_in_record sealed = little_number 2 (drop 2 sealed)
 

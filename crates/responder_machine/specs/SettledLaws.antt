@@ -1,5 +1,5 @@
--- What the messages of a negotiation settle: the laws of terms, each the contract of a function of this
--- crate. This project's own.
+-- What the messages of a negotiation settle: the laws of terms, each the contract of a function of this crate. This
+-- project's own.
 use Rattle.std.specs.Prelude.{◌≡◌, ◌≤◌, ℕ, List, true, Some}
 use Rattle.std.specs.Result.{result_ok}
 use Rattle.negotiate.specs.Capabilities.{common_of}
@@ -32,8 +32,8 @@ AlgorithmsSettleChoice = (r : RspSetup) (p : Place) (m : List ℕ) (f : Free) (o
     → request_at p m ≡ Some (NegotiateAlgorithms offer) → selected offer (policy_of r) ≡ Some choice
     → (terms_of (record n { negotiate_algorithms = m; algorithms = answer_bytes r p m f })).choice ≡ choice
 
--- From phase Capable on the requester takes messages of 42 bytes at least, and its max size is at least its
--- transfer size.
+-- From phase Capable on the requester takes messages of 42 bytes at least, and its max size is at least its transfer
+-- size.
 abbrev pub SizesAreKnown : Type 0
 SizesAreKnown = (r : RspSetup) (h : History) → IsMade r h → FitsCaps (responder_caps r) → sizes_are_known (phase_of (clear_turns h)) ≡ true
     → (MIN_DATA_TRANSFER_SIZE ≤ (terms_of (negotiation_of (clear_turns h))).common.to_requester.transfer)

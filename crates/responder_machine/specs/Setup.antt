@@ -9,9 +9,9 @@ use Rattle.spdm_grammar.specs.declared.messages.choice.Suites.{Suites}
 use Rattle.spdm_grammar.specs.declared.names.capability.TheConstants.{MEAS_CAP, PSK_CAP_WITH_CONTEXT}
 use Rattle.spdm_machine.specs.Setup.{protection_flags, optional_flags}
 
--- What is set up of a responder for all requesters: its end point, the sizes of its messages, the payload size of
--- its packets, its heartbeat period in seconds, the capabilities that it announces, its opaque data, its
--- measurements and its algorithms.
+-- What is set up of a responder for all requesters: its endpoint, the sizes of its messages, the payload size of its
+-- packets, its heartbeat period in seconds, the capabilities that it announces, its opaque data, its measurements and
+-- its algorithms.
 pub record RspPart : Type 0 where
   pub eid : ℕ
   pub transfer : ℕ
@@ -23,7 +23,7 @@ pub record RspPart : Type 0 where
   pub blocks : List BlockSpec
   pub suites : Suites
 
--- What a responder knows of a requester: its end point, the hint that it gives, and the pre-shared key.
+-- What a responder knows of a requester: its endpoint, the hint that it gives, and the pre-shared key.
 pub record Known : Type 0 where
   pub eid : ℕ
   pub hint : List ℕ
@@ -37,10 +37,9 @@ pub record RspEnd : Type 0 where
   pub seed : List ℕ
   pub first : ℕ
 
--- A responder as it is set up towards one requester: its end point, the sizes of its messages, the payload
--- size of its packets, its heartbeat period in seconds, the capabilities that it announces, its opaque
--- data, its measurements and its algorithms; and the end point, the hint and the pre-shared key of the
--- requester.
+-- A responder as it is set up towards one requester: its endpoint, the sizes of its messages, the payload size of its
+-- packets, its heartbeat period in seconds, the capabilities that it announces, its opaque data, its measurements and
+-- its algorithms; and the endpoint, the hint and the pre-shared key of the requester.
 pub record RspSetup : Type 0 where
   pub eid : ℕ
   pub transfer : ℕ

@@ -1,5 +1,5 @@
--- What both ends can do from phase Capable on, and the sizes of their messages: each law is the contract of a
--- function of this crate. This project's own.
+-- What both ends can do from phase Capable on, and the sizes of their messages: each law is the contract of a function
+-- of this crate. This project's own.
 use Rattle.std.specs.Prelude.{◌≡◌, ◌≤◌, ℕ, true, Some}
 use Rattle.std.specs.Result.{result_ok}
 use Rattle.negotiate.specs.Capabilities.{common_of}
@@ -14,14 +14,14 @@ use Rattle.responder_machine.specs.Refusal.{sizes_are_known}
 use Rattle.responder_machine.specs.Session.{session_of, session_terms, is_live}
 use Rattle.responder_machine.specs.Setup.{RspSetup, responder_caps}
 
--- From phase Capable on, what both ends can do is what capabilities that a requester told and the responder's
--- own can do together.
+-- From phase Capable on, what both ends can do is what capabilities that a requester told and the responder's own can
+-- do together.
 abbrev pub CommonIsNegotiated : Type 0
 CommonIsNegotiated = (r : RspSetup) (h : History) → IsMade r h → FitsCaps (responder_caps r) → sizes_are_known (phase_of (clear_turns h)) ≡ true
     → (caps : Caps) × (result_ok (common_of caps (responder_caps r)) ≡ Some (terms_of (negotiation_of (clear_turns h))).common)
 
--- The sizes of messages to the responder are the configured ones. The requester takes 42 bytes at least, its max
--- size is at least its transfer size, and no message to it passes 4,096 bytes.
+-- The sizes of messages to the responder are the configured ones. The requester takes 42 bytes at least, its max size
+-- is at least its transfer size, and no message to it passes 4,096 bytes.
 pub record HasSizes (r : RspSetup) (common : Common) : Type 0 where
   pub own : common.to_responder ≡ record { transfer = r.transfer; max = r.max }
   pub least : MIN_DATA_TRANSFER_SIZE ≤ common.to_requester.transfer

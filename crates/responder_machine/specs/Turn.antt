@@ -6,17 +6,16 @@ use Rattle.spdm_grammar.specs.Message.RequestMessage.{KeyUpdate}
 use Rattle.spdm_grammar.specs.declared.messages.error_code.ErrorCode.{ErrorCode}
 use Rattle.spdm_grammar.specs.declared.names.request_code.TheConstants.{GET_MEASUREMENTS, PSK_EXCHANGE}
 
--- What took effect: nothing; a request, as a value and as its bytes, with its whole answer, and with the
--- handle of the ERROR LargeResponse by which the answer went, where it went so; application data, with the
--- application data sent in answer. A request is the message itself, or the large one that it completed.
+-- What took effect: nothing; a request, as a value and as its bytes, with its whole answer, and with the handle of the
+-- ERROR LargeResponse by which the answer went, where it went so; application data, with the application data sent in
+-- answer. A request is the message itself, or the large one that it completed.
 pub data Effect : Type 0 where
   NoEffect : Effect
   Took : (asked : RequestMessage) → (request : List ℕ) → (answer : List ℕ) → (large : Option ℕ) → Effect
   TookData : (bytes : List ℕ) → (answer : List ℕ) → Effect
 
--- A message as it came (in a session without its type byte), the error code with which it was refused, the
--- chunk of a large request that it was, where it was one and was taken, what took effect, and the message
--- that was sent.
+-- A message as it came (in a session without its type byte), the error code with which it was refused, the chunk of a
+-- large request that it was, where it was one and was taken, what took effect, and the message that was sent.
 pub record Turn : Type 0 where
   pub message : List ℕ
   pub refused : Option ErrorCode

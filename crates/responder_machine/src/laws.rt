@@ -1,12 +1,12 @@
-//! What holds of the responder's definitions at every history, each law as the contract of a function
-//! that does nothing.
+//! What holds of the responder's definitions at every history, each law as the contract of a function that does
+//! nothing.
 
 ghost use Rattle.responder_machine.specs.Laws.{ChosenIsAllowed, DoesWhatItMay, FinishIsVerified, FourAreHeldAtMost, FreeIdIsFree, HeldAreFew, LiveIsUnderNegotiation, LiveIdIsFromOneToFour, NewSessionIsFresh, OneIsInHandshake, RecordKeepsOthers, RefusedClearKeepsConnection, RefusedClearKeepsSessions, RefusedInChunksKeepsSessions, RefusedRecordKeepsSessions, RepeatAddsNothing, RepeatedRecordAddsNothing, RequestHasItsCode, TakenExchangeIsFresh, TakenIsRepeated, TakenRecordIsOpened, TakenRecordIsRepeated, UnopenedAddsNothing};
 ghost use Rattle.responder_machine.specs.NumberLaws.{FinishBeginsAtZero, MadeIsStaged, NextNumbersAreCounts, NumbersAreFew, ReplyNumberIsCount, UpdateAllIsAnsweredAtZero, UpdateBeginsAtZero};
 ghost use Rattle.responder_machine.specs.SettledLaws.{AlgorithmsSettleChoice, CapabilitiesSettleCommon, SizesAreKnown};
 
-/// The values that this project's responder chooses at a place of a history that it made are ones that
-/// every responder of this profile may choose.
+/// The values that this project's responder chooses at a place of a history that it made are ones that every responder
+/// of this profile may choose.
 pub fn chosen_is_allowed()
     ensures { ChosenIsAllowed }
 {}
@@ -26,8 +26,8 @@ pub fn refused_in_chunks_keeps_sessions()
     ensures { RefusedInChunksKeepsSessions }
 {}
 
-/// A refused request in a record changes no session but for the counts of records, the kept reply and
-/// the clock of its carrier.
+/// A refused request in a record changes no session but for the counts of records, the kept reply and the clock of its
+/// carrier.
 pub fn refused_record_keeps_sessions()
     ensures { RefusedRecordKeepsSessions }
 {}
@@ -42,8 +42,7 @@ pub fn repeat_adds_nothing()
     ensures { RepeatAddsNothing }
 {}
 
-/// A repeated record, of a live session or of the one ended session that is kept, adds nothing to the
-/// history.
+/// A repeated record, of a live session or of the one ended session that is kept, adds nothing to the history.
 pub fn repeated_record_adds_nothing()
     ensures { RepeatedRecordAddsNothing }
 {}
@@ -58,20 +57,18 @@ pub fn taken_is_repeated()
     ensures { TakenIsRepeated }
 {}
 
-/// A record that was taken and comes again at once gets the same body, under any tag and after
-/// END_SESSION too.
+/// A record that was taken and comes again at once gets the same body, under any tag and after END_SESSION too.
 pub fn taken_record_is_repeated()
     ensures { TakenRecordIsRepeated }
 {}
 
-/// A PSK_FINISH that takes effect has the requester's verify data over Tv of the session that its
-/// record names.
+/// A PSK_FINISH that takes effect has the requester's verify data over Tv of the session that its record names.
 pub fn finish_is_verified()
     ensures { FinishIsVerified }
 {}
 
-/// The id that the responder chooses for a new session is from 1 to 4 and that of no session past its
-/// handshake, unless there are four of them.
+/// The id that the responder chooses for a new session is from 1 to 4 and that of no established session, unless there
+/// are four of them.
 pub fn free_id_is_free()
     ensures { FreeIdIsFree }
 {}
@@ -91,25 +88,25 @@ pub fn one_is_in_handshake()
     ensures { OneIsInHandshake }
 {}
 
-/// A PSK_EXCHANGE that is not refused begins a session under the id of its answer, from 1 to 4, which
-/// no session past its handshake had, with the negotiation as it stands.
+/// A PSK_EXCHANGE that is not refused begins a session under the id of its answer, from 1 to 4, which no established
+/// session had, with the negotiation as it stands.
 pub fn new_session_is_fresh()
     ensures { NewSessionIsFresh }
 {}
 
-/// Each clear message that takes a PSK_EXCHANGE, also as the last chunk of a large one, begins a
-/// session under an id that no session past its handshake had.
+/// Each clear message that takes a PSK_EXCHANGE, also as the last chunk of a large one, begins a session under an id
+/// that no established session had.
 pub fn taken_exchange_is_fresh()
     ensures { TakenExchangeIsFresh }
 {}
 
-/// The request that a message spells has the code that stands in its second byte.
+/// The request that a message encodes has the code that stands in its second byte.
 pub fn request_has_its_code()
     ensures { RequestHasItsCode }
 {}
 
-/// In a session of a history that the responder made PSK_FINISH was taken in the handshake alone, and
-/// KEY_UPDATE after it alone.
+/// In a session of a history that the responder made PSK_FINISH was taken in the handshake alone, and KEY_UPDATE after
+/// it alone.
 pub fn made_is_staged()
     ensures { MadeIsStaged }
 {}
@@ -119,8 +116,8 @@ pub fn next_numbers_are_counts()
     ensures { NextNumbersAreCounts }
 {}
 
-/// The number of an answer is the count of the session's own records that were sealed under its purpose
-/// before it, so that a session seals no two answers under one purpose and number.
+/// The number of an answer is the count of the session's own records that were sealed under its purpose before it, so
+/// that a session seals no two answers under one purpose and number.
 pub fn reply_number_is_count()
     ensures { ReplyNumberIsCount }
 {}
@@ -151,14 +148,14 @@ pub fn held_are_few()
     ensures { HeldAreFew }
 {}
 
-/// A session of a history that the responder made is live in phase Negotiated alone, and its
-/// negotiation is that of the connection.
+/// A session of a history that the responder made is live in phase Negotiated alone, and its negotiation is that of the
+/// connection.
 pub fn live_is_under_negotiation()
     ensures { LiveIsUnderNegotiation }
 {}
 
-/// A record that was taken is no repeat, its session is live and opens it, its turn is that of its
-/// inner message, and the record sent is the one of the turn's answer.
+/// A record that was taken is no repeat, its session is live and opens it, its turn is that of its inner message, and
+/// the record sent is the one of the turn's answer.
 pub fn taken_record_is_opened()
     ensures { TakenRecordIsOpened }
 {}
@@ -178,8 +175,8 @@ pub fn algorithms_settle_choice()
     ensures { AlgorithmsSettleChoice }
 {}
 
-/// In a history that the responder made, from phase Capable on, the requester takes messages of at least
-/// 42 bytes, and its max size is at least its transfer size.
+/// In a history that the responder made, from phase Capable on, the requester takes messages of at least 42 bytes, and
+/// its max size is at least its transfer size.
 pub fn sizes_are_known()
     ensures { SizesAreKnown }
 {}
