@@ -1,4 +1,4 @@
--- What is left of a large answer, beside what the definitions have pending.
+-- What is left of a large response, beside what the definitions have pending.
 use Rattle.std.proofs.Common.{◌≡◌, ◌∙◌, ◌+◌, ◌%◌, ℕ, List, [], ◌∷◌, drop, Bool, true, false, Option, Some, None, not, nat_lt, refl, sym, ap}
 use Rattle.std.proofs.lemmas.Bool.{false≢true, ltb-true, ltb-false}
 use Rattle.std.proofs.lemmas.List.{drop-drop}

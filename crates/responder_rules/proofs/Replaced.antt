@@ -1,4 +1,4 @@
--- A large answer that gets other bytes while it is pending.
+-- A large response that gets other bytes while it is pending.
 use Rattle.std.proofs.Common.{refl, ◌≡◌, ◌∙◌, ◌+◌, ◌%◌, ℕ, List, [], ◌∷◌, drop, Bool, true, false, Option, Some, None, not, sym, ap}
 use Rattle.std.proofs.lemmas.Bool.{false≢true}
 use Rattle.std.specs.Prelude.{◌||◌, ◌==◌, if◌then◌else◌, is_some, unwrap_or}

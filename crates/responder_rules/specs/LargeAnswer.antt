@@ -1,4 +1,4 @@
--- A large answer of a place that goes by chunks, as the program keeps it.
+-- A large response of a place that is sent in chunks, as the program keeps it.
 use Rattle.std.specs.Prelude.{◌≡◌, ◌+◌, ◌||◌, not, if◌then◌else◌, ℕ, List, [], ◌∷◌, drop, Bool, true, false, Option, Some, None}
 use Rattle.chunking.specs.Cutting.{chunks_of}
 use Rattle.responder_machine.specs.Answer.{chunk_answer}
@@ -18,7 +18,7 @@ abbrev pub left_by : ℕ → List Turn → Option (List ℕ) → List ChunkMessa
 left_by transfer turns None = []
 left_by transfer turns (Some answer) = drop (given_of turns) (chunks_of transfer (handle_of turns) answer)
 
--- What is kept, as contracts see it: these chunks, and the handle of the next large answer.
+-- What is kept, as contracts see it: these chunks, and the handle of the next large response.
 pub record Seen : Type 0 where
   pub left : List ChunkMessage
   pub next : ℕ
@@ -46,8 +46,8 @@ effect_with answer (TookData bytes old) = TookData bytes old
 abbrev pub turn_with : List ℕ → Turn → Turn
 turn_with answer t = record t { effect = effect_with answer t.effect }
 
--- The turns with these bytes as the whole answer to the last message that was taken and is no CHUNK_GET: a
--- large answer that is pending is its answer.
+-- The turns with these bytes as the whole answer to the last message that was taken and is no CHUNK_GET: a large
+-- response that is pending is its answer.
 abbrev pub turns_with : List ℕ → List Turn → List Turn
 turns_with answer [] = []
 turns_with answer (t ∷ older) =
@@ -68,12 +68,12 @@ effect_unseen NoEffect = NoEffect
 effect_unseen (Took asked request answer large) = Took asked request [] None
 effect_unseen (TookData bytes answer) = TookData bytes answer
 
--- A turn whose large answer was never seen.
+-- A turn whose large response was never seen.
 abbrev pub turn_unseen : Turn → Turn
 turn_unseen t = record t { effect = effect_unseen t.effect }
 
--- The turns whose last message that was taken and is no CHUNK_GET has an answer that was never seen: a large
--- answer that is pending is its answer.
+-- The turns whose last message that was taken and is no CHUNK_GET has an answer that was never seen: a large response
+-- that is pending is its answer.
 abbrev pub turns_unseen : List Turn → List Turn
 turns_unseen [] = []
 turns_unseen (t ∷ older) =

@@ -44,9 +44,8 @@ fn four_bytes(number: u32) -> [u8; 4]
 }
 
 impl Place {
-    /// Writes the ERROR with which a message is refused at this place, in place of what `out` holds (DSP0274,
-    /// "ERROR response message format"). For ResponseTooLarge `answer_len` is the length of the answer; for
-    /// other codes it does not matter.
+    /// Overwrites `out` with the ERROR with which a message is refused at this place (DSP0274, "ERROR response message
+    /// format"). For ResponseTooLarge `answer_len` is the length of the answer; for other codes it does not matter.
     pub fn write_error(&self, code: ErrorCode, message: &[u8], answer_len: u32, out: &mut Frame)
         ensures value { (r : RspSetup) (p : places.Place) (f : Free) → IsPlace self.now p
             → (code ≡ ResponseTooLarge → answer_len ≡ length (answer_bytes r p message.now f))
@@ -62,7 +61,7 @@ impl Place {
     }
 }
 
-/// Writes the ERROR LargeResponse with a handle, in place of what `out` holds.
+/// Overwrites `out` with the ERROR LargeResponse with a handle.
 pub fn write_large_response(handle: u8, out: &mut Frame)
     ensures value { out.new ≡ large_response handle }
     ensures size { length out.new ≡ 5 }

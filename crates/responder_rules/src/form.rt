@@ -65,7 +65,7 @@ fn version_for(code: u8) -> u8
 }
 
 impl Place {
-    // Whether the phase allows a request in the clear and by chunks, or the stage one in a session.
+    // Whether the phase allows a request in the clear and in chunks, or the stage one in a session.
     fn allows(&self, code: u8) -> bool
         ensures { (p : places.Place) → IsPlace self.now p
             → result ≡ refusal.is_allowed p.at p code }
@@ -76,11 +76,11 @@ impl Place {
         }
     }
 
-    /// Reads a request of at most `limit` bytes at this place, or answers the code with which its form is
-    /// refused: InvalidRequest for fewer than four bytes; RequestTooLarge; UnsupportedRequest for a code that
-    /// is none of this profile; SessionRequired; UnsupportedRequest for CHUNK_SEND in a session;
-    /// UnexpectedRequest for one that does not come at such a place, or that its phase or stage does not
-    /// allow; VersionMismatch; InvalidRequest for one that cannot be read.
+    /// Reads a request of at most `limit` bytes at this place, or answers the code with which its form is refused:
+    /// InvalidRequest for fewer than four bytes; RequestTooLarge; UnsupportedRequest for a code that is none of this
+    /// profile; SessionRequired; UnsupportedRequest for CHUNK_SEND in a session; UnexpectedRequest for one that does
+    /// not come at such a place, or that its phase or stage does not allow; VersionMismatch; InvalidRequest for one
+    /// that cannot be read.
     #[tactic(auto, unfolding(responder_machine::specs::Refusal::refused_form))]
     pub fn read<'a>(&self, limit: u32, message: &'a [u8]) -> Result<Request<'a>, ErrorCode>
         ensures { (r : RspSetup) (p : places.Place) → IsPlace self.now p → limit ≡ limit_of r p.at

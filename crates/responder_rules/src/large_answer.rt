@@ -15,8 +15,8 @@ use chunking::Splitter;
 use spdm_grammar::ChunkView;
 use std::marker::Model;
 
-/// The large answer of a place that is still to be given by CHUNK_GET, and the count of handles there
-/// (DSP0274, "CHUNK_GET request message format").
+/// The large response of a place that is still to be given by CHUNK_GET, and the count of handles there (DSP0274,
+/// "CHUNK_GET request message format").
 #[derive(Drop)]
 pub struct LargeAnswer {
     splitter: Option<Splitter>,
@@ -33,7 +33,7 @@ impl Model for LargeAnswer {
 }
 
 impl LargeAnswer {
-    /// Where no request came yet.
+    /// The initial state, before any request.
     pub fn new() -> LargeAnswer
         ensures { (transfer : ℕ) → StandsFor result transfer [] }
     {
@@ -62,7 +62,7 @@ impl LargeAnswer {
     }
 
     #[tactic(auto, using(crate::proofs::Left::left_pends, crate::proofs::Left::nothing_left))]
-    /// An equal one where no chunk is still to be given; none where one is.
+    /// A copy where no chunk is still to be given; `None` where one is.
     pub fn idle_copy(&self) -> Option<LargeAnswer>
         ensures same { IfSome result (λ copy. copy ≡ self.now) }
         ensures idle { (transfer : ℕ) (turns : List Turn) → StandsFor self.now transfer turns
@@ -77,7 +77,7 @@ impl LargeAnswer {
         }
     }
 
-    /// The handle of the next large answer: they count modulo 256 from 0.
+    /// The handle of the next large response: they count modulo 256 from 0.
     pub fn next_handle(&self) -> u8
         ensures { (transfer : ℕ) (turns : List Turn) → StandsFor self.now transfer turns
             → result ≡ next_handle turns }
@@ -86,8 +86,8 @@ impl LargeAnswer {
     }
 
     #[tactic(auto, using(crate::proofs::Left::next_given, crate::proofs::Left::none_is_left))]
-    /// The chunk that a CHUNK_GET asks for where one is pending; none where its handle is not that of the
-    /// answer, or its number not the next.
+    /// The chunk that a CHUNK_GET asks for where one is pending; `None` where its handle is not that of the answer, or
+    /// its number not the next.
     pub fn asked(&self, handle: u8, number: u16) -> Option<ChunkView<'_>>
         ensures { (p : places.Place)
             → StandsFor self.now (place_terms p).common.to_requester.transfer p.turns
@@ -127,7 +127,7 @@ impl LargeAnswer {
         self.next = self.next.wrapping_add(1);
     }
 
-    /// The answer that is pending gets these bytes, which go by chunks; as many chunks of it are given.
+    /// The answer that is pending gets these bytes, which are sent in chunks; as many chunks of it are given.
     pub fn put(&mut self, answer: &[u8], transfer: u32)
         requires { length answer.now ≤ MAX_MESSAGE_SIZE }
         ensures { (turns : List Turn) → MIN_DATA_TRANSFER_SIZE ≤ transfer
@@ -153,8 +153,8 @@ impl LargeAnswer {
         }
     }
 
-    /// The answer that went by LargeResponse last was never seen, though chunks of it may have been given: it
-    /// is not pending, and took no handle.
+    /// The answer that went by LargeResponse last was never seen, though chunks of it may have been given: it is not
+    /// pending, and took no handle.
     pub fn forget(&mut self)
         ensures { (transfer : ℕ) (turns : List Turn) → StandsFor self.old transfer turns
             → is_some (large_of turns) ≡ true → StandsFor self.new transfer (turns_unseen turns) }
@@ -171,7 +171,7 @@ impl LargeAnswer {
         self.next = self.next.wrapping_sub(1);
     }
 
-    /// Another request was taken, whose answer does not go by chunks, or application data.
+    /// Another request was taken, whose answer does not be sent in chunks, or application data.
     pub fn clear(&mut self)
         ensures { (transfer : ℕ) (turns : List Turn) (t : Turn)
             → StandsFor self.old transfer turns → is_taken t ≡ true → takes CHUNK_GET t ≡ false
@@ -181,8 +181,8 @@ impl LargeAnswer {
     }
 }
 
-// Takes away what is left, if anything is. Where nothing is, nothing is written: `None` clears the place of
-// a splitter, which is large.
+// Takes away what is left, if anything is. Where nothing is, nothing is written: `None` clears the place of a splitter,
+// which is large.
 fn empty(splitter: &mut Option<Splitter>)
     ensures { unwrap_or splitter.new [] ≡ [] }
 {

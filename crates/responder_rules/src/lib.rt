@@ -1,8 +1,8 @@
-//! What a responder goes by at each place where a request comes, in the clear, in a large request and in a
-//! session (DSP0274, section 10): which request is refused, with which ERROR, and how a large answer goes.
+//! What a responder goes by at each place where a request comes, in the clear, in a large request and in a session
+//! (DSP0274, section 10): which request is refused, with which ERROR, and how a large response goes.
 //!
-//! Read first: `IsPlace` in `specs/Place.antt`, what a responder goes by where a request comes. The
-//! call to begin with is `Place::read`.
+//! Read first: `IsPlace` in `specs/Place.antt`, what a responder goes by where a request comes. The call to begin with
+//! is `Place::read`.
 #![tactic(auto)]
 
 mod error;

@@ -12,6 +12,6 @@ pub struct Place {
     pub stage: Stage,
     pub choice: Choice,
     pub common: Common,
-    /// Whether a chunk of a large answer is still to be given here.
+    /// Whether a chunk of a large response is still to be given here.
     pub pending: bool,
 }

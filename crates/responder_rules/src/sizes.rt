@@ -15,9 +15,8 @@ fn are_known(phase: Phase) -> bool
 }
 
 impl Place {
-    /// Whether an answer of this length is refused: it passes the requester's max size; or its transfer size,
-    /// with the bytes of CHUNK_SEND_ACK round it for a request that came by chunks, where it cannot go by
-    /// chunks.
+    /// Whether an answer of this length is refused: it passes the requester's max size; or its transfer size, with the
+    /// bytes of CHUNK_SEND_ACK round it for a request that arrived in chunks, where it cannot be sent in chunks.
     pub fn is_too_long(&self, len: usize) -> bool
         ensures { (p : places.Place) (answer : List ℕ) → IsPlace self.now p → len ≡ length answer
             → result ≡ is_answer_too_long p answer }

@@ -13,7 +13,7 @@ use spdm_grammar::names::request_code::{
 pub enum Where {
     /// In a message of its own.
     InClear,
-    /// In a large request that came by chunks.
+    /// In a large request that arrived in chunks.
     InChunks,
     /// In a record of a session.
     InSession,
@@ -32,15 +32,15 @@ impl Where {
         }
     }
 
-    // Nothing is sent by chunks inside a session.
+    // Nothing is sent in chunks inside a session.
     pub(crate) fn is_chunk_in_session(self, code: u8) -> bool
         ensures { result ≡ refusal.is_chunk_in_session (where_of self) code }
     {
         self == Where::InSession && code == CHUNK_SEND
     }
 
-    // The requests that begin and negotiate a connection do not come in a session, and those that neither a
-    // large request carries do not come by chunks.
+    // The requests that begin and negotiate a connection do not come in a session, and those that neither a large
+    // request carries do not arrive in chunks.
     pub(crate) fn is_misplaced(self, code: u8) -> bool
         ensures { result ≡ refusal.is_misplaced (where_of self) code }
     {
@@ -54,7 +54,7 @@ impl Where {
         }
     }
 
-    // The bytes that stand round an answer: those of CHUNK_SEND_ACK, for a request that came by chunks.
+    // The bytes that stand round an answer: those of CHUNK_SEND_ACK, for a request that arrived in chunks.
     pub(crate) fn bytes_round(self) -> usize
         ensures { result ≡ refusal.bytes_round (where_of self) }
     {
