@@ -46,7 +46,7 @@ early_cause c r before held n (fault.BadFrame at) early = absurd early
 early_cause c r before held n (fault.Responder of) early = refl
 early_cause c r before held n fault.OutOfMemory early = refl
 
--- behind it no fault is of these
+-- after it no fault is of these
 pub late_refused : (c : ScriptConfig) (f : ServeFault) → IsLate f → IsRefusal c f
 late_refused c fault.ReadFault late = tt
 late_refused c fault.WriteFault late = tt

@@ -26,7 +26,7 @@ short_if : (b : Bool) (x y : RspStep) → AreShort x.sent → AreShort y.sent �
 short_if true x y first second = first
 short_if false x y first second = second
 
--- what is found is the first, or stands behind it
+-- what is found is the first, or follows it
 first_or_behind : (b : Bool) (d c : Connection) (rest : Option Connection) → (if b then Some d else rest) ≡ Some c → (c ≡ d) ⊎ (rest ≡ Some c)
 first_or_behind true d c rest found = inl (same_Some c d (sym found))
 first_or_behind false d c rest found = inr found

@@ -19,7 +19,7 @@ sent_for r (PacketOf packet) = (responder_hears r packet).sent
 sent_for r (TicksOf seconds) = []
 sent_for r (CommandOf line) = []
 
--- The responder behind a frame, and behind all of them in order.
+-- The responder after a frame, and after all of them in order.
 abbrev pub after_frame : Responding → GivenFrame → Responding
 after_frame r (PacketOf packet) = (responder_hears r packet).after
 after_frame r (TicksOf seconds) = ticks r seconds
@@ -41,7 +41,7 @@ responder_of c seed = new_responding (responder_end c seed 0)
 -- ---- What was read and written in a call, of a responder. Of a source that tells what it has left the stream is
 -- known: `before` the call.
 
--- The answers to the frames of the stream were written, and no more. The stream ends so behind them.
+-- The answers to the frames of the stream were written, and no more. The stream ends so after them.
 pub record IsServed (r : Responding) (before held holds : Option (List ℕ)) (ending : Ending) : Type 0 where
   pub frames : List GivenFrame
   pub stream : (left : List ℕ) → before ≡ Some left → IsStream served_kinds stream_limit left frames ending

@@ -15,7 +15,7 @@ told_of frame.ReadFault = ReadFault
 told_of frame.TooLong = TooLong
 told_of (frame.BadFrame at) = BadFrame at
 
--- A fault of the configuration; want of memory is the same of all.
+-- A fault of the configuration; allocation failure is the same of all.
 abbrev pub of_responder : RspConfigFault → ServeFault
 of_responder answering.OutOfMemory = OutOfMemory
 of_responder fault = Responder fault

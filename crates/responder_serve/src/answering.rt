@@ -24,7 +24,7 @@ pub(crate) struct Server {
     pub(crate) out: PacketList,
 }
 
-// The fault of a call, as it is told.
+// The fault of a call, as it is reported.
 fn fault_of(fault: FrameFault) -> ServeFault
     ensures { result ≡ told_of fault }
 {
@@ -46,8 +46,8 @@ impl Server {
     ghost use Rattle.responder_serve.specs.Told.{IsEarly};
     ghost use Rattle.spdm_basis.specs.Stream.{HasFault};
 
-    // The responder of a configuration with this seed, and its stream, of which some bytes were read already. It takes
-    // all memory.
+    // The responder of a configuration with this seed, and its stream, of which some bytes were read already. Allocates
+    // all its memory here.
     pub(crate) fn new(
         alloc: Global,
         config: &ScriptConfig,

@@ -7,7 +7,7 @@ pub enum ServeFault {
     /// Reading failed.
     #[error("reading failed")]
     ReadFault,
-    /// Writing failed, behind a part of the output.
+    /// Writing failed, possibly after part of the output.
     #[error("writing failed")]
     WriteFault,
     /// The stream has more than 2^40 bytes.
@@ -16,11 +16,11 @@ pub enum ServeFault {
     /// The frame that begins at this byte of the stream has a wrong kind, or is cut by the end of input.
     #[error("bad frame at byte {at}")]
     BadFrame { at: u64 },
-    /// The configuration sets up no responder: the first fault, which is not want of memory. Nothing was read and nothing
-    /// was written.
+    /// The configuration sets up no responder: the first fault, which is not allocation failure. Nothing was read and
+    /// nothing was written.
     #[error("no responder: {0}")]
     Responder(RspConfigFault),
-    /// Memory ran out. Nothing was read and nothing was written.
+    /// Out of memory. Nothing was read and nothing was written.
     #[error("out of memory")]
     OutOfMemory,
 }

@@ -1,7 +1,6 @@
 //! A responder on a stream of frames.
 //!
-//! Read first: `IsServed` in `specs/Served.antt`, what is written for a stream of frames. The call
-//! is `serve`.
+//! Read first: `IsServed` in `specs/Served.antt`, what is written for a stream of frames. The call is `serve`.
 #![tactic(auto)]
 
 mod answering;
