@@ -60,8 +60,7 @@ get_pending Verifying pending handle number h = absurd (cc)
 pub get_while_pending : (r : RspSetup) (s : Events) (m : List ℕ) (handle number : ℕ) → IsAllowed r s m (ChunkGet handle number) → has_pending (session_place s) ≡ true
 get_while_pending r s m handle number a = get_pending (stage_of s) (has_pending (session_place s)) handle number (allowed_now r s m (ChunkGet handle number) a)
 
--- VerifyNewKey fits Verifying alone, of the stages that KEY_UPDATE comes in, and the other
--- operations Open.
+-- VerifyNewKey fits Verifying alone, of the stages that KEY_UPDATE comes in, and the other operations Open.
 verify_stage : (stage : Stage) (pending : Bool) (op tag : ℕ) → not (stage_allows stage pending (code_for (KeyUpdate op tag))) ≡ false → fits_stage stage 3 ≡ true → stage ≡ Verifying
 verify_stage Handshake pending op tag h k = absurd (cc)
 verify_stage Open pending op tag h k = absurd (cc)

@@ -62,8 +62,8 @@ allowed_code r s m asked stage form is at =
 
 -- ---- The open session.
 
--- What is kept once PSK_FINISH was answered: the number of each direction begins anew under the
--- keys behind the handshake.
+-- What is kept once PSK_FINISH was answered: the number of each direction starts over under the keys after the
+-- handshake.
 pub kept_finished : (old mid new : Kept) (request_key response_key : DirectionSecret) (psk : List ℕ) (s : Events) (sealed message verify reply hash : List ℕ)
     → mid ≡ record old { request_next = old.request_next + 1; response_next = old.response_next + 1; last = mid.last }
     → new ≡ record mid { request = request_key; response = response_key; request_next = 0; response_next = 0; hash = hash }

@@ -22,8 +22,7 @@ pub opening_spent : (kept : Kept) (psk : List ℕ) (s : Events) (sealed : List �
 unfolding opening_fault
 opening_spent kept psk s sealed k h = by_spent (is_spent s) _ (sym (spent_kept kept psk s k) ∙ h)
 
--- Where no key is spent, a record has the fault that it has under the key, the number and the id
--- that are kept.
+-- Where no key is spent, a record has the fault that it has under the key, the number and the id that are kept.
 unspent : (b : Bool) (fault : Option RecordFault) → b ≡ false → fault ≡ (if b then Some KeySpent else fault)
 unspent b fault h = rw h refl
 

@@ -94,7 +94,7 @@ abbrev all_of : (transfer handle : ℕ) → Option (List ℕ) → List ChunkMess
 all_of transfer handle None = []
 all_of transfer handle (Some answer) = drop 0 (chunks_of transfer handle answer)
 
--- Behind a turn whose answer goes by LargeResponse, whatever came before it.
+-- After a turn whose answer goes by LargeResponse, whatever came before it.
 module _ (transfer handle : ℕ) (p : Turn) (taken : is_taken p ≡ true) (gets : takes CHUNK_GET p ≡ false) (under : handle_in p.effect ≡ Some handle) where
   given_there : (older : List Turn) → given_of (p ∷ older) ≡ 0
   given_there older =
@@ -138,7 +138,8 @@ module _ (transfer handle : ℕ) (answer : List ℕ) (seen : large_answers.Seen)
       subst (λ (b : Bool). large_answers.StandsFor seen transfer (if b then t ∷ turns_pending answer handle older else p ∷ older)) (sym (not_passed t u))
       (stands_without transfer handle p u.taken gets under t older seen u.unseen (begun p u.taken gets under (large_pending answer handle t.effect u.measures)))
 
-  -- Where LargeResponse behind the newest turn leaves this to be given, it is what is left once that turn has the answer.
+  -- Where LargeResponse after the newest turn leaves this to be given, it is what is left once that turn has the
+  -- answer.
   pub recalled : (turns : List Turn) → IsNewestUnseen turns
       → ((p : Turn) → is_taken p ≡ true → takes CHUNK_GET p ≡ false → handle_in p.effect ≡ Some handle → large_in p.effect ≡ Some answer → large_answers.StandsFor seen transfer (p ∷ turns))
       → large_answers.StandsFor seen transfer (turns_pending answer handle turns)

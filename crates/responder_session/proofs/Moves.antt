@@ -25,8 +25,7 @@ pub if_no : {A : Type 0} (b : Bool) (x y : A) → b ≡ false → (if b then x e
 if_no true x y h = absurd (cc)
 if_no false x y h = refl
 
--- What is sealed under the key and the number that are kept answers a turn that is no update of all
--- keys.
+-- What is sealed under the key and the number that are kept answers a turn that is no update of all keys.
 pub sealed_kept : (kept : Kept) (psk : List ℕ) (s : Events) (t : Turn) (inner pad : List ℕ) → Keeps kept psk s → updates 2 t ≡ false → inner_reply t ≡ inner
     → sealed_of (session_terms s).choice (response_purpose psk s) kept.response_next (session_id_bytes kept.id.req kept.id.rsp) inner pad ≡ reply_record psk s t (inner_reply t) pad
 unfolding reply_record
@@ -63,8 +62,7 @@ next_response s m t reply k =
     if_no (takes PSK_FINISH t) 0 (if updates 2 t then 1 else response_next s + 1) k.finish
     ∙ if_no (updates 2 t) 1 (response_next s + 1) k.all
 
--- What is kept where nothing but the numbers and the last record moved, and the count of
--- application messages to this.
+-- What is kept where nothing but the numbers and the last record moved, and the count of application messages to this.
 abbrev counted : (old new : Kept) → (taken : ℕ) → Type 0
 counted old new taken = new ≡ record old { request_next = old.request_next + 1; response_next = old.response_next + 1; taken = taken; last = new.last }
 

@@ -1,4 +1,4 @@
--- What an inner message does in a session, by the message behind its type.
+-- What an inner message does in a session, by the message after its type.
 use Rattle.std.proofs.Common.{◌≡◌, ◌≤◌, ◌∙◌, ap, sym, subst, refl, ℕ, List, [], ◌∷◌, Bool, true, false, length, length-drop, drop, arith}
 use Rattle.std.proofs.lemmas.Bool.Decides.{nat_tests}
 use Rattle.std.proofs.lemmas.Option.{none-some}
@@ -20,7 +20,7 @@ use Rattle.responder_session.specs.Deeds.{IsDeed, IsInnerDeed}
 use Rattle.responder_session.specs.declared.deed.Deed.{Deed}
 use Rattle.responder_session.specs.declared.deed.Deed.TheVariants as deed
 
--- An SPDM message: its turn is that of the message behind the type.
+-- An SPDM message: its turn is that of the message after the type.
 five : (n : ℕ) (inner : List ℕ) → n ≡ slice_index inner 0 → n ≡ 5 → (slice_index inner 0 == 5) ≡ true
 five n inner is same = (let e : slice_index inner 0 ≡ 5 = sym is ∙ same in grind (arith, nat_tests))
 
@@ -39,8 +39,7 @@ pub spoken : (r : RspSetup) (s : Events) (f : Free) (stage : Stage) (inner m : L
 spoken r s f stage inner m n at h is same behind =
     inner-spoken r s inner f (refuses s stage inner None at h) (five n inner is same) ∙ ap (λ (x : List ℕ). turn_of r (session_place s) x f) (sym behind)
 
--- Application data that is not refused has at most 1,024 bytes, and comes where the session is
--- open.
+-- Application data that is not refused has at most 1,024 bytes, and comes where the session is open.
 few : (empty five one opens long : Bool)
     → first_of_tests ((empty, InvalidRequest) ∷ (not (five || one), InvalidRequest) ∷ (one && not opens, UnexpectedRequest) ∷ (one && long, RequestTooLarge) ∷ []) ≡ None
     → five ≡ false → (long ≡ false) × (opens ≡ true)

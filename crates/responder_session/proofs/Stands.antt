@@ -43,7 +43,7 @@ stands_by old new psk s m t reply stage lane handshake k other keeps large bytes
       };
     }
 
--- Where the handshake is behind.
+-- Where the handshake is over.
 pub stands_past : (old new : RspSession) (psk : List ℕ) (s : Events) (m : List ℕ) (t : Turn) (reply : List ℕ) (stage : Stage)
     → new.stage ≡ Some stage → stage_of (Heard m t reply ∷ s) ≡ stage → is_past_handshake stage ≡ true → new.exchange.lane ≡ old.exchange.lane → new.exchange.handshake ≡ old.exchange.handshake
     → Keeps new.kept psk (Heard m t reply ∷ s)

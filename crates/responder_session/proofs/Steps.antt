@@ -53,7 +53,7 @@ kept_data old mid taken psk s f sealed bytes reply is count last keeps =
 
 -- ---- Updates.
 
--- The keys of an open session are those behind its handshake.
+-- The keys of an open session are those after its handshake.
 pub open_request : (kept : Kept) (psk : List ℕ) (s : Events) → stage_of s ≡ Open → Keeps kept psk s → IsKeyOf kept.request (session_terms s).choice (application_record psk (t2_of s) Request (request_epoch s))
 open_request kept psk s at keeps = subst (λ (p : Purpose). IsKeyOf kept.request (session_terms s).choice p) (past_purpose s Open psk Request (request_epoch s) at refl) keeps.request
 

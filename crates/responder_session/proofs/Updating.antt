@@ -69,7 +69,7 @@ update-answered r s m f op tag sizes form is h fits =
 
 -- ---- What is kept.
 
--- Behind its handshake a session goes under its application keys.
+-- After its handshake a session goes under its application keys.
 pub past_purpose : (s : Events) (stage : Stage) (psk : List ℕ) (direction : Direction) (epoch : ℕ) → stage_of s ≡ stage → is_past_handshake stage ≡ true
     → purpose_in (stage_of s) psk (t1_of s) (t2_of s) direction epoch ≡ application_record psk (t2_of s) direction epoch
 past_purpose s stage psk direction epoch at past = ap (λ (x : Stage). purpose_in x psk (t1_of s) (t2_of s) direction epoch) at ∙ by_stage stage psk (t1_of s) (t2_of s) direction epoch past

@@ -10,7 +10,7 @@ abbrev pub data_in : Effect → (before : List ℕ) → List ℕ
 data_in (TookData bytes answer) before = bytes
 data_in _ before = before
 
--- The application data last taken; no bytes before the first.
+-- The application data last taken; empty before the first.
 abbrev pub data_of : Events → List ℕ
 data_of [] = []
 data_of (Heard m t reply ∷ older) = data_in t.effect (data_of older)

@@ -62,9 +62,8 @@ turn_for r s f message answer deed.Ended = answered_turn message EndSession answ
 turn_for r s f message answer (deed.Chunk handle number) =
     answered_turn message (ChunkGet handle number) answer
 
--- What else is known of it: which answer is sent, that application data has at most 1,024 bytes,
--- that a large answer is longer than the requester's transfer size, and in which stage the keys
--- change.
+-- What else is known of it: which answer is sent, that application data has at most 1,024 bytes, that a large response
+-- is longer than the requester's transfer size, and in which stage the keys change.
 abbrev pub IsFit : RspSetup → Events → Free → (message answer : List ℕ) → Deed → Type 0
 IsFit r s f message answer (deed.Refused code) =
     answer ≡ error_bytes r (session_place s) message f code
@@ -86,13 +85,12 @@ pub record IsDeed (r : RspSetup) (s : Events) (f : Free) (message answer : List 
   pub turn : turn_of r (session_place s) message f ≡ turn_for r s f message answer does
   pub fit : IsFit r s f message answer does
 
--- What an inner message with this message behind its type does.
+-- What an inner message with this message after its type does.
 pub record IsInnerDeed (r : RspSetup) (s : Events) (f : Free) (inner message answer : List ℕ) (does : Deed) : Type 0 where
   pub turn : session_turn r s inner f ≡ turn_for r s f message answer does
   pub fit : IsFit r s f message answer does
 
--- A request came to a session, at a responder with its sizes: neither its form nor its code is
--- refused.
+-- A request came to a session, at a responder with its sizes: neither its form nor its code is refused.
 pub record IsAllowed (r : RspSetup) (s : Events) (m : List ℕ) (asked : RequestMessage) : Type 0 where
   pub sizes : HasSizes r (session_terms s).common
   pub form : refused_form r (session_place s) m ≡ None

@@ -1,5 +1,4 @@
--- The answer to PSK_EXCHANGE (DSP0274, "PSK_EXCHANGE_RSP"), from the parts that the responder puts
--- into it.
+-- The answer to PSK_EXCHANGE (DSP0274, "PSK_EXCHANGE_RSP"), from the parts that the responder puts into it.
 use Rattle.std.specs.Prelude.{◌≡◌, ◌≤◌, ◌<◌, ◌^◌, ℕ, List, [], ◌∷◌, ◌++◌, length, if◌then◌else◌}
 use Rattle.key_schedule.specs.declared.direction.Direction.TheVariants.{Response}
 use Rattle.responder_machine.specs.Session.{Events}
@@ -14,8 +13,8 @@ use Rattle.spdm_machine.specs.Terms.{terms_of}
 use Rattle.transcript.specs.Transcripts.{Negotiation, vca_of}
 use Rattle.responder_session.specs.declared.parts.ExchangeParts.{ExchangeParts}
 
--- The parts fit their fields: a summary stands exactly where one was asked for, the context has
--- below 65,536 bytes, and the opaque data have at most 1,024.
+-- The parts fit their fields: a summary stands exactly when one was asked for, the context has below 65,536 bytes, and
+-- the opaque data have at most 1,024.
 pub record AreParts (terms : SessionTerms) (parts : ExchangeParts) : Type 0 where
   pub summary : length parts.summary.now ≡ (if terms.summary then hash_size terms.choice.hash else 0)
   pub context : length parts.context.now < 2 ^ 16
@@ -32,8 +31,8 @@ answer_with parts verify = canonical_response (PskExchangeRsp (record {
   verify = verify;
 }))
 
--- They make an answer: the context is at least as long as the hash, and with verify data as long as
--- the hash the whole answer has at most 4,096 bytes.
+-- They make an answer: the context is at least as long as the hash, and with verify data as long as the hash the whole
+-- answer has at most 4,096 bytes.
 pub record AreAnswered (terms : SessionTerms) (parts : ExchangeParts) : Type 0 where
   pub context : hash_size terms.choice.hash ≤ length parts.context.now
   pub most : (verify : List ℕ) → length verify ≡ hash_size terms.choice.hash → length (answer_with parts verify) ≤ MAX_MESSAGE_SIZE

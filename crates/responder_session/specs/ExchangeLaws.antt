@@ -1,5 +1,4 @@
--- The answer to PSK_EXCHANGE is that of the definitions of a responder, and time leaves a state as
--- it is.
+-- The answer to PSK_EXCHANGE is that of the definitions of a responder, and time leaves a state as it is.
 use Rattle.std.specs.Prelude.{◌≡◌, ℕ, List, ◌∷◌, if◌then◌else◌}
 use Rattle.responder_machine.specs.Answer.{Free, exchange_answer, summary_answer}
 use Rattle.responder_machine.specs.Place.{Place, place_terms}
@@ -15,8 +14,7 @@ use Rattle.responder_session.specs.declared.session.RspSession.{RspSession}
 use Rattle.responder_session.specs.declared.parts.ExchangeParts.{ExchangeParts}
 use Rattle.responder_session.specs.declared.took.RspState.{RspState}
 
--- The parts are those that a responder at a place puts into its answer to this PSK_EXCHANGE, under
--- these free values.
+-- The parts are those that a responder at a place puts into its answer to this PSK_EXCHANGE, under these free values.
 pub record ArePartsOf (r : RspSetup) (p : Place) (f : Free) (e : ExchangeMessage) (parts : ExchangeParts) : Type 0 where
   pub heartbeat : parts.heartbeat ≡ (if (place_terms p).common.heartbeat then r.beat else 0)
   pub id : parts.rsp_id ≡ f.id

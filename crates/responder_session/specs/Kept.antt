@@ -14,8 +14,8 @@ abbrev pub kept_record : LastRecord → Option KeptRecord
 kept_record last =
     if last.is_taken then Some (record { sealed = last.sealed; reply = last.reply }) else None
 
--- It is kept of a live session of these events, with this pre-shared key. Application messages are
--- counted modulo 2 ^ 64.
+-- It is kept of a live session of these events, with this pre-shared key. Application messages are counted modulo 2 ^
+-- 64.
 pub record Keeps (kept : Kept) (psk : List ℕ) (s : Events) : Type 0 where
   pub live : is_live s ≡ true
   pub choice : kept.terms.choice ≡ (session_terms s).choice

@@ -1,4 +1,4 @@
--- A session in which MEASUREMENTS that were never seen are pending again, for one who judges answers whose bytes come
+-- A session in which MEASUREMENTS that were never seen are pending again, for the checker answers whose bytes come
 -- chunk by chunk, where the first chunk is asked for late. This project's own.
 use Rattle.std.specs.Prelude.{◌≡◌, ℕ, List, [], ◌∷◌, true, Some, None}
 use Rattle.responder_machine.specs.Session.{Events}

@@ -1,5 +1,4 @@
--- A record at a live session does what the definitions of a responder say of it in its whole
--- history.
+-- A record at a live session does what the definitions of a responder say of it in its whole history.
 use Rattle.std.specs.Prelude.{◌≡◌, ◌∷◌, ℕ, List, true, false}
 use Rattle.responder_machine.specs.Answer.{Free}
 use Rattle.responder_machine.specs.Heard.{heard_of, record_id}
@@ -29,9 +28,9 @@ told_as id (act.Answered code) = heard.Answered code
 told_as id act.Data = heard.Taken id
 told_as id (act.Refused code) = heard.Refused code
 
--- A record that moves the session becomes an entry of the history with its turn and its reply, is
--- told so, and is an event of the session; the last record gets its reply again; and one that does
--- not open gets DecryptError in the clear.
+-- A record that moves the session becomes an entry of the history with its turn and its reply, is reported so, and is
+-- an event of the session; the last record gets its reply again; and one that does not open gets DecryptError in the
+-- clear.
 abbrev pub IsOutcome : RspSetup → History → (tag : ℕ) → (sealed : List ℕ) → Free → Draw → RspTold
     → Type 0
 IsOutcome r h tag sealed f d (told.Moved act) =
@@ -48,8 +47,8 @@ IsOutcome r h tag sealed f d told.Same =
 IsOutcome r h tag sealed f d (told.Unopened fault) =
     on_record r h tag sealed f d ≡ StaysUnopened (decrypt_error (phase_of (clear_turns h)))
 
--- So it is in every history in which a live session has the record's id and the record is not the
--- last one of the ended session.
+-- So it is in every history in which a live session has the record's id and the record is not the last one of the ended
+-- session.
 abbrev pub ToldIsRecord : Type 0
 ToldIsRecord = (r : RspSetup) (h : History) (tag : ℕ) (sealed : List ℕ) (f : Free) (d : Draw)
     (after : RspSession) (result : RspTold)
@@ -57,7 +56,7 @@ ToldIsRecord = (r : RspSetup) (h : History) (tag : ℕ) (sealed : List ℕ) (f :
     → IsTold r (session_of (id_in_record sealed) h) f sealed after result
     → IsOutcome r h tag sealed f d result
 
--- What is told without the state.
+-- What is reported without the state.
 abbrev pub told_of : RspTook → RspTold
 told_of (took.Moved after act) = told.Moved act
 told_of (took.Same same) = told.Same

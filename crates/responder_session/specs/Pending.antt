@@ -1,5 +1,5 @@
--- A session whose pending answer gets other bytes, or was never seen, for one who judges answers whose bytes come
--- chunk by chunk. This project's own.
+-- A session whose pending answer gets other bytes, or was never seen, for the checker answers whose bytes come chunk by
+-- chunk. This project's own.
 use Rattle.std.specs.Prelude.{◌≡◌, ◌||◌, not, if◌then◌else◌, ℕ, List, [], ◌∷◌}
 use Rattle.responder_rules.specs.LargeAnswer as large_answers
 use Rattle.responder_rules.specs.LargeAnswer.{turn_unseen, turn_with}
@@ -9,8 +9,8 @@ use Rattle.responder_machine.specs.Turn.{Turn, is_taken, takes}
 use Rattle.responder_session.specs.Data.{data_of}
 use Rattle.spdm_grammar.specs.declared.names.request_code.TheConstants.{CHUNK_GET}
 
--- The session in which the turn changes so of the last record that was taken and is no CHUNK_GET: a large answer
--- that is pending is its answer.
+-- The session in which the turn changes so of the last record that was taken and is no CHUNK_GET: a large response that
+-- is pending is its answer.
 abbrev pub events_changed : (Turn → Turn) → Events → Events
 events_changed change [] = []
 events_changed change (Heard m t reply ∷ older) =
@@ -28,7 +28,7 @@ events_unseen = events_changed turn_unseen
 
 -- ---- An answer that was never seen, and that others came after.
 
--- All that is read off the events of a session, but its large answers, is the same.
+-- All that is read off the events of a session, but its large responses, is the same.
 pub record IsAlike (s e : Events) : Type 0 where
   pub live : is_live s ≡ is_live e
   pub negotiation : session_negotiation s ≡ session_negotiation e

@@ -19,8 +19,7 @@ queue_fault waiting bytes =
     else (if nat_le 16 (length waiting) then Some Full
     else None)
 
--- The free values of a record at this project's choice, where these draw and application data stand
--- next.
+-- The free values of a record at this project's choice, where these draw and application data stand next.
 pub record IsChosen (draw : Drawn) (waiting : List (List ℕ)) (s : Events) (f : Free) : Type 0 where
   pub nonce : f.nonce ≡ draw.bytes
   pub opaque : f.measured_opaque ≡ []

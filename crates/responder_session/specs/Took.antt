@@ -26,8 +26,8 @@ use Rattle.responder_session.specs.declared.took.RspState.TheVariants as state
 use Rattle.responder_session.specs.declared.took.RspTook.{RspTook}
 use Rattle.responder_session.specs.declared.took.RspTook.TheVariants.{Moved, Same, Unopened}
 
--- A turn is told by the number of the error code with which it was refused, as data taken, or by
--- the code of its message.
+-- A turn is determined by the number of the error code with which it was refused, as data taken, or by the code of its
+-- message.
 abbrev pub act_by : Turn → Option ErrorCode → RspAct
 act_by t (Some code) = Refused (error_number code)
 act_by t None = if is_data t.effect then Data else Answered (code_of t.message)
@@ -52,16 +52,15 @@ IsSessionAfter after psk s sealed t reply =
     ((takes END_SESSION t ≡ false) × sessions.StandsFor after psk (Heard sealed t reply ∷ s))
     ⊎ ((takes END_SESSION t ≡ true) × sessions.IsEnded after (id_bytes s) sealed reply)
 
--- The session with a record of this turn, and what is told of it.
+-- The session with a record of this turn, and what is reported of it.
 abbrev pub IsMoved : (psk : List ℕ) → Events → (sealed : List ℕ) → Turn → (pad : List ℕ)
     → RspSession → RspAct → Type 0
 IsMoved psk s sealed t pad after act =
     IsSessionAfter after psk s sealed t (reply_record psk s t (inner_reply t) pad)
     × (act ≡ act_of t)
 
--- What came of a record: it opened, the session took it, and this is told of its turn; it is the
--- last record that was taken, and nothing changed; or it did not open, with its fault, and nothing
--- changed.
+-- The outcome of a record: it opened, the session took it, and this is told of its turn; it is the last record that was
+-- taken, and nothing changed; or it did not open, with its fault, and nothing changed.
 abbrev pub IsTold : RspSetup → Events → Free → (sealed : List ℕ) → RspSession → RspTold → Type 0
 IsTold r s f sealed after (told.Moved act) =
     (repeats (last_of s) sealed ≡ false) × (opening_fault r.psk s sealed ≡ None)
@@ -94,7 +93,7 @@ IsAfter (state.Verifying v) psk s sealed t reply =
 IsAfter (state.Ended e) psk s sealed t reply =
     (takes END_SESSION t ≡ true) × ended.StandsFor e (id_bytes s) sealed reply
 
--- What came of a record, by the state that is given back.
+-- The outcome of a record, by the state that is given back.
 abbrev pub IsTook : RspSetup → Events → Free → (sealed : List ℕ) → RspTook → Type 0
 IsTook r s f sealed (Moved after act) =
     (repeats (last_of s) sealed ≡ false) × (opening_fault r.psk s sealed ≡ None)

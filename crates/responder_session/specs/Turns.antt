@@ -9,8 +9,7 @@ use Rattle.responder_machine.specs.Turn.Effect.{Took}
 use Rattle.spdm_grammar.specs.Message.{RequestMessage}
 use Rattle.spdm_grammar.specs.declared.names.request_code.TheConstants.{PSK_FINISH, KEY_UPDATE}
 
--- A turn leaves the stage and the keys of a session as they are: neither PSK_FINISH nor KEY_UPDATE
--- took effect in it.
+-- A turn leaves the stage and the keys of a session as they are: neither PSK_FINISH nor KEY_UPDATE took effect in it.
 pub record KeepsKeys (t : Turn) : Type 0 where
   pub finish : takes PSK_FINISH t ≡ false
   pub update : takes KEY_UPDATE t ≡ false

@@ -5,8 +5,8 @@ use secured_record::{RecordFault, RecordKey};
 use session_keys::open_record;
 use spdm_basis::{RecordFrame, SessionId};
 
-/// The key, the session id and the number of one answer of a session, apart from the session: it
-/// opens what was, or is to be, sealed under them, also when the session has gone on or is ended.
+/// The key, session id and sequence number of one response, separate from the session: it opens what was, or will be,
+/// sealed under them, even when the session has moved on or ended.
 #[derive(Drop)]
 pub struct AnswerKey {
     pub(crate) key: RecordKey,
@@ -22,8 +22,8 @@ impl AnswerKey {
     ghost use Rattle.spdm_machine.specs.Keys.{inner_message, record_fault};
     ghost use Rattle.responder_session.specs.OwnAnswers.{IsAnswerKey};
 
-    /// Opens a record as this answer, and writes its inner message in place of what `out` holds.
-    /// A fault tells why it is no record under this key, number and session id.
+    /// Opens a record as this response, and overwrites `out` with its inner message. The fault tells why it is no
+    /// record under this key, sequence number and session id.
     pub fn open(&self, sealed: &[u8], out: &mut RecordFrame) -> Result<(), RecordFault>
         ensures fault { (choice : Choice) (p : Purpose) (number : ℕ) (id : List ℕ)
             → IsAnswerKey self.now choice p number id → MatchResult result
@@ -37,9 +37,8 @@ impl AnswerKey {
         open_record(&self.key, self.id, self.number, sealed, out)
     }
 
-    /// Writes the text of a record of this answer in place of what `out` holds: the length of its
-    /// inner message as two bytes, the lowest first, that message, and the padding. Whether the
-    /// record opens is not tested.
+    /// Overwrites `out` with the plaintext of a record of this response: the length of its inner message as two bytes,
+    /// little-endian, that message, and the padding. The tag is not verified.
     pub fn text(&self, sealed: &[u8], out: &mut RecordFrame)
         requires least { 26 ≤ length sealed.now }
         requires most { length sealed.now ≤ 4160 }

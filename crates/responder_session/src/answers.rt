@@ -39,8 +39,7 @@ pub fn write_update_answer(op: u8, tag: u8, out: &mut Frame)
     }
 }
 
-// Writes CHUNK_RESPONSE of at most 4,096 bytes, where the chunk has a spelling: each chunk of a
-// large answer has.
+// Writes CHUNK_RESPONSE of at most 4,096 bytes, where the chunk has an encoding: each chunk of a large response has.
 pub fn write_chunk(chunk: ChunkView<'_>, out: &mut Frame)
     ensures { IsSoundChunk (chunk_message chunk.entry)
         → length (canonical_response (ChunkResponse (chunk_message chunk.entry))) ≤ MAX_MESSAGE_SIZE
@@ -51,7 +50,7 @@ pub fn write_chunk(chunk: ChunkView<'_>, out: &mut Frame)
     }
 }
 
-// Writes the inner message of a type, in place of what `out` holds.
+// Overwrites `out` with the inner message of a type.
 pub fn write_inner(kind: u8, message: &[u8], out: &mut RecordFrame)
     requires { length message.now ≤ MAX_MESSAGE_SIZE }
     ensures { out.new ≡ kind ∷ message.now }
@@ -61,7 +60,7 @@ pub fn write_inner(kind: u8, message: &[u8], out: &mut RecordFrame)
     let _ = out.extend(message);
 }
 
-// Puts application data, of at most 1,024 bytes, in place of what an answer held.
+// Overwrites an answer with application data of at most 1,024 bytes.
 pub fn write_data(bytes: &[u8], out: &mut Frame)
     requires { length bytes.now ≤ 1024 }
     ensures { out.new ≡ bytes.now }

@@ -15,7 +15,7 @@ pub struct Opened<'a> {
     pub pad: &'a [u8],
 }
 
-// Puts application data, of at most 1,024 bytes, in place of what was held.
+// Overwrites a buffer with application data of at most 1,024 bytes.
 fn hold(bytes: &[u8], out: &mut Buffer<1024>)
     ensures { length bytes.now ≤ 1024 → out.new ≡ bytes.now }
 {
@@ -99,7 +99,7 @@ impl RspSession {
         self.large.clear();
     }
 
-    // A record of GET_MEASUREMENTS, whose answer goes by chunks under this handle.
+    // A record of GET_MEASUREMENTS, whose answer is sent in chunks under this handle.
     fn answer_large(
         &mut self,
         opened: &Opened<'_>,

@@ -1,13 +1,13 @@
 use spdm_grammar::ErrorCode;
 
-/// The values that are left free in the answer to a record, as they are handed in.
+/// The values that are left free in the response to a record, as they are handed in.
 #[derive(Clone, Copy, Debug, PartialEq, Eq)]
 pub struct RecordFree<'a> {
     /// Nonce of MEASUREMENTS: 32 bytes.
     pub nonce: &'a [u8],
     /// OpaqueData of MEASUREMENTS: at most 1,024 bytes.
     pub opaque: &'a [u8],
-    /// The handle of an answer that goes by chunks.
+    /// Handle of a response that is sent in chunks.
     pub handle: u8,
     /// The application data sent in answer to application data: at most 1,024 bytes.
     pub reply: &'a [u8],
@@ -48,7 +48,7 @@ pub enum Deed<'a> {
     Alive,
     // GET_MEASUREMENTS, answered at once.
     Measured { op: u8 },
-    // GET_MEASUREMENTS, whose answer goes by chunks under this handle.
+    // GET_MEASUREMENTS, whose answer is sent in chunks under this handle.
     Large { op: u8, handle: u8 },
     // KEY_UPDATE with UpdateKey or UpdateAllKeys.
     Update { all: bool, tag: u8 },
@@ -56,6 +56,6 @@ pub enum Deed<'a> {
     Verified { tag: u8 },
     // END_SESSION.
     Ended,
-    // CHUNK_GET of the next chunk of the pending large answer.
+    // CHUNK_GET of the next chunk of the pending large response.
     Chunk { handle: u8, number: u16 },
 }

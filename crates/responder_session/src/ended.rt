@@ -1,6 +1,6 @@
 use crate::{RecordFree, RspSession, RspTook, Work};
 
-/// A session at the responder that END_SESSION ended. It knows the repeat of its last record alone.
+/// A session at the responder that END_SESSION ended. It only recognizes the repeat of its last record.
 #[derive(Drop)]
 pub struct RspEnded {
     pub(crate) session: RspSession,
@@ -11,8 +11,8 @@ impl RspEnded {
     ghost use Rattle.responder_session.specs.Ended.{StandsFor};
     ghost use Rattle.responder_session.specs.EndedTook.{IsEndedTook};
 
-    /// A record of the requester: the repeat of the last one, or one that does not open. What is
-    /// told of such a record is its length or its id where they are wrong, and else its number.
+    /// Handles a record from the requester: the repeat of the last one, or one that does not open. The fault reported
+    /// is the length or the id if they are wrong, and else the sequence number.
     pub fn take(mut self, sealed: &[u8]) -> RspTook
         ensures { (id old answer : List ℕ) → StandsFor self id old answer
             → IsEndedTook id old answer sealed.now result }

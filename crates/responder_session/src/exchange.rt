@@ -15,8 +15,8 @@ use spdm_codec::write_response;
 use spdm_grammar::{ExchangeRsp, Response};
 use transcript::Lane;
 
-// Writes PSK_EXCHANGE_RSP with these verify data, in place of what `out` holds: none where
-// the context is shorter than the hash, and one that passes 4,096 bytes is not whole.
+// Overwrites `out` with PSK_EXCHANGE_RSP with these verify data: none where the context is shorter than the hash, and
+// one that passes 4,096 bytes is not whole.
 pub fn write_answer(
     parts: &ExchangeParts<'_>,
     terms: SessionTerms,
@@ -65,8 +65,7 @@ fn blank(hash: HashAlg) -> HashBytes
     }
 }
 
-// The handshake that PSK_EXCHANGE and the parts of its answer fix; the lane was given VCA and
-// PSK_EXCHANGE.
+// The handshake that PSK_EXCHANGE and the parts of its answer fix; the lane was given VCA and PSK_EXCHANGE.
 pub fn handshake_with(
     lane: &Lane,
     psk: &Psk,

@@ -23,9 +23,9 @@ impl RspHandshake {
     ghost use Rattle.responder_session.specs.Handshake.{StandsFor};
     ghost use Rattle.responder_session.specs.Took.{IsTook};
 
-    /// The session that a PSK_EXCHANGE begins, after the messages of a negotiation and under its
-    /// terms; writes the whole PSK_EXCHANGE_RSP with these parts (DSP0274), of at most 4,096 bytes, in
-    /// place of what `out` holds. The context is at least as long as the hash.
+    /// Creates the session of a PSK_EXCHANGE, after the messages of a negotiation and under its terms; overwrites `out`
+    /// with the complete PSK_EXCHANGE_RSP with these parts (DSP0274), of at most 4,096 bytes. The context is at least
+    /// as long as the hash.
     pub fn start(
         vca: &Vca,
         psk: &Psk,
@@ -47,14 +47,14 @@ impl RspHandshake {
         }
     }
 
-    /// The session as it is shown.
+    /// A view of the session.
     pub fn view(&self) -> SessionView
         ensures { (psk : List ℕ) (s : Events) → StandsFor self.now psk s → result ≡ view_of s }
     {
         self.session.kept.view(Stage::Handshake)
     }
 
-    /// A record of the requester, whose answer has no padding.
+    /// Handles a record from the requester; its response has no padding.
     pub fn take(self, sealed: &[u8]) -> RspTook
         ensures { (r : RspSetup) (s : Events) (f : Free) → HasSizes r (session_terms s).common
             → f.pad ≡ [] → StandsFor self r.psk s → IsTook r s f sealed.now result }
@@ -62,7 +62,7 @@ impl RspHandshake {
         self.take_with(sealed, &[])
     }
 
-    /// The same, with this padding for the answer, of at most 16 bytes.
+    /// Same as `take`, with this padding for the response, of at most 16 bytes.
     pub fn take_with(mut self, sealed: &[u8], pad: &[u8]) -> RspTook
         requires { length pad.now ≤ 16 }
         ensures { (r : RspSetup) (s : Events) (f : Free) → HasSizes r (session_terms s).common

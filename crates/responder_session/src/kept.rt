@@ -13,9 +13,8 @@ use session_keys::{Handshake, SessionTerms, open_record, seal_record};
 use spdm_basis::{HashBytes, RecordFrame, SessionId};
 use spdm_grammar::{Phase, SessionView, Stage};
 
-// What a session keeps in every stage: the keys with the numbers of their next records, how many
-// application messages were taken, the hash of T1 or T2, the id, the terms, and the last record
-// taken.
+// What a session keeps in every stage: the keys with the numbers of their next records, how many application messages
+// were taken, the hash of T1 or T2, the id, the terms, and the last record taken.
 #[derive(Drop)]
 pub struct Kept {
     pub request: RecordKey,
@@ -95,7 +94,7 @@ impl Kept {
         }
     }
 
-    // The handshake is behind: records go under these first keys, with the hash of T2.
+    // The handshake is over: records go under these first keys, with the hash of T2.
     pub fn past_handshake(&mut self, keys: AppKeys, hash: HashBytes)
         ensures { self.new ≡ record self.old {
           request = keys.request;
@@ -140,7 +139,7 @@ impl Kept {
         open_record(&self.request, self.id, number, sealed, out)
     }
 
-    // What the rules for requests go by, in a stage, with a large answer pending or not.
+    // What the rules for requests go by, in a stage, with a large response pending or not.
     pub fn place(&self, stage: Stage, pending: bool) -> Place
         ensures { (psk : List ℕ) (s : Events) → Keeps self.now psk s → stage ≡ stage_of s
             → pending ≡ has_pending (session_place s) → IsPlace result (session_place s) }
@@ -155,8 +154,8 @@ impl Kept {
         }
     }
 
-    // Seals the inner message of a type that answers a record, under the standing key; both are
-    // counted and kept. What `inner` holds does not matter.
+    // Seals the inner message of a type that answers a record, under the standing key; both are counted and kept. What
+    // `inner` holds does not matter.
     pub fn reply(
         &mut self,
         sealed: &[u8],
@@ -233,7 +232,7 @@ impl Kept {
         self.response_next = NextNumber::first();
     }
 
-    // The session as it is shown, in its stage.
+    // A view of the session, in its stage.
     pub fn view(&self, stage: Stage) -> SessionView
         ensures request_epoch { result.request_epoch ≡ self.now.request.epoch }
         ensures response_epoch { result.response_epoch ≡ self.now.response.epoch }

@@ -3,8 +3,7 @@ ghost use Rattle.std.specs.Prelude.{◌≡◌};
 use session_keys::same_bytes;
 use spdm_basis::RecordFrame;
 
-/// The last record that was taken, with the record that answered it, in place; none before the
-/// first.
+/// The last record that was taken, with the record that answered it, in place; none before the first.
 #[derive(Drop)]
 pub struct LastRecord {
     pub is_taken: bool,

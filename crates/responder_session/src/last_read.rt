@@ -52,7 +52,7 @@ impl Kept {
     }
 }
 
-// The last record read again, for one who judges what came upon its repeat.
+// The last record read again, to judge the response to its repeat; used only by the checker.
 impl RspSession {
     ghost use Rattle.std.specs.Prelude.{◌≡◌, ℕ, List, true, false};
     ghost use Rattle.responder_machine.specs.Session.{Events};
@@ -60,8 +60,8 @@ impl RspSession {
     ghost use Rattle.responder_session.specs.Session.{StandsFor, IsEnded};
 
     /// Whether these are the last record that was taken and its reply, and both open under the present keys, by the
-    /// numbers before the next ones: so it is unless the record changed a key. Their inner messages are written in
-    /// place of what `inner` and `reply` hold. Nothing changes.
+    /// numbers before the next ones: so it is unless the record changed a key. Their inner messages then overwrite
+    /// `inner` and `reply`. Nothing changes.
     pub fn read_last(
         &self,
         sealed: &[u8],

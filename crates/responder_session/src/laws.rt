@@ -2,22 +2,20 @@ ghost use Rattle.responder_session.specs.ExchangeLaws.{SessionWaits, StartIsAnsw
 ghost use Rattle.responder_session.specs.Laws.{ToldIsRecord, TookIsRecord};
 ghost use Rattle.responder_session.specs.Staged.{BehindHasReply};
 
-/// What a session that is stepped in place tells of a record is what the responder does with it in
-/// every history whose live session it stands for: it adds the same entry, told alike, sends the
-/// kept reply again, or does not open it.
+/// What a session that is stepped in place tells of a record is what the responder does with it in every history whose
+/// live session it stands for: it adds the same entry, told alike, sends the kept reply again, or does not open it.
 pub fn told_is_record()
     ensures { ToldIsRecord }
 {}
 
-/// What a state answers to a record is what the responder does with it in every history whose live
-/// session it stands for: it adds the same entry, told alike, sends the kept reply again, or does
-/// not open it.
+/// What a state answers to a record is what the responder does with it in every history whose live session it stands
+/// for: it adds the same entry, told alike, sends the kept reply again, or does not open it.
 pub fn took_is_record()
     ensures { TookIsRecord }
 {}
 
-/// The PSK_EXCHANGE_RSP that begins a session is the whole answer of the responder, where its parts
-/// are the responder's.
+/// The PSK_EXCHANGE_RSP that begins a session is the whole answer of the responder, where its parts are the
+/// responder's.
 pub fn start_is_answer()
     ensures { StartIsAnswer }
 {}
@@ -32,7 +30,7 @@ pub fn waiting_stands()
     ensures { WaitingStands }
 {}
 
-/// A session behind its handshake has taken a record, so it keeps a reply.
+/// A session after its handshake has taken a record, so it keeps a reply.
 pub fn behind_has_reply()
     ensures { BehindHasReply }
 {}

@@ -1,9 +1,9 @@
-//! A session under a pre-shared key at the responder (DSP0274, "Session"; DSP0277). `RspSession` is
-//! stepped in place; over it stand states that a call takes and gives back, where what may not be
-//! done in a state is no call of it. No call takes memory.
+//! A session under a pre-shared key at the responder (DSP0274, "Session"; DSP0277). `RspSession` is updated in place;
+//! over it stand typestates that calls consume and return, where what a state does not allow is not a method of it. No
+//! call allocates.
 //!
-//! Read first: `StandsFor` in `specs/Session.antt`, which events a session stands for. The call to
-//! begin with is `RspHandshake::start`.
+//! Read first: `StandsFor` in `specs/Session.antt`, which events a session stands for. The call to begin with is
+//! `RspHandshake::start`.
 #![tactic(auto)]
 
 mod answer_key;

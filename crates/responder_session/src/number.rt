@@ -1,8 +1,8 @@
 use std::marker::Model;
 use spdm_grammar::names::MAX_RECORDS;
 
-/// The number of the next record under a key, from 0 to 65,536: a key seals no more than 65,536
-/// records (DSP0277, "Sequence number"). Contracts see it as a number.
+/// The sequence number of the next record under a key, from 0 to 65,536: a key seals at most 65,536 records (DSP0277,
+/// "Sequence number"). In contracts, a number.
 #[derive(Drop)]
 pub struct NextNumber {
     number: u32,
@@ -28,7 +28,7 @@ impl NextNumber {
         NextNumber { number: 0 }
     }
 
-    /// Whether the key has sealed as many records as it may.
+    /// Whether the key has reached its limit of records.
     pub fn is_spent(&self) -> bool
         ensures value { result ≡ (self.now == 65536) }
         ensures few { result ≡ false → self.now < 65536 }
@@ -50,7 +50,7 @@ impl NextNumber {
     {
         self.number += 1;
     }
-    /// The number before it; none where it is that of the first record.
+    /// The number before it; `None` where it is that of the first record.
     pub fn before(&self) -> Option<u16>
         ensures { MatchOption result (self.now ≡ 0) (λ number. self.now ≡ number + 1) }
     {

@@ -21,7 +21,7 @@ impl RspOpen {
     ghost use Rattle.responder_session.specs.Queue.{IsChosen, queue_after};
     ghost use Rattle.responder_session.specs.Took.{IsTook};
 
-    /// The session as it is shown, where fewer than 2^64 application messages were taken.
+    /// A view of the session. Requires fewer than 2^64 received application messages.
     pub fn view(&self) -> SessionView
         ensures request_epoch { result.request_epoch ≡ self.now.session.kept.request.epoch }
         ensures response_epoch { result.response_epoch ≡ self.now.session.kept.response.epoch }
@@ -31,9 +31,8 @@ impl RspOpen {
         self.session.kept.view(Stage::Open)
     }
 
-    /// A record of the requester, whose answer has these free values. The caller's nonce has 32
-    /// bytes, the opaque data and the reply at most 1,024, and the padding at most 16; both epochs
-    /// are below 2^64 - 1.
+    /// Handles a record from the requester, whose response has these free values. The nonce has 32 bytes, the opaque
+    /// data and the reply at most 1,024, and the padding at most 16; requires both epochs below 2^64 - 1.
     pub fn take_with(
         mut self,
         sealed: &[u8],
@@ -56,10 +55,9 @@ impl RspOpen {
         RspTook::of(self.session, told)
     }
 
-    /// A record of the requester, at this project's choice of what is free: the nonce is the draw,
-    /// the opaque data and the padding are empty, handles are given in order, and application data
-    /// is answered by what waits first, which is used up. Both epochs of the caller's state are
-    /// below 2^64 - 1.
+    /// Handles a record from the requester with this project's choice of free values: the nonce is the draw, the opaque
+    /// data and the padding are empty, handles are consecutive, and application data is answered by the first reply of
+    /// the queue, which is removed. Requires both epochs below 2^64 - 1.
     pub fn take(
         self,
         sealed: &[u8],
@@ -88,7 +86,7 @@ impl RspOpen {
         took
     }
 
-    /// The application data last taken, and no bytes before the first.
+    /// The application data received last; empty before the first.
     pub fn data(&self) -> &[u8]
         ensures { result.now ≡ self.now.session.bytes }
     {

@@ -20,8 +20,7 @@ use session_keys::{SPDM_MESSAGE, behind_type, byte_at};
 use spdm_basis::RecordFrame;
 use spdm_grammar::{Request, Stage};
 
-// Whether KEY_UPDATE with this operation, which came to a session, updates the keys of both
-// directions.
+// Whether KEY_UPDATE with this operation, which came to a session, updates the keys of both directions.
 fn updates_all(place: &Place, message: &[u8], op: u8) -> bool
     ensures { (r : RspSetup) (s : Events) (f : Free) (tag : ℕ)
         → HasSizes r (session_terms s).common → IsPlace place.now (session_place s)
@@ -113,8 +112,8 @@ impl RspSession {
         }
     }
 
-    /// Opens a record as the next one of the requester, and writes its inner message in place of
-    /// what `inner` holds. Nothing changes. A fault tells why it does not open.
+    /// Opens a record as the next one of the requester, and overwrites `inner` with its inner message. Nothing changes.
+    /// A fault tells why it does not open.
     pub fn read_request(&self, sealed: &[u8], inner: &mut RecordFrame) -> Result<(), RecordFault>
         ensures fault { (psk : List ℕ) (s : Events) → StandsFor self.now psk s → MatchResult result
             (λ _. opening_fault psk s sealed.now ≡ None)
@@ -140,8 +139,8 @@ impl RspSession {
         self.kept.last.repeats(sealed)
     }
 
-    /// Whether a record is the last one that was taken, or opens as the next one of the requester.
-    /// What `inner` holds before and after does not matter.
+    /// Whether a record is the last one that was taken, or opens as the next one of the requester. `inner` is scratch
+    /// space.
     pub fn belongs(&self, sealed: &[u8], inner: &mut RecordFrame) -> bool
         ensures live { (psk : List ℕ) (s : Events) → StandsFor self.now psk s
             → result ≡ belongs_to psk s sealed.now }
@@ -151,8 +150,8 @@ impl RspSession {
         self.repeats_last(sealed) || self.read_request(sealed, inner).is_ok()
     }
 
-    /// The key of the next answer, if its request leaves the keys as they are. None where the
-    /// session is ended, and where its key has sealed 65,536 records.
+    /// The key of the next answer, if its request leaves the keys as they are. `None` where the session is ended, and
+    /// where its key has sealed 65,536 records.
     pub fn next_answer_key(&self) -> Option<AnswerKey>
         ensures live { (psk : List ℕ) (s : Events) → StandsFor self.now psk s → MatchOption result
             (response_next s ≡ 65536)
@@ -165,9 +164,8 @@ impl RspSession {
         Some(self.present_key())
     }
 
-    /// The key of the answer to this record, which depends on no free value; its inner message is
-    /// written in place of what `inner` holds. None where the session is ended, and where the
-    /// record does not open. Both epochs are below 2^64 - 1.
+    /// The key of the answer to this record, which depends on no free value; its inner message then overwrites `inner`.
+    /// `None` where the session is ended, and where the record does not open. Both epochs are below 2^64 - 1.
     pub fn answer_key(&self, request: &[u8], inner: &mut RecordFrame) -> Option<AnswerKey>
         ensures live { (r : RspSetup) (s : Events) (f : Free) → HasSizes r (session_terms s).common
             → HasEpochs s → StandsFor self.now r.psk s → MatchOption result

@@ -1,6 +1,6 @@
 use crate::RspSession;
 
-// A large answer whose bytes come chunk by chunk, for one who judges it.
+// A large response whose bytes come chunk by chunk; used only by the checker.
 impl RspSession {
     ghost use Rattle.std.specs.Prelude.{◌≡◌, ◌≤◌, ◌<◌, ◌+◌, ℕ, List, is_some, length, true};
     ghost use Rattle.responder_rules.specs.LargeAnswer.{last_takes};
@@ -16,8 +16,8 @@ impl RspSession {
     ghost use Rattle.responder_session.specs.Pending.{IsUncounted, events_unseen, events_with};
     ghost use Rattle.responder_session.specs.Session.{StandsFor};
 
-    /// The MEASUREMENTS that are pending get these bytes, which go by chunks; as many chunks of them
-    /// are given as were.
+    /// The MEASUREMENTS that are pending get these bytes, which are sent in chunks; as many chunks of them are given as
+    /// were.
     pub fn put_pending(&mut self, answer: &[u8])
         requires { length answer.now ≤ MAX_MESSAGE_SIZE }
         ensures { (r : RspSetup) (s : Events) → HasSizes r (session_terms s).common
@@ -30,8 +30,8 @@ impl RspSession {
         self.large.put(answer, transfer);
     }
 
-    /// The MEASUREMENTS that went by LargeResponse last were never seen, though chunks of them may have
-    /// been given: they are not pending, and took no handle.
+    /// The MEASUREMENTS that went by LargeResponse last were never seen, though chunks of them may have been given:
+    /// they are not pending, and took no handle.
     pub fn forget_pending(&mut self)
         ensures { (psk : List ℕ) (s : Events) → is_some (large_of (turns_of s)) ≡ true
             → last_takes GET_MEASUREMENTS (turns_of s) ≡ true → StandsFor self.old psk s
@@ -41,7 +41,7 @@ impl RspSession {
     }
 
     /// The MEASUREMENTS that answer the newest record were never seen, and are pending again: these bytes stand for
-    /// them, which go by chunks under this handle, and no chunk of them was given. `forget_pending` undoes it.
+    /// them, which are sent in chunks under this handle, and no chunk of them was given. `forget_pending` undoes it.
     pub fn make_pending(&mut self, answer: &[u8], handle: u8)
         requires { length answer.now ≤ MAX_MESSAGE_SIZE }
         ensures { (r : RspSetup) (s : Events) → HasSizes r (session_terms s).common
@@ -53,7 +53,7 @@ impl RspSession {
         self.large.begin(answer, transfer, handle);
     }
 
-    /// A large answer of the session was never seen, and other messages were taken since: it took no handle.
+    /// A large response of the session was never seen, and other messages were taken since: it took no handle.
     pub fn uncount(&mut self)
         ensures { (psk : List ℕ) (s e : Events) → IsUncounted s e → StandsFor self.old psk s
             → StandsFor self.new psk e }

@@ -6,13 +6,13 @@ use spdm_basis::Buffer;
 use std::marker::Model;
 use thiserror::Error;
 
-/// Why application data is not queued, in the order in which it is tested.
+/// Why application data is not queued, in the order of the checks.
 #[derive(Clone, Copy, Debug, PartialEq, Eq, Error)]
 pub enum QueueFault {
     /// There are more than 1,024 bytes.
     #[error("more than 1,024 bytes")]
     TooLong,
-    /// 16 messages wait.
+    /// 16 messages are queued.
     #[error("16 messages wait")]
     Full,
 }
@@ -50,8 +50,8 @@ impl Reply {
     }
 }
 
-/// The application data that waits to be sent in answer, the oldest first: up to 16 messages of up
-/// to 1,024 bytes, kept in place. Contracts see it as the list of the messages.
+/// The queue of application data to send in reply, oldest first: up to 16 messages of up to 1,024 bytes, stored inline.
+/// In contracts, the list of the messages.
 #[derive(Drop)]
 pub struct AppQueue {
     replies: ArrayVec<Reply, 16>,
@@ -70,7 +70,7 @@ impl AppQueue {
     ghost use Rattle.responder_machine.specs.Does.{first_queued};
     ghost use Rattle.responder_session.specs.Queue.{queue_fault};
 
-    /// No application data.
+    /// An empty queue.
     pub fn new() -> AppQueue
         ensures { result ≡ [] }
     {
@@ -79,7 +79,7 @@ impl AppQueue {
         }
     }
 
-    /// Adds application data behind what waits. A refusal changes nothing.
+    /// Enqueues application data. On an error nothing changes.
     pub fn push(&mut self, bytes: &[u8]) -> Result<(), QueueFault>
         ensures fault { MatchResult result (λ _. queue_fault self.old bytes.now ≡ None)
             (λ fault. queue_fault self.old bytes.now ≡ Some fault) }
@@ -96,7 +96,7 @@ impl AppQueue {
         Ok(())
     }
 
-    /// What waits first, and no bytes where nothing waits.
+    /// The first message; empty if there is none.
     pub fn first(&self) -> &[u8]
         ensures value { result.now ≡ first_queued self.now }
         ensures fits { length result.now ≤ 1024 }
@@ -107,7 +107,7 @@ impl AppQueue {
         }
     }
 
-    /// Takes out what waits first.
+    /// Removes the first message.
     pub fn advance(&mut self)
         ensures { self.new ≡ drop 1 self.old }
     {

@@ -20,8 +20,8 @@ use responder_rules::{LargeAnswer, Place, write_measurements};
 use spdm_basis::Frame;
 use spdm_grammar::{ErrorCode, Stage};
 
-// The operations of KEY_UPDATE that update the keys of both directions, and by which new keys are
-// verified (DSP0274, "KEY_UPDATE operations").
+// The operations of KEY_UPDATE that update the keys of both directions, and by which new keys are verified (DSP0274,
+// "KEY_UPDATE operations").
 pub const UPDATE_ALL_KEYS: u8 = 2;
 
 const VERIFY_NEW_KEY: u8 = 3;

@@ -17,9 +17,8 @@ use transcript::{Lane, Vca};
 // The fewest bytes of a record.
 const LEAST_RECORD: usize = 26;
 
-/// A session at the responder in whatever stage, which takes records in place. Its keys, the last
-/// record with its reply, the pending large answer and the application data stand in it and do not
-/// move.
+/// A session at the responder in any stage, updated in place. Its keys, the last record with its response, the pending
+/// large response and the application data are stored inline and do not move.
 #[derive(Drop)]
 pub struct RspSession {
     // None where END_SESSION ended it.
@@ -38,7 +37,7 @@ fn names(sealed: &[u8], id: SessionId) -> bool
     same_bytes(sealed.split_at(4).0, &id.bytes())
 }
 
-// What is told of a record that does not open at an ended session.
+// What is reported of a record that does not open at an ended session.
 pub fn ended_fault(id: SessionId, sealed: &[u8]) -> RecordFault
     ensures { result ≡ ended_fault (session_id_bytes id.req id.rsp) sealed.now }
 {
@@ -71,9 +70,9 @@ impl RspSession {
     ghost use Rattle.responder_session.specs.Session.{StandsFor, IsEnded};
     ghost use Rattle.responder_session.specs.Took.{IsTold};
 
-    /// The session that a PSK_EXCHANGE begins, after the messages of a negotiation and under its
-    /// terms; writes the whole PSK_EXCHANGE_RSP with these parts (DSP0274), of at most 4,096 bytes, in
-    /// place of what `out` holds. The context is at least as long as the hash.
+    /// Creates the session of a PSK_EXCHANGE, after the messages of a negotiation and under its terms; overwrites `out`
+    /// with the complete PSK_EXCHANGE_RSP with these parts (DSP0274), of at most 4,096 bytes. The context is at least
+    /// as long as the hash.
     pub fn start(
         vca: &Vca,
         psk: &Psk,
@@ -105,7 +104,7 @@ impl RspSession {
         }
     }
 
-    /// How far the session has come; none where it is ended.
+    /// The stage of the session; `None` if it has ended.
     pub fn stage(&self) -> Option<Stage>
         ensures live { (psk : List ℕ) (s : Events) → StandsFor self.now psk s
             → result ≡ Some (stage_of s) }
@@ -114,8 +113,7 @@ impl RspSession {
         self.stage
     }
 
-    /// The session as it is shown, where fewer than 2^64 application messages were taken; none
-    /// where it is ended.
+    /// A view of the session; `None` if it has ended. Requires fewer than 2^64 received application messages.
     pub fn view(&self) -> Option<SessionView>
         ensures shown { (psk : List ℕ) (s : Events) → StandsFor self.now psk s
             → taken_of s < 2 ^ 64 → result ≡ Some (view_of s) }
@@ -127,7 +125,7 @@ impl RspSession {
         }
     }
 
-    /// What it stands under.
+    /// The terms of the session.
     pub fn terms(&self) -> SessionTerms
         ensures choice { (psk : List ℕ) (s : Events) → StandsFor self.now psk s
             → result.choice ≡ (session_terms s).choice }
@@ -137,8 +135,7 @@ impl RspSession {
         self.kept.terms
     }
 
-    /// The record that answered the last record taken; none exactly in a handshake that has taken
-    /// no record.
+    /// The response to the last record; `None` exactly in a handshake before the first record.
     pub fn reply(&self) -> Option<&[u8]>
         ensures kept { MatchOption result (kept_reply self.now ≡ None)
             (λ reply. kept_reply self.now ≡ Some reply.now) }
@@ -152,14 +149,14 @@ impl RspSession {
         self.kept.last.last_reply()
     }
 
-    /// The application data last taken, and no bytes before the first.
+    /// The application data received last; empty before the first.
     pub fn data(&self) -> &[u8]
         ensures { result.now ≡ self.now.bytes }
     {
         self.bytes.as_slice()
     }
 
-    /// The handle that is given to the next large answer at this project's choice.
+    /// The handle of the next large response, by this project's choice.
     pub fn next_handle(&self) -> u8
         ensures { (psk : List ℕ) (s : Events) → StandsFor self.now psk s
             → result ≡ next_handle (turns_of s) }
@@ -175,10 +172,9 @@ impl RspSession {
         self.kept.place(stage, self.large.is_pending())
     }
 
-    /// A record of the requester, whose answer has these free values: of them an open session needs
-    /// all, and any other the padding alone. The caller's nonce has 32 bytes, the opaque data and
-    /// the reply at most 1,024, and the padding at most 16. What is told goes by the definitions
-    /// where both epochs of an open session are below 2^64 - 1.
+    /// Handles a record from the requester, whose response has these free values: an open session needs all of them,
+    /// any other the padding alone. The nonce has 32 bytes, the opaque data and the reply at most 1,024, and the
+    /// padding at most 16. The definitions fix the outcome while both epochs of an open session are below 2^64 - 1.
     pub fn take_with(
         &mut self,
         sealed: &[u8],

@@ -1,23 +1,22 @@
 use secured_record::RecordFault;
 
-/// What a record did that a session took.
+/// The effect of a record that a session accepted.
 #[derive(Clone, Copy, Debug, PartialEq, Eq)]
 pub enum RspAct {
     /// A request was answered; this is its code.
     Answered(u8),
-    /// Application data was taken.
+    /// Application data was received.
     Data,
-    /// A request was refused with the error code of this number (DSP0274, "Error code and error
-    /// data").
+    /// A request was refused with the error code of this number (DSP0274, "Error code and error data").
     Refused(u8),
 }
 
-/// What came of a record at a session that is stepped in place.
+/// The outcome of a record at an `RspSession`.
 #[derive(Clone, Copy, Debug, PartialEq, Eq)]
 pub enum RspTold {
-    /// The session took it.
+    /// The session accepted it.
     Moved(RspAct),
-    /// It is the record that was taken last: its reply goes out again, and nothing changed.
+    /// It repeats the last accepted record: its response is sent again, and nothing changed.
     Same,
     /// It did not open, and nothing changed.
     Unopened(RecordFault),

@@ -15,12 +15,12 @@ pub enum RspState {
     Ended(RspEnded),
 }
 
-/// What came of a record.
+/// The outcome of a record.
 #[derive(Drop)]
 pub enum RspTook {
-    /// The session took it.
+    /// The session accepted it.
     Moved(RspState, RspAct),
-    /// It is the record that was taken last: its reply goes out again, and nothing changed.
+    /// It repeats the last accepted record: its response is sent again, and nothing changed.
     Same(RspState),
     /// It did not open, and nothing changed.
     Unopened(RspState, RecordFault),
@@ -82,8 +82,7 @@ impl RspState {
         }
     }
 
-    /// The record that answered the last record taken; none exactly in a handshake that has taken
-    /// no record.
+    /// The response to the last record; `None` exactly in a handshake before the first record.
     pub fn reply(&self) -> Option<&[u8]>
         ensures kept { MatchOption result (reply_of self.now ≡ None)
             (λ reply. reply_of self.now ≡ Some reply.now) }

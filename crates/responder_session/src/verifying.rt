@@ -17,7 +17,7 @@ impl RspVerifying {
     ghost use Rattle.responder_session.specs.Took.{IsTook};
     ghost use Rattle.responder_session.specs.Verifying.{StandsFor};
 
-    /// The session as it is shown, where fewer than 2^64 application messages were taken.
+    /// A view of the session, where fewer than 2^64 application messages were taken.
     pub fn view(&self) -> SessionView
         ensures { (psk : List ℕ) (s : Events) → StandsFor self.now psk s → taken_of s < 2 ^ 64
             → result ≡ view_of s }
@@ -25,7 +25,7 @@ impl RspVerifying {
         self.session.kept.view(Stage::Verifying)
     }
 
-    /// A record of the requester, whose answer has no padding.
+    /// Handles a record from the requester; its response has no padding.
     pub fn take(self, sealed: &[u8]) -> RspTook
         ensures { (r : RspSetup) (s : Events) (f : Free) → HasSizes r (session_terms s).common
             → f.pad ≡ [] → StandsFor self r.psk s → IsTook r s f sealed.now result }
@@ -33,7 +33,7 @@ impl RspVerifying {
         self.take_with(sealed, &[])
     }
 
-    /// The same, with this padding for the answer, of at most 16 bytes.
+    /// Same as `take`, with this padding for the response, of at most 16 bytes.
     pub fn take_with(mut self, sealed: &[u8], pad: &[u8]) -> RspTook
         requires { length pad.now ≤ 16 }
         ensures { (r : RspSetup) (s : Events) (f : Free) → HasSizes r (session_terms s).common

@@ -1,7 +1,7 @@
 use spdm_basis::{Frame, RecordFrame};
 
-/// The buffers that a session needs while it takes a record. What they hold between two calls does
-/// not matter, so one serves any number of sessions.
+/// Scratch buffers for handling a record. Their contents between calls are irrelevant, so one `Work` serves any number
+/// of sessions.
 #[derive(Drop)]
 pub struct Work {
     // The inner message of the record.
@@ -13,7 +13,7 @@ pub struct Work {
 }
 
 impl Work {
-    /// Buffers that hold nothing.
+    /// Empty buffers.
     pub fn new() -> Work {
         Work {
             inner: RecordFrame::new(),
