@@ -1,8 +1,7 @@
-//! A hash function that is chosen when the program runs: SHA-256 or SHA-384 (FIPS 180-4), taken piece
-//! by piece without memory of its own.
+//! A hash function that is chosen when the program runs: SHA-256 or SHA-384 (FIPS 180-4), taken piece by piece without
+//! memory of its own.
 //!
-//! Read first: `hash_of` in `specs/Hash.antt`, a hash of a list of bytes. The call is
-//! `RunningHash::push`.
+//! Read first: `hash_of` in `specs/Hash.antt`, a hash of a list of bytes. The call is `RunningHash::push`.
 #![tactic(auto)]
 
 ghost use Rattle.std.specs.Prelude.{◌≡◌, length};
@@ -12,8 +11,8 @@ ghost use Rattle.running_hash.specs.Hash.{hash_of};
 use sha2::{Digest, Sha256, Sha384};
 use spdm_basis::{HashAlg, HashBytes};
 
-/// A running hash: a hash function and what it was given so far. Contracts relate it to the list of
-/// bytes that it was given, which it does not keep.
+/// A running hash: a hash function and what it was given so far. Contracts relate it to the list of bytes that it was
+/// given, which it does not keep.
 #[derive(Clone, Drop)]
 pub enum RunningHash {
     /// A running SHA-256.
@@ -39,7 +38,7 @@ impl RunningHash {
         }
     }
 
-    /// Adds bytes at the end of what was given.
+    /// Appends bytes of what was given.
     pub fn push(&mut self, bytes: &[u8])
         ensures function { function_of self.new ≡ function_of self.old }
         ensures given { (given : List ℕ) → Holds self.old given
