@@ -51,7 +51,7 @@ abbrev pub is_measured : Event → Bool
 is_measured (event.Done (finished.Measured number)) = true
 is_measured _ = false
 
--- It is told exactly where data came, and where a record did.
+-- It is told exactly when data came, and where a record did.
 pub record Agrees (led : Led) : Type 0 where
   pub bytes : is_some (bytes_in led.effect) ≡ is_answered led.event
   pub blocks : is_some (blocks_in led.effect) ≡ is_measured led.event

@@ -31,7 +31,7 @@ responder_in c = record {
   suites = c.responder.suites;
 }
 
--- A requester, beside a responder with this end point.
+-- A requester, beside a responder with this endpoint.
 abbrev pub requester_in : (responder : ℕ) → ReqPart → ReqSetup
 requester_in responder q = record {
   eid = q.eid.number;
@@ -47,7 +47,7 @@ requester_in responder q = record {
   suites = q.suites;
 }
 
--- What a responder with this end point knows of requesters.
+-- What a responder with this endpoint knows of requesters.
 abbrev pub known_in : (responder : ℕ) → List ReqPart → List Known
 known_in responder qs = map known_of (map (requester_in responder) qs)
 
@@ -90,7 +90,7 @@ pub record HasRequesterFault (responder : ℕ) (q : ReqPart) (fault : Option Req
   pub sets_up : setup_of config ≡ requester_in responder q
   pub is : asking.config_fault config ≡ fault
 
--- Why there is no responder: its first fault. Want of memory may come at any time.
+-- Why there is no responder: its first fault. Allocation failure may come at any time.
 abbrev pub IsResponderFault : ScriptConfig → RspConfigFault → Type 0
 IsResponderFault c answers.OutOfMemory = Unit {0}
 IsResponderFault c fault = HasResponderFault c (Some fault)

@@ -1,7 +1,7 @@
-//! The ends that a configuration sets up, and what is told of what a requester is given.
+//! The ends that a configuration sets up, and what is reported of what a requester is given.
 //!
-//! Read first: `responder_in` in `specs/Configured.antt`, the responder that a configuration sets
-//! up. The call to begin with is `make_responder`.
+//! Read first: `responder_in` in `specs/Configured.antt`, the responder that a configuration sets up. The call to begin
+//! with is `make_responder`.
 #![tactic(auto)]
 
 mod requester_end;

@@ -9,7 +9,7 @@ use script_text::ReqPart;
 use spdm_basis::{Eid, Psk};
 use std::alloc::Global;
 
-// How a requester is set up, beside a responder with this end point.
+// How a requester is set up, beside a responder with this endpoint.
 fn requester_config(responder: Eid, q: &ReqPart) -> ReqConfig<'_>
     ensures { setup_of result ≡ requester_in responder.number q.now }
 {
@@ -31,9 +31,9 @@ fn requester_config(responder: Eid, q: &ReqPart) -> ReqConfig<'_>
     }
 }
 
-/// A requester of a configuration, beside a responder with this end point: with this seed, in the life of a boot number of
-/// at most 2^24 - 2. It was told and given nothing yet. A fault is its first, of which a requester that was read from a
-/// text has none; or memory ran out.
+/// A requester of a configuration, beside a responder with this endpoint: with this seed, in the life of a boot number
+/// of at most 2^24 - 2. It was told and given nothing yet. A fault is its first, of which a requester that was read
+/// from a text has none; or memory ran out.
 pub fn make_requester(
     alloc: Global,
     responder: Eid,
