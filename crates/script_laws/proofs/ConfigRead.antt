@@ -32,7 +32,7 @@ of_some p (Some a) = p a
 abbrev pub is_sound_line : RspLine → Bool
 is_sound_line r = is_sound_end 255 r.transfer r.max r.unit r.beat r.flags
 
--- No requester has the end point of the responder.
+-- No requester has the endpoint of the responder.
 abbrev pub is_apart : List ReqPart → RspLine → Bool
 is_apart requesters r = not (requester_has_eid r.eid.number requesters)
 
@@ -42,7 +42,7 @@ pub record IsWhole (needs : Bool) (given : Given) : Type 0 where
   pub responder : is_none given.responder ≡ false
   pub some : nat_eq (length given.requesters) 0 ≡ false
 
--- No end point is 0, so that requesters are apart from that one wherever they are apart.
+-- No endpoint is 0, so that requesters are apart from that one wherever they are apart.
 pub record IsRight (needs : Bool) (given : Given) : Type 0 where
   pub seed : of_some (are_bytes_in 32 32) given.seed ≡ true
   pub opaque : of_some (are_bytes_in 0 1024) given.opaque ≡ true

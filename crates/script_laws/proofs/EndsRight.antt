@@ -47,7 +47,7 @@ not_equal : (xs ys : List ℕ) (b : Bool) → bytes_eq xs ys ≡ b → (xs ≡ y
 not_equal xs ys true e fails = absurd (fails ((bytes_eq-Decides xs ys).0 e))
 not_equal xs ys false e fails = refl
 
--- none of these requesters has the end point of one before them, nor its pre-shared key
+-- none of these requesters has the endpoint of one before them, nor its pre-shared key
 none_has_eid : (e : ℕ) (front : List ReqPart) (q : ReqPart) (back qs : List ReqPart) → are_sound_requesters e (front ++ q ∷ back) qs ≡ true → requester_has_eid q.eid.number qs ≡ false
 none_has_eid e front q back [] h = refl
 none_has_eid e front q back (x ∷ qs) h =
@@ -186,7 +186,7 @@ responder_fine c sound config up =
 
 -- ---- A requester.
 
--- a requester in range, which has another end point than the responder
+-- a requester in range, which has another endpoint than the responder
 abbrev IsOne : ℕ → ReqPart → Type 0
 IsOne e q = (is_sound_requester q ≡ true) × (nat_eq e q.eid.number ≡ false)
 

@@ -77,7 +77,7 @@ goes_on w (x ∷ xs) (suc i) e h room =
           ∙ sym (append_assoc s.lines (lines_to s.after xs i) (before_full (step_at s.after xs i e).lines ++ rest.0)),
     )
 
--- The next event finds the link full: this is the line, and nothing is written behind what it does.
+-- The next event finds the link full: this is the line, and nothing is written after what it does.
 pub record StopsAt (w : World) (events : List Entry) (i : ℕ) (e : Entry) : Type 0 where
   pub line : full_from w (entries_in events) ≡ Some (get_or events i e).line
   pub written : before_full (lines_from w (entries_in events)) ≡ lines_to w events i ++ before_full (step_at w events i e).lines

@@ -8,7 +8,7 @@ use Rattle.script_text.specs.declared.texts.faults.LineFault.{LineFault}
 use Rattle.script_text.specs.declared.texts.faults.ScriptFault.{ScriptFault}
 use Rattle.spdm_basis.proofs.Options.{both}
 
--- a test is passed, and so are those behind it
+-- a test is passed, and so are those after it
 
 module _ {S V : Type 0} (fault : S → List ℕ → Option LineFault) (after : S → ℕ → List ℕ → S) (whole : S → Option V) (Holds : S → Type 0)
     (kept : (state : S) (number : ℕ) (line : List ℕ) → fault state line ≡ None → Holds state → Holds (after state number line)) where

@@ -1,4 +1,4 @@
--- What is told as refused gets an ERROR of its code, and what the table refuses is told as refused.
+-- What is reported as refused gets an ERROR of its code, and what the table refuses is told as refused.
 use Rattle.std.proofs.Common.{◌≡◌, ◌∙◌, ◌==◌, ◌||◌, inl, inr, ℕ, List, [], ◌∷◌, drop, refl, sym, ap, subst, Bool, true, false, not, Option, Some, None}
 use Rattle.std.specs.Option.{option_or, unwrap_or}
 use Rattle.std.specs.Prelude.{if◌then◌else◌, slice_index}
@@ -181,7 +181,7 @@ body_sends r h tag body d =
 
 -- ---- Steps.
 
--- What a step that is told so sends.
+-- What a step that is reported so sends.
 record Sends (r : Responding) (packet : List ℕ) (sent : List (List ℕ)) (code : ℕ) : Type 0 where
   c : Connection
   found : connection_of (source_of packet) r.connections ≡ Some c

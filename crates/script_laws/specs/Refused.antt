@@ -76,7 +76,7 @@ pub record GetsError (r : Responding) (packet : List ℕ) (code : ℕ) : Type 0 
   pub error : IsError c.setup c.history request code body
   pub sent : (responder_hears r packet).sent ≡ packets_to c.setup.peer c.setup.eid false tag c.setup.unit body
 
--- What is told as refused gets its ERROR.
+-- What is reported as refused gets its ERROR.
 abbrev pub GetsErrorBy : Responding → List ℕ → Heard → Type 0
 GetsErrorBy r packet (heard.Refused code) = GetsError r packet code
 GetsErrorBy r packet _ = Unit {0}
