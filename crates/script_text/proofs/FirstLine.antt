@@ -32,7 +32,7 @@ at_or_length n m false e h = let g : m ≤ n = ltb-false n m e in omega (arith, 
 pub place_is : (p : ℕ → Bool) (text : List ℕ) → unwrap_or (position p text) (length text) ≡ position_or_len p text
 place_is p text = at_or_length (position_or_len p text) (length text) (nat_lt (position_or_len p text) (length text)) refl (within p text)
 
--- a text that is not empty is its first line and the lines behind it
+-- a text that is not empty is its first line and the lines after it
 pub first_line : (text : List ℕ) → (text ≡ [] → ⊥) → (n : ℕ) → n ≡ unwrap_or (position (λ b. nat_eq b 10) text) (length text) →
     lines_of text ≡ take n text ∷ lines_of (drop 1 (drop n text))
 first_line [] some n e = absurd (some refl)

@@ -3,7 +3,7 @@ use Rattle.std.proofs.Common.{◌≡◌, ℕ, List, [], ◌∷◌, length, drop,
 use Rattle.std.proofs.lemmas.Bool.{ne_eqb}
 use Rattle.script_text.specs.Choices.{is_some_of}
 
--- a word that begins with the letter goes on behind it
+-- a word that begins with the letter goes on after it
 pub is_some_of-first : (letter : ℕ) (letters word : List ℕ) → 0 < length word → get_or word 0 0 ≡ letter → is_some_of letters (drop 1 word) ≡ is_some_of (letter ∷ letters) word
 is_some_of-first letter letters [] some e = absurd (omega arith)
 is_some_of-first letter letters (c ∷ word) some e = let same : nat_eq c letter ≡ true = eq-eqb c letter e in rw same refl

@@ -1,4 +1,4 @@
--- The words of a line, one behind the other.
+-- The words of a line, one after the other.
 use Rattle.std.proofs.Common.{◌≡◌, ℕ, zero, suc, ◌+◌, ◌<◌, ◌≤◌, List, [], ◌∷◌, length, take, drop, get_or, refl, sym, ap, ◌∙◌, Bool, true, false, cond, nat_eq, arith, ltb-false}
 use Rattle.std.specs.Prelude.{Option, Some, None, nat_lt, not}
 use Rattle.std.specs.List.{position, position_or_len, slice_split, onto_first, before_first, after_first}
@@ -37,7 +37,7 @@ first_part : (line : List ℕ) → get_or (parts_of line) 0 [] ≡ before_first 
 first_part [] = refl
 first_part (b ∷ line) = head_of b line (is_space b) (first_part line)
 
--- the others are the words behind it
+-- the others are the words after it
 tail_of : (b : ℕ) (line : List ℕ) (j : ℕ) (space : Bool) → get_or (parts_of line) (suc j) [] ≡ get_or (parts_of (after_first is_space line)) j [] →
     get_or (cond space ([] ∷ parts_of line) (onto_first b (parts_of line))) (suc j) []
     ≡ get_or (parts_of (drop (cond (not space) (1 + position_or_len is_space line) 0 + 1) (b ∷ line))) j []
@@ -64,7 +64,7 @@ length-onto_first : (x n : ℕ) (parts : List (List ℕ)) → length parts ≡ s
 length-onto_first x n [] e = absurd (omega (arith, e))
 length-onto_first x n (part ∷ parts) e = e
 
--- behind the first space is one word less
+-- after the first space is one word less
 parts_behind : (k : ℕ) (line : List ℕ) → k < length line → is_space (get_or line k 0) ≡ true → ((j : ℕ) → j < k → is_space (get_or line j 0) ≡ false) →
     length (parts_of line) ≡ suc (length (parts_of (drop (suc k) line)))
 parts_behind k [] low at before = absurd (omega arith)

@@ -25,7 +25,7 @@ plain_digit d h = AllPass-from_list_all is_plain lower_digits refl d 0 h
 pub plain_hex : (bytes : List ℕ) → are_bytes bytes ≡ true → is_plain_word (hex_word bytes) ≡ true
 plain_hex bytes h = all_of_hex_word is_plain plain_digit refl bytes h
 
--- how long the words of a line are, each with the space or line feed behind it
+-- how long the words of a line are, each with the space or line feed after it
 abbrev pub long_words : List (List ℕ) → ℕ
 long_words [] = 0
 long_words (word ∷ words) = suc (length word) + long_words words

@@ -27,7 +27,7 @@ abbrev pub line_of : List (List ℕ) → List ℕ
 line_of [] = []
 line_of (word ∷ words) = with_words word words
 
--- words behind two texts
+-- words after two texts
 pub with_words-append : (a b : List ℕ) (words : List (List ℕ)) → with_words (a ++ b) words ≡ a ++ with_words b words
 with_words-append a b [] = refl
 with_words-append a b (word ∷ words) =
@@ -105,7 +105,7 @@ some_line (b ∷ text) = go b (nat_eq b 10) (lines_of (text ++ 10 ∷ [])) (some
     go b true rest h = ([], rest, refl)
     go b false rest h = (b ∷ h.0, h.1, ap (onto_first b) h.2)
 
--- what stands behind a line feed begins a new line
+-- what follows a line feed begins a new line
 pub lines_of-ended : (text more : List ℕ) → lines_of ((text ++ 10 ∷ []) ++ more) ≡ lines_of (text ++ 10 ∷ []) ++ lines_of more
 lines_of-ended [] more = refl
 lines_of-ended (b ∷ text) more =
@@ -116,7 +116,7 @@ lines_of-ended (b ∷ text) more =
     go b true rest more h = refl
     go b false rest more h = rw h.2 refl
 
--- a line behind a text
+-- a line after a text
 pub with_line-append : (text word : List ℕ) (words : List (List ℕ)) → with_line text (word ∷ words) ≡ text ++ (line_of (word ∷ words) ++ 10 ∷ [])
 with_line-append text word words = ap (λ t. t ++ 10 ∷ []) (with_words-append text word words) ∙ append_assoc text (with_words word words) (10 ∷ [])
 

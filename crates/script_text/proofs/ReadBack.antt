@@ -1,4 +1,4 @@
--- Events that are printed behind a configuration are read back.
+-- Events that are printed after a configuration are read back.
 use Rattle.std.proofs.Common.{◌≡◌, ℕ, suc, ◌+◌, ◌<◌, ◌≤◌, ◌++◌, List, [], ◌∷◌, length, map, refl, sym, ap, ◌∙◌, Bool, true, false, nat_eq, arith, append_assoc, length-append, Option, Some, None, Result, Ok, fold, cond}
 use Rattle.std.specs.Option.{option_map, unwrap_or}
 use Rattle.std.specs.Result.{result_unwrap_or}
@@ -55,7 +55,7 @@ shown_line e p =
 
 -- ---- one event
 
--- what a reader is behind an event
+-- what a reader is after an event
 abbrev with_event : ScriptReader → ℕ → LinkEvent → ScriptReader
 with_event reader number e = record reader { events = reader.events ++ (record { line = number; event = e }) ∷ [] }
 
@@ -104,7 +104,7 @@ events_read n number reader (e ∷ entries) config ended count few sound numbere
 
 -- ---- lines in front
 
--- what a reader is behind lines that have no fault, and what further lines lead to
+-- what a reader is after lines that have no fault, and what further lines lead to
 pub record IsBehind (number : ℕ) (before : ScriptReader) (lines : List (List ℕ)) (script : Script) : Type 0 where
   pub behind : ScriptReader
   pub whole : whole_script behind ≡ Some script
@@ -141,7 +141,7 @@ is_behind number before (line ∷ lines) script h =
 
 -- ---- the text
 
--- the lines of a text with events behind it
+-- the lines of a text with events after it
 lines_of-events : (text u : List ℕ) (n : ℕ) (entries : List Entry) → text ≡ u ++ 10 ∷ [] → n ≤ 8 → are_sound_events n entries ≡ true →
     lines_of (fold with_entry text entries) ≡ lines_of text ++ event_lines entries
 lines_of-events text u n [] ends few sound = sym (append-nil (lines_of text))
@@ -196,7 +196,7 @@ has_config reader config h =
       requesters = has_requesters reader.given reader.given.responder config end.1;
     }
 
--- events that are printed behind a configuration, on lines of their own, are read back as they were
+-- events that are printed after a configuration, on lines of their own, are read back as they were
 pub printed_events : (text u : List ℕ) (config : ScriptConfig) (entries : List Entry) → text ≡ u ++ 10 ∷ [] → script_in text ≡ Ok (record { config = config; events = [] }) →
     length config.requesters ≤ 8 → are_sound_events (length config.requesters) entries ≡ true → AreNumbered (1 + length (lines_of text)) entries → length entries ≤ 100000 →
     script_in (fold with_entry text entries) ≡ Ok (record { config = config; events = entries })

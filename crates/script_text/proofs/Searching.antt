@@ -3,13 +3,13 @@ use Rattle.std.proofs.Common.{◌≡◌, ℕ, suc, ◌+◌, ◌-◌, ◌≤◌, 
 use Rattle.std.specs.Prelude.{Option, Some, None, unwrap_or, not, ◌||◌, nat_lt}
 use Rattle.std.specs.List.{list_any, position, position_or_len}
 
--- a byte that does not pass, in front of more
+-- a byte that does not pass, before more
 behind_one : (n m k : ℕ) (passes any : Bool) → (passes || any) ≡ false → (any ≡ false → n ≡ m + k) →
     cond (not passes) (1 + n) 0 ≡ suc m + k
 behind_one n m k true any h e = cc h
 behind_one n m k false any h e = let same : n ≡ m + k = e h in omega (arith, same)
 
--- the first place behind a front without it
+-- the first place after a front without it
 pub place-behind : (p : ℕ → Bool) (front back : List ℕ) → list_any p front ≡ false →
     position_or_len p (front ++ back) ≡ length front + position_or_len p back
 place-behind p [] back none = omega arith

@@ -11,7 +11,7 @@ use Rattle.script_text.specs.declared.events.event.LinkEvent.TheVariants as even
 use Rattle.script_text.specs.declared.texts.faults.LineFault.{LineFault}
 use Rattle.script_text.specs.declared.texts.faults.LineFault.TheVariants.{Words, Number, Hex, NoSuchEnd}
 
--- The kind of a command by the word behind the requester.
+-- The kind of a command by the word after the requester.
 unfoldable pub command_kind : List ℕ → Option CommandKind
 command_kind word =
     if bytes_eq word (codes "connect") then Some kind.Connect

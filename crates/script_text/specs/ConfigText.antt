@@ -1,4 +1,4 @@
--- The text of a configuration: lines up to `end`, behind which only comments and empty lines stand. This project's own.
+-- The text of a configuration: lines up to `end`, after which only comments and empty lines stand. This project's own.
 use Rattle.std.specs.Prelude.{ℕ, List, if◌then◌else◌, Bool, false, Option, Some, None, Result}
 use Rattle.script_text.specs.Configuring.{config_kind, config_fault, after_config, config_of, nothing_given}
 use Rattle.script_text.specs.Lines.{lines_of, word}
@@ -14,7 +14,7 @@ abbrev pub kind_fault : Bool → Given → Option ConfigKind → List ℕ → Op
 kind_fault needs_seed given None line = Some Unknown
 kind_fault needs_seed given (Some kind) line = config_fault needs_seed given kind line
 
--- A line behind `end` stands there whatever its words.
+-- A line after `end` stands there whatever its words.
 abbrev pub config_text_fault : Given → List ℕ → Option LineFault
 config_text_fault given line = if given.ended then Some Order else kind_fault false given (config_kind (word 0 line)) line
 

@@ -76,7 +76,8 @@ after_block given line = record given { blocks = given.blocks ++ block_of line �
 
 -- ---- `responder EID TRANSFER MAX UNIT BEAT FLAGS` and `requester EID TRANSFER MAX UNIT PAD FLAGS ..`
 
--- The five numbers of an end are in their ranges: the end point, the transfer size, the size of a message, which is at least the transfer size, the payload of a packet, and one of its own.
+-- The five numbers of an end are in their ranges: the endpoint, the transfer size, the size of a message, which is at
+-- least the transfer size, the payload of a packet, and one of its own.
 abbrev pub has_numbers : ℕ → List ℕ → Bool
 has_numbers limit line =
     is_number_in 8 254 (word 1 line)
@@ -101,7 +102,7 @@ fits_flags transfer max word = is_flags word && ((flags_of word).chunk || nat_le
 abbrev pub has_flags : List ℕ → Bool
 has_flags line = fits_flags (value_of (word 2 line)) (value_of (word 3 line)) (word 6 line)
 
--- An end that was configured has this end point.
+-- An end that was configured has this endpoint.
 abbrev pub responder_has_eid : ℕ → Option RspLine → Bool
 responder_has_eid eid None = false
 responder_has_eid eid (Some responder) = responder.eid.number == eid

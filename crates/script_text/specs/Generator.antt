@@ -69,7 +69,7 @@ generated_config seed = record {
 abbrev pub entry_at : ℕ → LinkEvent → Entry
 entry_at line event = record { line = line; event = event }
 
--- Each requester connects and opens a session. Behind the seven lines of the configuration the first event has line 8.
+-- Each requester connects and opens a session. After the seven lines of the configuration the first event has line 8.
 abbrev pub opening : List Entry
 opening =
     entry_at 8 (event.Connect 1)
@@ -100,8 +100,8 @@ drawn_kind x = x / 2 ^ 33 % 20
 abbrev pub drawn_packet : (i x : ℕ) → ℕ
 drawn_packet i x = 1 + x / 2 ^ 40 % (4 * i + 16)
 
--- Event i of a kind: application data of i in both directions, packets that go on, are lost or come again, and
--- commands in session 1.
+-- Event i of a kind: application data of i in both directions, packets that go on, are lost or come again, and commands
+-- in session 1.
 abbrev pub event_of_kind : (i q kind packet : ℕ) → LinkEvent
 event_of_kind i q kind packet =
     if nat_le kind 5 then event.Send q 1 (eight_bytes i)

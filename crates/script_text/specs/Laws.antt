@@ -9,7 +9,7 @@ use Rattle.script_text.specs.declared.events.event.Entry.{Entry}
 use Rattle.script_text.specs.declared.texts.script.Script.{Script}
 
 -- What is printed of a script is read back as it was: a script in range, with at most 100,000 events, which stand on
--- the lines behind those of its configuration.
+-- the lines after those of its configuration.
 abbrev pub PrintedScriptIsRead : Type 0
 PrintedScriptIsRead = (script : Script) →
     IsSoundConfig script.config →
@@ -18,7 +18,7 @@ PrintedScriptIsRead = (script : Script) →
     length script.events ≤ 100000 →
     script_in (script_text script) ≡ Ok script
 
--- Events that are printed behind any text of a configuration, whose last line is ended, are read back as they were.
+-- Events that are printed after any text of a configuration, whose last line is ended, are read back as they were.
 abbrev pub PrintedEventsAreRead : Type 0
 PrintedEventsAreRead = (text front : List ℕ) (config : ScriptConfig) (entries : List Entry) →
     text ≡ front ++ 10 ∷ [] →

@@ -2,7 +2,7 @@
 use Rattle.std.specs.Prelude.{ℕ, List, [], ◌∷◌, ◌==◌, ◌||◌, nat_lt, length, slice_index, slice_index_or, if◌then◌else◌, Bool}
 use Rattle.std.specs.List.{slice_split}
 
--- A byte in front of the first line; where there is no line yet, it begins one.
+-- A byte before the first line; where there is no line yet, it begins one.
 abbrev pub onto_first : ℕ → List (List ℕ) → List (List ℕ)
 onto_first b [] = (b ∷ []) ∷ []
 onto_first b (line ∷ lines) = (b ∷ line) ∷ lines
@@ -12,8 +12,8 @@ abbrev pub lines_of : List ℕ → List (List ℕ)
 lines_of [] = []
 lines_of (b ∷ text) = if b == 10 then [] ∷ lines_of text else onto_first b (lines_of text)
 
--- The words of a line: what stands between single spaces. Between two spaces side by side, in front of the
--- first and behind the last one stands the empty word.
+-- The words of a line: what stands between single spaces. Between two spaces side by side, before the first and after
+-- the last one stands the empty word.
 unfoldable pub words_of : List ℕ → List (List ℕ)
 words_of line = slice_split (λ b. b == 32) line
 

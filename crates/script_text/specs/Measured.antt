@@ -2,7 +2,7 @@
 use Rattle.std.specs.Prelude.{ℕ, List, ◌+◌, length, sum_by}
 use Rattle.spdm_grammar.specs.declared.told.block_spec.BlockSpec.{BlockSpec}
 
--- A block has seven bytes in front of its value: index, specification, size, value type and value size.
+-- A block has seven bytes before its value: index, specification, size, value type and value size.
 abbrev pub block_size : BlockSpec → ℕ
 block_size block = 7 + length block.value
 

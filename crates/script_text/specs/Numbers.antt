@@ -18,7 +18,7 @@ is_number word = not (length word == 0) && list_all is_digit word && not (has_le
 abbrev pub with_digit : ℕ → ℕ → ℕ
 with_digit value digit = value * 10 + (digit - 48)
 
--- The value of digits, the highest first.
+-- The value of digits, big-endian.
 unfoldable pub value_of : List ℕ → ℕ
 value_of word = fold with_digit 0 word
 

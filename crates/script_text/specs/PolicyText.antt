@@ -83,8 +83,8 @@ after_rule rules (Some kind.Go) line = rules
 abbrev pub after_policy : List Rule → List ℕ → List Rule
 after_policy rules line = if is_passed_over line then rules else after_rule rules (rule_kind (word 0 line)) line
 
--- What lines say of which the first has this number. Behind `go` nothing is read; a text without it misses it at the
--- line behind the last.
+-- What lines say of which the first has this number. After `go` nothing is read; a text without it misses it at the
+-- line after the last.
 abbrev pub policy_lines : ℕ → List Rule → List (List ℕ) → Result (List Rule) ScriptFault
 policy_lines number rules [] = Err (Line number Incomplete)
 policy_lines number rules (line ∷ lines) =

@@ -15,7 +15,7 @@ use Rattle.script_text.specs.declared.events.event.LinkEvent.{LinkEvent}
 use Rattle.script_text.specs.declared.events.event.LinkEvent.TheVariants as event
 use Rattle.script_text.specs.declared.texts.script.Script.{Script}
 
--- A line of words behind a text.
+-- A line of words after a text.
 abbrev pub with_line : List ℕ → List (List ℕ) → List ℕ
 with_line text [] = text ++ 10 ∷ []
 with_line text (word ∷ words) = with_words (text ++ word) words ++ 10 ∷ []

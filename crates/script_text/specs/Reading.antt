@@ -16,7 +16,7 @@ line_fault fault state line =
     else (if is_passed_over line then None
     else fault state line)
 
--- Empty lines and comments say nothing. `after` is what is known behind another line of a number.
+-- Empty lines and comments say nothing. `after` is what is known after another line of a number.
 abbrev pub after_line : {S : Type 0} → (S → ℕ → List ℕ → S) → S → ℕ → List ℕ → S
 after_line after state number line = if is_passed_over line then state else after state number line
 
@@ -35,7 +35,7 @@ abbrev pub unless_bad : {V : Type 0} → ℕ → Option LineFault → Result V S
 unless_bad number None others = others
 unless_bad number (Some f) others = Err (fault_at number f)
 
--- At the end of the text, of which this is the number of the line behind the last, something may be missing.
+-- At the end of the text, of which this is the number of the line after the last, something may be missing.
 abbrev pub whole_or_missing : {V : Type 0} → ℕ → Option V → Result V ScriptFault
 whole_or_missing number None = Err (fault.Line number Incomplete)
 whole_or_missing number (Some v) = Ok v
@@ -58,7 +58,7 @@ bad_line_in (Err (fault.Line line f)) = Some (record { line = line; fault = f })
 bad_line_in (Err (fault.TooManyEvents line)) = Some (record { line = line; fault = TooManyEvents })
 bad_line_in (Err fault.OutOfMemory) = None
 
--- An answer about a text is what its lines say; want of memory says nothing.
+-- An answer about a text is what its lines say; allocation failure says nothing.
 abbrev pub IsReading : {V : Type 0} → Result V ScriptFault → Result V ScriptFault → Type 0
 IsReading said (Ok v) = said ≡ Ok v
 IsReading said (Err (fault.Line number f)) = said ≡ Err (fault.Line number f)

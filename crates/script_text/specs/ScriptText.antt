@@ -1,4 +1,4 @@
--- The texts of scripts, captures and lives: a configuration, and behind its `end` events or packets. This project's own.
+-- The texts of scripts, captures and lives: a configuration, and after its `end` events or packets. This project's own.
 use Rattle.std.specs.Prelude.{ℕ, List, [], ◌∷◌, ◌++◌, ◌+◌, ◌-◌, ◌^◌, ◌==◌, ◌&&◌, nat_le, not, codes, bytes_eq, length, if◌then◌else◌, Bool, true, false, Option, Some, None, Result}
 use Rattle.std.specs.Option.{option_map}
 use Rattle.script_text.specs.Configuring.{config_kind, config_fault, after_config, config_of, nothing_given}
@@ -34,7 +34,7 @@ or_too_many count None = if is_full count then Some TooManyEvents else None
 
 -- ---- Scripts.
 
--- An event stands behind `end`.
+-- An event follows `end`.
 abbrev pub script_event_fault : ScriptReader → Option EventKind → List ℕ → Option LineFault
 script_event_fault reader None line = Some Unknown
 script_event_fault reader (Some kind) line =
@@ -75,7 +75,7 @@ script_in text = read_lines script_fault after_script whole_script 1 (record { g
 abbrev pub is_packet : List ℕ → Bool
 is_packet word = bytes_eq word (codes "packet")
 
--- A word is the number behind a count; numbers of packets are below 2^32.
+-- A word is the number after a count; numbers of packets are below 2^32.
 abbrev pub is_next : ℕ → List ℕ → Bool
 is_next count word = is_number_in 1 (2 ^ 32 - 1) word && value_of word == count + 1
 

@@ -13,7 +13,7 @@ use Rattle.script_text.specs.declared.texts.shown.ShownKind.TheVariants as kind
 use Rattle.script_text.specs.declared.texts.shown.ShownAs.{ShownAs}
 
 -- What a line shows by its first word: a request, `q`, a response, `r`, or a response with a measurement summary, `s`;
--- under SHA-256, or with 48 behind the letter under SHA-384.
+-- under SHA-256, or with 48 after the letter under SHA-384.
 unfoldable pub shown_as : List ℕ → Option ShownAs
 shown_as word =
     if bytes_eq word (codes "q") then Some (record { kind = kind.Request; hash = Sha256 })

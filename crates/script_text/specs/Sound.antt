@@ -1,5 +1,5 @@
--- Which configurations and events are read back as they are printed: those in which each number and each list of
--- bytes is in its range, nothing is said twice, and events are on lines one behind the other. This project's own.
+-- Which configurations and events are read back as they are printed: those in which each number and each list of bytes
+-- is in its range, nothing is said twice, and events are on lines one after the other. This project's own.
 use Rattle.std.specs.Prelude.{ℕ, List, [], ◌∷◌, ◌++◌, ◌+◌, ◌<◌, ◌≡◌, ◌==◌, ◌&&◌, ◌||◌, ◌^◌, not, nat_le, nat_lt, length, Bool, true, Option, Some, None}
 use Rattle.std.specs.List.{list_all}
 use Rattle.spdm_grammar.specs.declared.told.block_spec.BlockSpec.{BlockSpec}
@@ -53,7 +53,7 @@ is_sound_event n event.Show = true
 abbrev pub are_sound_events : (requesters : ℕ) → List Entry → Bool
 are_sound_events n entries = list_all (λ (e : Entry). is_sound_event n e.event) entries
 
--- Events stand on lines one behind the other, of which the first has this number.
+-- Events stand on lines one after the other, of which the first has this number.
 abbrev pub AreNumbered : ℕ → List Entry → Type 0
 AreNumbered number [] = Unit {0}
 AreNumbered number (e ∷ entries) = (e.line ≡ number) × AreNumbered (number + 1) entries
@@ -86,7 +86,7 @@ is_sound_requester q =
 abbrev pub is_sound_block : BlockSpec → Bool
 is_sound_block b = is_within 1 254 b.index && nat_le b.value_type 255 && fits_word b.value
 
--- Blocks behind others: each has an index of its own, and all together fit into a record.
+-- Blocks after others: each has an index of its own, and all together fit into a record.
 abbrev pub are_sound_blocks : (before blocks : List BlockSpec) → Bool
 are_sound_blocks before [] = true
 are_sound_blocks before (b ∷ blocks) =
@@ -95,7 +95,7 @@ are_sound_blocks before (b ∷ blocks) =
     && nat_le (sizes_of before + block_size b) 4054
     && are_sound_blocks (before ++ b ∷ []) blocks
 
--- Requesters behind others: at most eight, each with an end point, which is not that of the responder either, and a
+-- Requesters after others: at most eight, each with an endpoint, which is not that of the responder either, and a
 -- pre-shared key of its own.
 abbrev pub are_sound_requesters : (responder : ℕ) → (before requesters : List ReqPart) → Bool
 are_sound_requesters responder before [] = true

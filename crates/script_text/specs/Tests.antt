@@ -9,8 +9,8 @@ abbrev pub first_of_tests : List (Bool × LineFault) → Option LineFault
 first_of_tests [] = None
 first_of_tests (t ∷ ts) = if t.0 then Some t.1 else first_of_tests ts
 
--- What came of a line with this first fault, or without one: it is taken exactly where it has none. Want of
--- memory says nothing.
+-- The outcome of a line with this first fault, or without one: it is taken exactly when it has none. Allocation failure
+-- says nothing.
 abbrev pub IsAnswerTo : {T : Type 0} → Option LineFault → Result T LineError → Type 0
 IsAnswerTo fault (Ok _) = fault ≡ None
 IsAnswerTo fault (Err (Fault f)) = fault ≡ Some f

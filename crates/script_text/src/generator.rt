@@ -12,10 +12,10 @@ use spdm_grammar::names::MAX_MESSAGE_SIZE;
 use spdm_grammar::{BlockSpec, FlagSet};
 use std::alloc::Global;
 
-/// The most events of a generated script, behind those that open its sessions.
+/// The most events of a generated script, after those that open its sessions.
 pub const MOST_GENERATED: u32 = 20_000;
 
-// The end point of a number.
+// The endpoint of a number.
 fn end_point(number: u8) -> Eid
     requires low { 8 ≤ number }
     requires high { number ≤ 254 }

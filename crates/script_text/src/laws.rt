@@ -5,7 +5,7 @@ pub fn printed_script_is_read()
     ensures { PrintedScriptIsRead }
 {}
 
-/// Events that are printed behind a text of a configuration are read back as they were.
+/// Events that are printed after a text of a configuration are read back as they were.
 pub fn printed_events_are_read()
     ensures { PrintedEventsAreRead }
 {}

@@ -1,8 +1,8 @@
 //! Every text that the program reads, and every line that it prints: scripts, captures, configurations,
 //! lives, commands and policies, and the lines of traces and tables.
 //!
-//! Read first: `script_in` in `specs/ScriptText.antt`, the script that a text stands for, or its
-//! first bad line. The call is `parse_script`.
+//! Read first: `script_in` in `specs/ScriptText.antt`, the script that a text stands for, or its first bad line. The
+//! call is `parse_script`.
 #![tactic(auto)]
 
 mod configuration;

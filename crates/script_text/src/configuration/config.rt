@@ -51,14 +51,14 @@ pub struct ScriptConfig {
     pub requesters: ReqParts,
 }
 
-/// How many bytes of a measurement record stand in front of the value of a block.
+/// How many bytes of a measurement record precede the value of a block.
 pub const BLOCK_HEADER: usize = 7;
 
 /// The greatest size of a measurement record that a script's blocks may take.
 pub const RECORD_LIMIT: usize = 4_054;
 
-/// The measurements of a script, in the order of their lines: of 4,054 bytes at most together. Contracts
-/// see them as a list.
+/// The measurements of a script, in the order of their lines: of 4,054 bytes at most together. Contracts see them as a
+/// list.
 #[derive(Debug, Drop)]
 pub struct Blocks {
     items: Vec<BlockSpec>,
@@ -96,7 +96,7 @@ impl Blocks {
         self.size
     }
 
-    /// Adds a measurement at the end. An `Err` leaves them as they were.
+    /// Appends a measurement. An `Err` changes nothing.
     pub fn push(&mut self, block: BlockSpec) -> Result<(), OutOfMemory>
         requires { sizes_of self.old + block_size block ≤ RECORD_LIMIT }
         ensures ok { OnOk result (self.new ≡ self.old ++ block ∷ []) }
@@ -144,7 +144,7 @@ impl ReqParts {
         }
     }
 
-    /// Adds a requester at the end. An `Err` leaves them as they were.
+    /// Appends a requester. An `Err` changes nothing.
     pub fn push(&mut self, requester: ReqPart) -> Result<(), OutOfMemory>
         ensures ok { OnOk result (self.new ≡ self.old ++ requester ∷ []) }
         ensures err { OnErr result (self.new ≡ self.old) }

@@ -41,8 +41,8 @@ impl LineReader for Given {
     }
 }
 
-/// The configuration that a text is: lines up to `end`. The fault is that of the first bad line, and the
-/// first that it has.
+/// The configuration that a text is: lines up to `end`. The fault is that of the first bad line, and the first that it
+/// has.
 #[tactic(auto, unfolding(crate::specs::ConfigText::config_in))]
 pub fn parse_config(alloc: Global, text: &[u8]) -> Result<ScriptConfig, ScriptFault>
     requires { length text.now ≤ TEXT_LIMIT }

@@ -6,7 +6,7 @@ use crate::texts::faults::{LineError, LineFault};
 use crate::configuration::given::Given;
 use crate::reading::words::has_words;
 
-/// Takes the line `end`, behind which nothing is configured any more.
+/// Takes the line `end`, after which nothing is configured any more.
 #[tactic(auto, unfolding(crate::specs::Configuring::end_fault, crate::specs::Configuring::after_end))]
 pub fn take_end(needs_seed: bool, given: &mut Given, line: &[u8]) -> Result<(), LineError>
     ensures answer { IsAnswerTo (end_fault needs_seed given.old line.now) result }

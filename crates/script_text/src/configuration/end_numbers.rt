@@ -18,7 +18,7 @@ pub struct EndNumbers {
     pub own: u8,
 }
 
-// The end point of the number that a word is.
+// The endpoint of the number that a word is.
 fn eid(word: &[u8]) -> Option<Eid>
     ensures valid { is_some result ≡ is_number_in 8 254 word.now }
     ensures value { IfSome result (λ eid. eid ≡ eid_of (value_of word.now)) }

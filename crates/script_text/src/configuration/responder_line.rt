@@ -58,7 +58,7 @@ pub fn end_flags(transfer: u32, max: u32, word: &[u8]) -> Option<FlagSet>
     Some(flags)
 }
 
-/// Whether an end that was configured has this end point.
+/// Whether an end that was configured has this endpoint.
 pub fn has_eid(eid: u8, given: &Given) -> bool
     ensures { result ≡ has_eid eid given.now }
 {

@@ -22,7 +22,7 @@ pub enum CommandKind {
     Measure,
 }
 
-/// The kind of a command by the word behind the requester.
+/// The kind of a command by the word after the requester.
 #[tactic(auto, unfolding(crate::specs::Commands::command_kind))]
 pub fn command_kind(word: &[u8]) -> Option<CommandKind>
     ensures { result ≡ command_kind word.now }

@@ -16,8 +16,8 @@ use crate::events::said::{Said, what_is_said};
 use crate::reading::words::word;
 use std::alloc::Global;
 
-/// The command that a line is, for a requester of this configuration. The fault is the first that the line
-/// has, and is told of line 1; a line that is no command is unknown.
+/// The command that a line is, for a requester of this configuration. The fault is the first that the line has, and is
+/// told of line 1; a line that is no command is unknown.
 #[tactic(auto, unfolding(crate::specs::CommandText::command_in))]
 pub fn parse_command(
     alloc: Global,
@@ -61,7 +61,7 @@ pub struct CommandLine {
 }
 
 /// The command that a line is, as `parse_command` reads it, without memory of its own: its bytes, at most `MOST_BYTES`,
-/// are the first of `room` behind the call. The fault is the first that the line has.
+/// are the first of `room` after the call. The fault is the first that the line has.
 #[tactic(auto, unfolding(crate::specs::CommandText::command_in))]
 pub fn read_command(
     config: &ScriptConfig,

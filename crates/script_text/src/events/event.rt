@@ -4,8 +4,8 @@ use spdm_basis::{Bytes, OutOfMemory};
 use std::alloc::Global;
 use std::marker::Model;
 
-/// What happens on the link or is asked of an end. Requesters are counted from 1, and packets too, in the
-/// order in which they are sent.
+/// What happens on the link or is asked of an end. Requesters are counted from 1, and packets too, in the order in
+/// which they are sent.
 #[derive(Debug, Drop)]
 pub enum LinkEvent {
     /// The requester negotiates.
@@ -75,7 +75,7 @@ impl Events {
         }
     }
 
-    /// Adds an event at the end. An `Err` leaves the events as they were.
+    /// Appends an event. An `Err` changes nothing.
     pub fn push(&mut self, entry: Entry) -> Result<(), OutOfMemory>
         ensures ok { OnOk result (self.new ≡ self.old ++ entry ∷ []) }
         ensures err { OnErr result (self.new ≡ self.old) }

@@ -46,7 +46,7 @@ fn letters(flags: FlagSet) -> ArrayVec<u8, 4>
     letters
 }
 
-// Puts capabilities behind the words of a line.
+// Puts capabilities after the words of a line.
 #[tactic(auto, unfolding(crate::specs::Printing::flags_word))]
 fn add_flags(flags: FlagSet, text: &mut Bytes) -> Result<(), OutOfMemory>
     ensures { OnOk result (text.new ≡ with_word text.old (flags_word flags)) }
@@ -146,7 +146,7 @@ fn is_small(pick: Pick) -> bool
     matches!(pick, Pick::Small)
 }
 
-// Puts algorithms behind the words of a line, and ends it.
+// Puts algorithms after the words of a line, and ends it.
 fn end_with_suites(suites: Suites, text: &mut Bytes) -> Result<(), OutOfMemory>
     ensures { OnOk result (text.new
         ≡ with_word (with_word text.old (hash_word suites.hash))
@@ -224,7 +224,7 @@ fn add_responder_lines(config: &ScriptConfig, text: &mut Bytes) -> Result<(), Ou
     add_opaque(config.responder.opaque.as_slice(), text)
 }
 
-// The lines of blocks and requesters behind those.
+// The lines of blocks and requesters after those.
 fn add_ends(config: &ScriptConfig, text: &mut Bytes) -> Result<(), OutOfMemory>
     requires { text.old ≡ [] }
     ensures { OnOk result (text.new ≡ ends_text config.now) }

@@ -20,7 +20,7 @@ fn begin_command(q: u8, command: &[u8], text: &mut Bytes) -> Result<(), OutOfMem
     add_word(command, text)
 }
 
-// Puts the place where measurements are asked for behind the words of a line.
+// Puts the place where measurements are asked for after the words of a line.
 fn add_place(session: Option<u8>, text: &mut Bytes) -> Result<(), OutOfMemory>
     ensures { OnOk result (text.new ≡ with_word text.old (place_word session)) }
 {

@@ -6,8 +6,7 @@ use crate::reading::places::place_of;
 /// The longest line of a text.
 pub const LINE_LIMIT: usize = 16_384;
 
-/// The first line of a text, without its line feed, and what stands behind it. `None` where the text has
-/// no line.
+/// The first line of a text, without its line feed, and what follows it. `None` where the text has no line.
 pub fn next_line(text: &[u8]) -> Option<(&[u8], &[u8])>
     ensures line { IfSome result (λ found. lines_of text.now ≡ found.0.now ∷ lines_of found.1.now) }
     ensures shorter { IfSome result (λ found. length found.1.now < length text.now) }

@@ -17,8 +17,7 @@ pub fn long_number(word: &[u8]) -> Option<u64>
     Some(value as u64)
 }
 
-/// The number that a word is, in decimal digits without sign and leading zeros, where it is one from `low`
-/// to `high`.
+/// The number that a word is, in decimal digits without sign and leading zeros, where it is one from `low` to `high`.
 pub fn number(low: u32, high: u32, word: &[u8]) -> Option<u32>
     ensures valid { is_some result ≡ is_number_in low high word.now }
     ensures value { IfSome result (λ n. n ≡ value_of word.now) }
@@ -54,7 +53,7 @@ fn has_leading_zero(word: &[u8]) -> bool
     word.len() > 1 && word[0] == b'0'
 }
 
-// The value of digits; one past 128 bits stands still at the last number.
+// The value of digits; one past 128 bits saturates at `u128::MAX`.
 #[tactic(auto, unfolding(crate::specs::Numbers::value_of))]
 fn value(word: &[u8]) -> u128
     ensures { result ≡ min (value_of word.now) (2 ^ 128 - 1) }

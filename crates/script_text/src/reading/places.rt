@@ -1,5 +1,5 @@
-//! Where a byte stands first. Whole pieces without it are passed over, each without a stop in it, so that
-//! many bytes are compared at once.
+//! Where a byte stands first. Whole pieces without it are passed over, each without a stop in it, so that many bytes
+//! are compared at once.
 ghost use Rattle.std.specs.Prelude.{◌≡◌, ◌≤◌, ◌+◌, ◌==◌, length};
 ghost use Rattle.std.specs.List.{list_any, position, position_or_len};
 
@@ -17,7 +17,7 @@ fn has(sought: u8, piece: &[u8]) -> bool
     found
 }
 
-// What is left behind whole pieces that do not have the byte.
+// What is left after whole pieces that do not have the byte.
 fn behind_pieces(sought: u8, bytes: &[u8]) -> &[u8]
     ensures place { position_or_len (λ b. b == sought) bytes.now + length result.now
         ≡ length bytes.now + position_or_len (λ b. b == sought) result.now }

@@ -52,7 +52,7 @@ fn before_space(line: &[u8]) -> &[u8]
     &line[..first_space(line)]
 }
 
-// What stands behind the first space.
+// What follows the first space.
 fn behind_space(line: &[u8]) -> &[u8]
     ensures { result.now ≡ after_first (λ b. b == 32) line.now }
 {

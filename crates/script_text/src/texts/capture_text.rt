@@ -80,7 +80,7 @@ impl CaptureReader {
     }
 }
 
-// Whether a word is the number behind `count`.
+// Whether a word is the number after `count`.
 fn is_next(count: usize, word: &[u8]) -> bool
     ensures { result ≡ is_next count word.now }
 {
@@ -97,8 +97,8 @@ fn is_packet(word: &[u8]) -> bool
     word == b"packet".as_slice()
 }
 
-/// The capture that a text is: a configuration, and packets. The fault is that of the first bad line, and
-/// the first that it has.
+/// The capture that a text is: a configuration, and packets. The fault is that of the first bad line, and the first
+/// that it has.
 #[tactic(auto, unfolding(crate::specs::ScriptText::capture_in))]
 pub fn parse_capture(alloc: Global, text: &[u8]) -> Result<Capture, ScriptFault>
     requires { length text.now ≤ TEXT_LIMIT }

@@ -4,7 +4,7 @@ ghost use Rattle.script_text.specs.declared.texts.faults.LineError.TheVariants.{
 use spdm_basis::OutOfMemory;
 use thiserror::Error;
 
-/// Why a line of a text is bad, in the order in which it is tested.
+/// Why a line of a text is bad, in the order of the checks.
 #[derive(Clone, Copy, Debug, PartialEq, Eq, Error)]
 pub enum LineFault {
     /// The line has more than 16,384 bytes.
@@ -13,7 +13,7 @@ pub enum LineFault {
     /// The line begins with no word that it may begin with.
     #[error("an unknown word")]
     Unknown,
-    /// An event stands before `end`, or a line of the configuration behind it.
+    /// An event stands before `end`, or a line of the configuration after it.
     #[error("a line on the wrong side of `end`")]
     Order,
     /// The line has another count of words.
@@ -34,7 +34,7 @@ pub enum LineFault {
     /// The line, the index of the block or the end was there before.
     #[error("said twice")]
     Twice,
-    /// Another end has this end point.
+    /// Another end has this endpoint.
     #[error("an end point of another end")]
     SameEid,
     /// Another requester has this pre-shared key.
@@ -60,7 +60,7 @@ pub enum ScriptFault {
     /// The first bad line, counted from 1, and its first fault.
     #[error("line {0}: {1}")]
     Line(u32, LineFault),
-    /// The line of the event or packet behind the first 100,000.
+    /// The line of the event or packet after the first 100,000.
     #[error("line {0}: too many events")]
     TooManyEvents(u32),
     #[error("out of memory")]

@@ -131,8 +131,8 @@ fn is_cycle(word: &[u8]) -> bool
     word == b"cycle".as_slice()
 }
 
-/// The lives that a text is: a script in which `cycle` is an event too. The fault is that of the first bad
-/// line, and the first that it has.
+/// The lives that a text is: a script in which `cycle` is an event too. The fault is that of the first bad line, and
+/// the first that it has.
 #[tactic(auto, unfolding(crate::specs::ScriptText::lives_in))]
 pub fn parse_lives(alloc: Global, text: &[u8]) -> Result<Lives, ScriptFault>
     requires { length text.now ≤ TEXT_LIMIT }

@@ -156,8 +156,8 @@ fn is_go(line: &[u8]) -> bool
     line == b"go".as_slice()
 }
 
-/// The rules that a text is, up to the line `go`; its first line has the number `first`. The fault is that
-/// of the first bad line, and the first that it has.
+/// The rules that a text is, up to the line `go`; its first line has the number `first`. The fault is that of the first
+/// bad line, and the first that it has.
 #[tactic(auto, unfolding(crate::specs::PolicyText::policy_in))]
 pub fn parse_policy(alloc: Global, text: &[u8], first: u32) -> Result<Rules, ScriptFault>
     requires length { length text.now ≤ TEXT_LIMIT }

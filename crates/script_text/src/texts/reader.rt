@@ -18,7 +18,7 @@ pub trait LineReader: Drop {
     /// The first fault of a line that is neither empty nor a comment.
     ghost fault: { Self → List ℕ → Option LineFault };
 
-    /// What is known behind such a line of this number.
+    /// What is known after such a line of this number.
     ghost after: { Self → ℕ → List ℕ → Self };
 
     /// What the lines are, where nothing is missing.

@@ -44,7 +44,7 @@ impl Rules {
         }
     }
 
-    /// Adds a rule at the end. An `Err` leaves the rules as they were.
+    /// Appends a rule. An `Err` leaves the rules as they were.
     pub fn push(&mut self, rule: Rule) -> Result<(), OutOfMemory>
         ensures ok { OnOk result (self.new ≡ self.old ++ rule ∷ []) }
         ensures err { OnErr result (self.new ≡ self.old) }

@@ -6,7 +6,7 @@ use spdm_basis::{Bytes, OutOfMemory};
 use std::alloc::Global;
 use std::marker::Model;
 
-/// A configuration and the events behind it.
+/// A configuration and the events after it.
 #[derive(Drop)]
 pub struct Script {
     pub config: ScriptConfig,
@@ -44,7 +44,7 @@ impl Packets {
         }
     }
 
-    /// Adds a packet at the end. An `Err` leaves the packets as they were.
+    /// Appends a packet. An `Err` leaves the packets as they were.
     pub fn push(&mut self, packet: Bytes) -> Result<(), OutOfMemory>
         ensures ok { OnOk result (self.new ≡ self.old ++ packet ∷ []) }
         ensures err { OnErr result (self.new ≡ self.old) }
@@ -75,7 +75,7 @@ pub struct Life {
     pub events: Events,
 }
 
-/// Lives one behind the other. Contracts see them as a list.
+/// Lives one after the other. Contracts see them as a list.
 #[derive(Debug, Drop)]
 pub struct LifeList {
     items: Vec<Life>,
@@ -100,7 +100,7 @@ impl LifeList {
         }
     }
 
-    /// Adds a life at the end. An `Err` leaves the lives as they were.
+    /// Appends a life. An `Err` leaves the lives as they were.
     pub fn push(&mut self, life: Life) -> Result<(), OutOfMemory>
         ensures ok { OnOk result (self.new ≡ self.old ++ life ∷ []) }
         ensures err { OnErr result (self.new ≡ self.old) }

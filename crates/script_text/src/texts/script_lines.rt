@@ -80,8 +80,8 @@ impl ScriptReader {
     }
 }
 
-/// The script that a text is: a configuration with a seed, and events. The fault is that of the first bad
-/// line, and the first that it has.
+/// The script that a text is: a configuration with a seed, and events. The fault is that of the first bad line, and the
+/// first that it has.
 #[tactic(auto, unfolding(crate::specs::ScriptText::script_in))]
 pub fn parse_script(alloc: Global, text: &[u8]) -> Result<Script, ScriptFault>
     requires { length text.now ≤ TEXT_LIMIT }

@@ -53,7 +53,7 @@ impl ShownList {
         }
     }
 
-    /// Adds a message at the end. An `Err` leaves the messages as they were.
+    /// Appends a message. An `Err` leaves the messages as they were.
     pub fn push(&mut self, shown: Shown) -> Result<(), OutOfMemory>
         ensures ok { OnOk result (self.new ≡ self.old ++ shown ∷ []) }
         ensures err { OnErr result (self.new ≡ self.old) }

@@ -81,8 +81,7 @@ fn take_message(
     Ok(())
 }
 
-/// The messages that a text is, one on each line. The fault is that of the first bad line, and the first
-/// that it has.
+/// The messages that a text is, one on each line. The fault is that of the first bad line, and the first that it has.
 #[tactic(auto, unfolding(crate::specs::ShownText::shown_in))]
 pub fn parse_shown(alloc: Global, text: &[u8]) -> Result<ShownList, ScriptFault>
     requires { length text.now ≤ TEXT_LIMIT }

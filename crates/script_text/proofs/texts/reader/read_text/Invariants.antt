@@ -3,7 +3,7 @@ use Rattle.script_text.specs.Lines.{lines_of}
 use Rattle.script_text.specs.Reading.{read_lines}
 use Rattle.script_text.proofs.texts.reader.read_text.Given as goal
 
--- what all lines say is what those that are left say behind those that were taken
+-- what all lines say is what those that are left say after those that were taken
 abbrev pub invariant-loop-line : goal.invariant-loop-line
 invariant-loop-line g l = record {
   same : read_lines g.R.LineReader.fault g.R.LineReader.after g.R.LineReader.whole l.first l.initial.reader (lines_of l.text)
