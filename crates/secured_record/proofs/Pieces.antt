@@ -30,7 +30,7 @@ first_decrypted key iv text b lent left e same f =
 pub length-first : (key iv text : List ℕ) → length (take 16 (crypt key iv text)) ≡ min 16 (length text)
 length-first key iv text = length-take 16 (crypt key iv text) ∙ ap (λ (n : ℕ). min 16 n) (length-crypt key iv text)
 
--- what is left of a first block, and a rest decrypted behind it
+-- what is left of a first block, and a rest decrypted after it
 pub rest_decrypted : (key iv first rest b lent left : List ℕ) → length first ≡ 16 → b ≡ drop 2 first ++ rest → lent ≡ b
     → left ≡ take 14 lent ++ crypt_behind 1 key iv (drop 14 lent) → refill (length b) b left ≡ drop 2 first ++ crypt_behind 1 key iv rest
 rest_decrypted key iv first rest b lent left long e same f =
@@ -53,7 +53,7 @@ short_inner o first size e small within =
     ∙ ap (take size) (drop-take 2 14 o ∙ ap (λ (n : ℕ). take n x) count ∙ take-add size (14 - size) x)
     ∙ take_header size (take size x) more long
 
--- an inner message that goes on behind the first block
+-- an inner message that goes on after the first block
 pub long_inner : (key iv text first : List ℕ) (size : ℕ) → first ≡ take 16 (crypt key iv text) → 14 ≤ size → size + 2 ≤ length text
     → drop 2 first ++ crypt_behind 1 key iv (take (size - 14) (drop 16 text)) ≡ take size (drop 2 (crypt key iv text))
 long_inner key iv text first size e large within =

@@ -158,7 +158,7 @@ rejoined key iv id number s least e1 e2 e3 e4 =
     ∙ ap (λ (x : List ℕ). x ++ b ++ tag_of key n x b) h_is
     ∙ ap (λ (x : List ℕ). h ++ x ++ tag_of key n h x) (sym (crypt-crypt key n b))
 
--- A text whose length field does not pass it is the plain text of what stands behind the field.
+-- A text whose length field does not pass it is the plain text of what follows the field.
 plain_text-rejoined : (o : List ℕ) → 2 ≤ length o → little_number 2 o ≤ length o - 2 → little_bytes 2 (little_number 2 o) ≡ take 2 o
     → o ≡ plain_text (take (little_number 2 o) (drop 2 o)) (drop (little_number 2 o) (drop 2 o))
 plain_text-rejoined o least within spelled =

@@ -1,4 +1,4 @@
--- What is written, encrypted behind its header and followed by the tag is a record.
+-- What is written, encrypted after its header and followed by the tag is a record.
 use Rattle.std.proofs.Common.{◌≡◌, ℕ, ◌+◌, ◌<◌, ◌≤◌, List, ◌++◌, length, take, drop, ap, sym, ◌∙◌, arith, length-append}
 use Rattle.std.specs.Prelude.{Result, Ok, Err, OnOk, OnErr}
 use Rattle.std.specs.List.{refill}
@@ -23,7 +23,7 @@ length-header : (id : List ℕ) (number count : ℕ) → length id ≡ 4 → len
 length-header id number count four =
     omega (arith, length-append (id ++ little_bytes 2 number) (little_bytes 2 count), length-append id (little_bytes 2 number))
 
--- A header and a text behind it, encrypted in place, and their tag.
+-- A header and a text after it, encrypted in place, and their tag.
 behind_header : (key n h t b lent left tag : List ℕ) → length h ≡ 8 → b ≡ h ++ t → lent ≡ b
     → left ≡ take 8 lent ++ crypt key n (drop 8 lent) → tag ≡ tag_of key n (take 8 lent) (crypt key n (drop 8 lent))
     → refill (length b) b left ++ tag ≡ h ++ crypt key n t ++ tag_of key n h (crypt key n t)

@@ -7,7 +7,9 @@ use Rattle.secured_record.specs.Format.{nonce}
 use Rattle.spdm_basis.specs.declared.causes.record_fault.RecordFault.{RecordFault}
 use Rattle.spdm_basis.specs.declared.causes.record_fault.RecordFault.TheVariants.{Short, WrongId, WrongNumber, WrongLength, BadTag, BadInnerLength}
 
--- The faults that are seen without the key: fewer bytes than a record without inner message and padding has, another session id, another number, a length field that is not the count of bytes behind it, and more bytes than a record may have.
+-- The faults that are seen without the key: fewer bytes than a record without inner message and padding has, another
+-- session id, another number, a length field that is not the count of bytes after it, and more bytes than a record may
+-- have.
 unfoldable pub header_fault : List ℕ → ℕ → List ℕ → Option RecordFault
 header_fault id number sealed = first_of_tests (
     (nat_lt (length sealed) 26, Short)
@@ -31,7 +33,8 @@ is_authentic key iv number sealed = bytes_eq (tag_part sealed) (tag_of key (nonc
 unfoldable pub opened_text : List ℕ → List ℕ → ℕ → List ℕ → List ℕ
 opened_text key iv number sealed = crypt key (nonce iv number) (text_part sealed)
 
--- The first fault of some bytes under a key, an initialization vector, a session id and a number: those of the header, then another tag, then a length of the inner message that passes the bytes behind it.
+-- The first fault of some bytes under a key, an initialization vector, a session id and a number: those of the header,
+-- then another tag, then a length of the inner message that passes the bytes after it.
 abbrev pub fault_behind : Option RecordFault → List ℕ → List ℕ → ℕ → List ℕ → Option RecordFault
 fault_behind (Some fault) key iv number sealed = Some fault
 fault_behind None key iv number sealed = first_of_tests (

@@ -7,15 +7,17 @@ use Rattle.key_schedule.specs.Keys.{DirectionSecret}
 use Rattle.key_schedule.specs.Schedule.{record_key, record_iv}
 use Rattle.aes_gcm.specs.Gcm.{crypt, tag_of}
 
--- The header, which is the associated data: the session id, the number and the count of bytes behind the header, each number as two bytes, the lowest first.
+-- The header, which is the associated data: the session id, the number and the count of bytes after the header, each
+-- number as two bytes, little-endian.
 abbrev pub header : List ℕ → ℕ → ℕ → List ℕ
 header id number count = id ++ little_bytes 2 number ++ little_bytes 2 count
 
--- The nonce: the initialization vector with its first eight bytes xored with the number as eight bytes, the lowest first (DSP0277, "Per-message nonce derivation").
+-- The nonce: the initialization vector with its first eight bytes xored with the number as eight bytes, little-endian
+-- (DSP0277, "Per-message nonce derivation").
 abbrev pub nonce : List ℕ → ℕ → List ℕ
 nonce iv number = map (λ i. bit_xor (slice_index iv i) (slice_index (little_bytes 8 number) i)) (range_with_len 0 8) ++ drop 8 iv
 
--- What is encrypted: the length of the inner message as two bytes, the lowest first, the inner message, and padding.
+-- What is encrypted: the length of the inner message as two bytes, little-endian, the inner message, and padding.
 abbrev pub plain_text : List ℕ → List ℕ → List ℕ
 plain_text inner pad = little_bytes 2 (length inner) ++ inner ++ pad
 

@@ -112,7 +112,7 @@ impl RecordCipher {
         }
     }
 
-    // Encrypts or decrypts in place what a text has behind its first `blocks` blocks.
+    // Encrypts or decrypts in place what a text has after its first `blocks` blocks.
     pub fn crypt_behind(&self, iv: &[u8; 12], blocks: usize, text: &mut [u8])
         requires { 16 * blocks + length text.old ≤ 65535 }
         ensures { text.new ≡ crypt_behind blocks (cipher_key self.now) iv.now text.old }

@@ -5,7 +5,7 @@ ghost use Rattle.secured_record.specs.Format.{header, nonce};
 use arrayvec::ArrayVec;
 use byteorder::{ByteOrder, LittleEndian};
 
-// A number as two bytes, the lowest first.
+// A number as two bytes, little-endian.
 pub fn two_bytes(number: u16) -> [u8; 2]
     ensures { result ≡ little_bytes 2 number }
 {
@@ -14,7 +14,7 @@ pub fn two_bytes(number: u16) -> [u8; 2]
     bytes
 }
 
-// A number as eight bytes, the lowest first.
+// A number as eight bytes, little-endian.
 fn eight_bytes(number: u64) -> [u8; 8]
     ensures { result ≡ little_bytes 8 number }
 {
@@ -23,7 +23,7 @@ fn eight_bytes(number: u64) -> [u8; 8]
     bytes
 }
 
-// The header of a record with `count` bytes behind it.
+// The header of a record with `count` bytes after it.
 pub fn header(id: &[u8; 4], number: u16, count: u16) -> [u8; 8]
     ensures { result ≡ header id.now number count }
 {

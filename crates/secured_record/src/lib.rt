@@ -1,8 +1,8 @@
-//! Secured records (DSP0277): sealing an inner message under the key of a direction, and opening what was
-//! sealed. No call takes memory.
+//! Secured records (DSP0277): sealing an inner message under the key of a direction, and opening what was sealed. No
+//! call allocates.
 //!
-//! Read first: `record_of` in `specs/Format.antt`, the record of an inner message. Calls are
-//! `RecordKey::seal` and `RecordKey::open`.
+//! Read first: `record_of` in `specs/Format.antt`, the record of an inner message. Calls are `RecordKey::seal` and
+//! `RecordKey::open`.
 #![tactic(auto)]
 
 mod aead;

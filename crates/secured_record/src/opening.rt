@@ -110,8 +110,8 @@ fn inner_length(text: &[u8]) -> u16
     LittleEndian::read_u16(text)
 }
 
-// Decrypts in place what stands behind the first 14 bytes: the rest of a text behind its first block,
-// which has two bytes more in front.
+// Decrypts in place what follows the first 14 bytes: the rest of a text after its first block, which has two bytes more
+// in front.
 fn decrypt_rest(cipher: &RecordCipher, iv: &[u8; 12], bytes: &mut [u8])
     requires first { 14 ≤ length bytes.old }
     requires most { length bytes.old ≤ 4160 }
@@ -132,7 +132,7 @@ fn write_short(first: &[u8], size: usize, out: &mut RecordFrame)
     let _ = out.extend(first.split_at(2).1.split_at(size).0);
 }
 
-// Writes what a first block has behind the length of the inner message, and the encrypted rest.
+// Writes what a first block has after the length of the inner message, and the encrypted rest.
 fn write_encrypted(first: &[u8], rest: &[u8], out: &mut RecordFrame)
     requires first { length first.now ≡ 16 }
     requires most { length rest.now ≤ 4120 }
@@ -144,7 +144,7 @@ fn write_encrypted(first: &[u8], rest: &[u8], out: &mut RecordFrame)
     let _ = out.extend(rest);
 }
 
-// Writes an inner message that goes on behind a first block, with its encrypted rest.
+// Writes an inner message that goes on after a first block, with its encrypted rest.
 fn write_long(
     cipher: &RecordCipher,
     iv: &[u8; 12],
@@ -215,7 +215,7 @@ fn open_text(
     Ok(())
 }
 
-// Decrypts the text of a record, in place of what `out` holds.
+// Overwrites `out` with Decrypts the text of a record.
 #[tactic(auto, unfolding(crate::specs::Faults::opened_text))]
 pub fn decrypt_text(
     cipher: &RecordCipher,
@@ -292,9 +292,9 @@ pub fn open_by(
     open_record(cipher, iv, &id.bytes(), number, sealed, out)
 }
 
-/// Opens a record under the key of a direction, a session id and a number, and writes its inner message
-/// (DSP0277, "Secured Message format"). A fault is the first of `RecordFault` that holds, and leaves `out`
-/// as it was; `KeySpent` is not given.
+/// Opens a record under the key of a direction, a session id and a number, and writes its inner message (DSP0277,
+/// "Secured Message format"). A fault is the first of `RecordFault` that holds, and leaves `out` as it was; `KeySpent`
+/// is not given.
 pub fn open(
     key: &DirectionKey,
     id: SessionId,

@@ -15,8 +15,8 @@ use key_schedule::DirectionKey;
 use spdm_basis::{RecordFrame, SessionId};
 use std::marker::Model;
 
-/// The key of a direction with its cipher set up once, for many records. Contracts see what they
-/// see of the key of the direction.
+/// The key of a direction with its cipher set up once, for many records. Contracts see what they see of the key of the
+/// direction.
 #[derive(Drop)]
 pub struct RecordKey {
     direction: DirectionKey,
@@ -55,8 +55,8 @@ impl RecordKey {
         }
     }
 
-    /// The key that follows by a key update (DSP0274, "KEY_UPDATE"), with the next epoch. The
-    /// caller's epoch is below 2^64 - 1.
+    /// The key that follows by a key update (DSP0274, "KEY_UPDATE"), with the next epoch. The caller's epoch is below
+    /// 2^64 - 1.
     pub fn next(mut self) -> RecordKey
         requires { self.epoch < 2 ^ 64 - 1 }
         ensures value { result
@@ -71,8 +71,7 @@ impl RecordKey {
         self
     }
 
-    /// Steps to the key that follows by a key update, as `next` does, in place. The caller's epoch
-    /// is below 2^64 - 1.
+    /// Steps to the key that follows by a key update, as `next` does, in place. The caller's epoch is below 2^64 - 1.
     pub fn update(&mut self)
         requires { self.old.epoch < 2 ^ 64 - 1 }
         ensures value { self.new
@@ -138,8 +137,7 @@ impl RecordKey {
         ensures unchanged { OnErr result (out.new ≡ out.old) }
         ensures not_spent { IfErr result (λ e. e ≢ RecordFault.KeySpent) }
 
-        // What opens is a record of its inner message, and each record of at most 4,160 bytes
-        // opens.
+        // What opens is a record of its inner message, and each record of at most 4,160 bytes opens.
         ensures record { OnOk result
             (IsRecordOf (key_of self.now) (iv_of self.now)
             (session_id_bytes id.req id.rsp) number sealed.now out.new) }
@@ -151,9 +149,8 @@ impl RecordKey {
         open_by(&self.cipher, self.direction.iv(), id, number, sealed, out)
     }
 
-    /// Writes the text of a record in place of what `out` holds: the length of its inner message as
-    /// two bytes, the lowest first, that message, and the padding. Whether the record opens is not
-    /// tested.
+    /// Overwrites `out` with the text of a record: the length of its inner message as two bytes, little-endian, that
+    /// message, and the padding. Whether the record opens is not tested.
     pub fn text(&self, number: u16, sealed: &[u8], out: &mut RecordFrame)
         requires least { 26 ≤ length sealed.now }
         requires most { length sealed.now ≤ 4160 }

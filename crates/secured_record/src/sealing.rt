@@ -19,7 +19,7 @@ pub struct TooLong;
 // The most bytes of inner message and padding in a record: 4,160 less header, length and tag.
 const CONTENT_LIMIT: usize = 4134;
 
-// Writes a header and the plain text behind it.
+// Writes a header and the plain text after it.
 fn write_plain(out: &mut RecordFrame, header: &[u8; 8], inner: &[u8], pad: &[u8])
     requires { length inner.now + length pad.now ≤ 4134 }
     ensures value { out.new ≡ header.now ++ plain_text inner.now pad.now }
@@ -32,7 +32,7 @@ fn write_plain(out: &mut RecordFrame, header: &[u8; 8], inner: &[u8], pad: &[u8]
     let _ = out.extend(pad);
 }
 
-// Encrypts in place what stands behind a header, and gives the tag of both.
+// Encrypts in place what follows a header, and gives the tag of both.
 fn seal_behind_header(cipher: &RecordCipher, iv: &[u8; 12], bytes: &mut [u8]) -> [u8; 16]
     requires header { 8 ≤ length bytes.old }
     requires most { length bytes.old ≤ 4160 }
@@ -90,9 +90,9 @@ pub fn seal_within(
     Ok(())
 }
 
-/// Writes the record of an inner message and padding, under the key of a direction, a session id and a
-/// number (DSP0277, "Secured Message format"). `TooLong` comes exactly where the record would have more
-/// than 4,160 bytes, and leaves `out` as it was. A number serves once under a key.
+/// Writes the record of an inner message and padding, under the key of a direction, a session id and a number (DSP0277,
+/// "Secured Message format"). Returns `TooLong` exactly when the record would have more than 4,160 bytes, and leaves
+/// `out` as it was. A number serves once under a key.
 pub fn seal(
     key: &DirectionKey,
     id: SessionId,
