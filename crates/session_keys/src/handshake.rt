@@ -40,8 +40,7 @@ impl Handshake {
     ghost use Rattle.transcript.specs.Lane as lanes;
     ghost use Rattle.transcript.specs.Lane.{lane_hash};
 
-    /// The handshake under a pre-shared key and a hash of T1, which is as long as the hash function
-    /// fixes.
+    /// The handshake under a pre-shared key and a hash of T1, which is as long as the hash function fixes.
     pub fn new(hash: HashAlg, aead: AeadAlg, psk: &Psk, th1: HashBytes) -> Handshake
         requires { length th1 ≡ hash_size hash }
         ensures hash { result.keys.hash ≡ hash }
@@ -61,8 +60,7 @@ impl Handshake {
         self.keys.responder_verify(&self.th1)
     }
 
-    /// The verify data of PSK_FINISH (DSP0274), over the transcript up to them, which the lane was
-    /// given.
+    /// The verify data of PSK_FINISH (DSP0274), over the transcript up to them, which the lane was given.
     pub fn requester_verify(&self, lane: Lane) -> HashBytes
         requires { lane_hash lane ≡ self.now.keys.hash }
         ensures value { (choice : Choice) (psk t1 given : List ℕ)
@@ -89,8 +87,7 @@ impl Handshake {
         RecordKey::new(self.keys.response_key())
     }
 
-    /// The first keys behind the handshake, from the hash of T2, which is as long as the hash
-    /// function fixes.
+    /// The first keys after the handshake, from the hash of T2, which is as long as the hash function fixes.
     pub fn app_keys(&self, th2: &HashBytes) -> AppKeys
         requires { length th2.now ≡ hash_size self.now.keys.hash }
         ensures request { (choice : Choice) (psk t1 t2 : List ℕ)

@@ -1,15 +1,15 @@
 ghost use Rattle.std.specs.Prelude.{◌≡◌, drop, slice_index, bytes_eq};
 
-/// The type in front of an SPDM message in a record (DSP0275).
+/// The type before an SPDM message in a record (DSP0275).
 pub const SPDM_MESSAGE: u8 = 5;
 
-/// The type in front of application data in a record (DSP0277).
+/// The type before application data in a record (DSP0277).
 pub const APP_DATA: u8 = 1;
 
 /// The most bytes of application data.
 pub const MOST_DATA: usize = 1024;
 
-/// What stands behind the type of an inner message.
+/// What follows the type of an inner message.
 pub fn behind_type(inner: &[u8]) -> &[u8]
     ensures { result.now ≡ drop 1 inner.now }
 {
@@ -20,7 +20,7 @@ pub fn behind_type(inner: &[u8]) -> &[u8]
     }
 }
 
-/// The byte at a place, and 0 behind the end.
+/// The byte at a place, and 0 after the end.
 pub fn byte_at(message: &[u8], at: usize) -> u8
     ensures { result ≡ slice_index message.now at }
 {

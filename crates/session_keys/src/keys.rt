@@ -8,8 +8,8 @@ ghost use Rattle.session_keys.specs.Keys.{IsKeyOf};
 use secured_record::{RecordFault, RecordKey};
 use spdm_basis::{Buffer, RecordFrame, SessionId};
 
-/// Writes the record of an inner message and padding under the key of a purpose, in place of what
-/// `out` holds. Together they have at most 4,134 bytes.
+/// Overwrites `out` with the record of an inner message and padding under the key of a purpose. Together they have at
+/// most 4,134 bytes.
 pub fn seal_record(
     key: &RecordKey,
     id: SessionId,
@@ -26,8 +26,7 @@ pub fn seal_record(
     let _ = key.seal(id, number, inner, pad, out);
 }
 
-/// Opens a record under the key of a purpose, and writes its inner message in place of what `out`
-/// holds.
+/// Opens a record under the key of a purpose, and overwrites `out` with its inner message.
 pub fn open_record(
     key: &RecordKey,
     id: SessionId,
@@ -46,8 +45,7 @@ pub fn open_record(
     key.open(id, number, sealed, out)
 }
 
-/// The record of an inner message of at most 1,025 bytes, with at most 16 bytes of padding, under
-/// the key of a purpose.
+/// The record of an inner message of at most 1,025 bytes, with at most 16 bytes of padding, under the key of a purpose.
 pub fn seal_inner(
     key: &RecordKey,
     id: SessionId,

@@ -1,9 +1,8 @@
-//! What both ends of a session under a pre-shared key do alike (DSP0274, "Session" and "Key
-//! schedule"; DSP0277): the keys of its handshake and behind it, its verify data, and its records.
-//! No call takes memory.
+//! What both ends of a session under a pre-shared key do alike (DSP0274, "Session" and "Key schedule"; DSP0277): the
+//! keys of its handshake and after it, its verify data, and its records. No call allocates.
 //!
-//! Read first: `IsKeyOf` in `specs/Keys.antt`, which key of a direction is kept. Calls are
-//! `seal_inner` and `open_record`.
+//! Read first: `IsKeyOf` in `specs/Keys.antt`, which key of a direction is kept. Calls are `seal_inner` and
+//! `open_record`.
 #![tactic(auto)]
 
 mod context;
