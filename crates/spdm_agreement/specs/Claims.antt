@@ -13,8 +13,8 @@ pub record IsReached (r : Reading) (s : State) : Type 0 where
   pub run : IsRun r moves nothing_yet s
   pub no_chance : NoChance s.log
 
--- Where both ends hold open a session of one pair of ids, it is one session: it began with the same messages, and
--- the T2 are equal.
+-- Where both ends hold open a session of one pair of ids, it is one session: it began with the same messages, and the
+-- T2 are equal.
 abbrev pub OneTranscript : Type 0
 OneTranscript =
     (r : Reading) (s : State) → IsReached r s → (req rsp : ℕ) (t t' : First) (u u' : List ℕ)
@@ -27,8 +27,8 @@ abbrev pub in_order : {A : Type 0} → (A → List (List ℕ)) → List A → Li
 in_order choose [] = []
 in_order choose (x ∷ older) = in_order choose older ++ choose x
 
--- The requests that were taken under a T2 are the beginning of those that were sealed under it, and the exchanges
--- that came back are the beginning of those that were taken; so is whatever is chosen of them, one by one.
+-- The requests that were taken under a T2 are the beginning of those that were sealed under it, and the exchanges that
+-- came back are the beginning of those that were taken; so is whatever is chosen of them, one by one.
 abbrev pub Delivered : Type 0
 Delivered =
     (r : Reading) (s : State) → IsReached r s → (u : List ℕ)

@@ -35,8 +35,8 @@ pub record HasKey (hint psk : List ℕ) : Type 0 where
   pub psk_most : length psk ≤ 64
   pub psk_bytes : All (λ (byte : ℕ). byte < 256) psk
 
--- A requester: PSK_EXCHANGE with the longest context, hint and opaque data is a message of at most 4,096 bytes, and
--- a record has at most 16 bytes of padding.
+-- A requester: PSK_EXCHANGE with the longest context, hint and opaque data is a message of at most 4,096 bytes, and a
+-- record has at most 16 bytes of padding.
 pub record IsRequester (q : ReqSetup) : Type 0 where
   pub eid : IsEid q.eid
   pub responder : IsEid q.responder
@@ -58,7 +58,7 @@ pub record IsResponder (r : RspSetup) : Type 0 where
   pub opaque_bytes : All (λ (byte : ℕ). byte < 256) r.opaque
   pub blocks : inventory_fault r.blocks ≡ None
 
--- No end point and no pre-shared key occurs twice.
+-- No endpoint and no pre-shared key occurs twice.
 abbrev pub AreApart : List ReqSetup → Type 0
 AreApart [] = Unit {0}
 AreApart (q ∷ others) = All (λ (other : ReqSetup). (q.eid ≢ other.eid) × (q.psk ≢ other.psk)) others × AreApart others

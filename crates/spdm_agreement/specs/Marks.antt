@@ -1,5 +1,5 @@
--- What the two ends of one pre-shared key did, as marks, and what is counted out of them. A session is named by what
--- it begins with, and the records after its handshake by its T2. In every list of marks the newest stands first.
+-- What the two ends of one pre-shared key did, as marks, and what is counted out of them. A session is named by what it
+-- begins with, and the records after its handshake by its T2. In every list of marks the newest stands first.
 use Rattle.std.specs.Prelude.{◌≡◌, ◌+◌, ◌-◌, ◌==◌, ◌⊎◌, ℕ, List, [], ◌∷◌, if◌then◌else◌, Bool, Option, Some, None, bytes_eq}
 use Rattle.key_schedule.specs.Purpose.{Purpose, application_record}
 use Rattle.key_schedule.specs.declared.direction.Direction.TheVariants.{Request, Response}
@@ -25,8 +25,7 @@ pub data Asked : Type 0 where
   Sealed : (second : List ℕ) → (request : Text) → Asked
   Heard : (second : List ℕ) → (request : Text) → (reply : Text) → Asked
 
--- One more than the number of the last draw that went into a context. Draws between may have served for other
--- things.
+-- One more than the number of the last draw that went into a context. Draws between may have served for other things.
 abbrev pub next_asked : List Asked → ℕ
 next_asked [] = 0
 next_asked (Started id draw ∷ older) = draw + 1
@@ -171,22 +170,21 @@ abbrev pub epoch_of : (Exchange → Bool) → List Exchange → ℕ
 epoch_of ends [] = 0
 epoch_of ends (x ∷ older) = if ends x then epoch_of ends older + 1 else epoch_of ends older
 
--- How many exchanges there were since the last that ends an epoch, after which the count begins anew with this
--- number.
+-- How many exchanges there were since the last that ends an epoch, after which the count starts over with this number.
 abbrev pub count_of : (Exchange → Bool) → ℕ → List Exchange → ℕ
 count_of ends first [] = 0
 count_of ends first (x ∷ older) = if ends x then first else count_of ends first older + 1
 
--- The purpose and the number of the request that follows these exchanges: an update is the last request under
--- the key before.
+-- The purpose and the number of the request that follows these exchanges: an update is the last request under the key
+-- before.
 abbrev pub request_purpose : Reading → List ℕ → List Exchange → Purpose
 request_purpose r u older = application_record r.psk u Request (epoch_of r.is_update older)
 
 abbrev pub request_number : Reading → List Exchange → ℕ
 request_number r older = count_of r.is_update 0 older
 
--- The purpose and the number of the newest reply of these exchanges: an update of all keys is granted by record 0
--- under the new key, and refused under the key before.
+-- The purpose and the number of the newest reply of these exchanges: an update of all keys is granted by record 0 under
+-- the new key, and refused under the key before.
 abbrev pub reply_purpose : Reading → List ℕ → List Exchange → Purpose
 reply_purpose r u all = application_record r.psk u Response (epoch_of r.is_update_all all)
 

@@ -1,5 +1,5 @@
--- A machine of few moves, of which each step of the two ends of a pre-shared key is made. Packets do not occur in
--- it: what an end takes was checked before, and the guard of its move says so.
+-- A machine of few moves, of which each step of the two ends of a pre-shared key is made. Packets do not occur in it:
+-- what an end takes was checked before, and the guard of its move says so.
 use Rattle.std.specs.Prelude.{◌≡◌, ◌≢◌, ◌≤◌, ◌⊎◌, ℕ, List, [], ◌∷◌, true, false, Some, None}
 use Rattle.key_schedule.specs.Purpose.{Purpose, verify, handshake_record}
 use Rattle.key_schedule.specs.declared.direction.Direction.TheVariants.{Request, Response}
@@ -24,8 +24,8 @@ pub data Move : Type 0 where
   Begin : (first : First) → (value : List ℕ) → Move
   -- The requester takes the answer, and makes verify data, over this input, and the record of PSK_FINISH.
   Accept : (first : First) → (input : List ℕ) → (value : List ℕ) → (sealed : List ℕ) → Move
-  -- A record of this number and text opens at the responder in the handshake: PSK_FINISH is taken, or what came in
-  -- its place is refused. The reply is sealed under a number.
+  -- A record of this number and text opens at the responder in the handshake: PSK_FINISH is taken, or what came in its
+  -- place is refused. The reply is sealed under a number.
   Finish : (first : First) → (second : List ℕ) → (number : ℕ) → (text : List ℕ) → (at : ℕ) → (reply : List ℕ) → (value : List ℕ) → Move
   Refuse : (first : First) → (number : ℕ) → (text : List ℕ) → (at : ℕ) → (reply : List ℕ) → (value : List ℕ) → Move
   -- The requester takes PSK_FINISH_RSP.

@@ -30,7 +30,7 @@ pub record Reading : Type 0 where
   -- text of PSK_FINISH with the right verify data, and that of PSK_FINISH_RSP.
   pub finish : First → List ℕ
   pub finish_answer : First → List ℕ
-  -- A text holds a PSK_FINISH_RSP, in any spelling.
+  -- A text holds a PSK_FINISH_RSP, in any encoding.
   pub opens : List ℕ → Bool
   -- The texts of a request and of its reply are a KEY_UPDATE of the request key, or of all keys, and the
   -- acknowledgement that grants it; and the text of such an acknowledgement.

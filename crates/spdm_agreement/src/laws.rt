@@ -1,5 +1,5 @@
-//! What holds of every world without chance, and wherever the moves of a pre-shared key lead without
-//! it, each law as the contract of a function that does nothing.
+//! What holds of every world without chance, and wherever the moves of a pre-shared key lead without it, each law as
+//! the contract of a function that does nothing.
 
 ghost use Rattle.spdm_agreement.specs.Claims.{OneTranscript, Delivered, MatchedSessions, OneRecord, FreshSessions};
 ghost use Rattle.spdm_agreement.specs.Worlds.{ScriptsAreConfigured, ScriptsHold, WorldsAgree, WorldsDeliver, WorldsMatch, WorldsSealOnce, WorldsShowAlike};
@@ -14,8 +14,8 @@ pub fn delivered()
     ensures { Delivered }
 {}
 
-/// A session that the requester holds open was finished at the responder, and each of them belongs
-/// to another one there.
+/// A session that the requester holds open was finished at the responder, and each of them belongs to another one
+/// there.
 pub fn matched_sessions()
     ensures { MatchedSessions }
 {}
@@ -30,20 +30,20 @@ pub fn fresh_sessions()
     ensures { FreshSessions }
 {}
 
-/// In every world that a set-up and events lead to, where both ends of a pair hold open a session
-/// of one id, the two have equal T2, equal choices and equal common capabilities.
+/// In every world that a set-up and events lead to, where both ends of a pair hold open a session of one id, the two
+/// have equal T2, equal choices and equal common capabilities.
 pub fn agreement()
     ensures { WorldsAgree }
 {}
 
-/// In every such world the application data that an end took under a T2 is the beginning of what
-/// the other end sealed under it, in both directions.
+/// In every such world the application data that an end took under a T2 is the beginning of what the other end sealed
+/// under it, in both directions.
 pub fn data_prefix()
     ensures { WorldsDeliver }
 {}
 
-/// In every such world a session that a requester holds open was opened at the responder with the
-/// same T2, and different ones have different T2.
+/// In every such world a session that a requester holds open was opened at the responder with the same T2, and
+/// different ones have different T2.
 pub fn matched()
     ensures { WorldsMatch }
 {}
@@ -53,20 +53,20 @@ pub fn sealed_once()
     ensures { WorldsSealOnce }
 {}
 
-/// In every such world, where both ends of a pair hold open a session with one T2, the hashes that they
-/// show of it are equal.
+/// In every such world, where both ends of a pair hold open a session with one T2, the hashes that they show of it are
+/// equal.
 pub fn hashes_agree()
     ensures { WorldsShowAlike }
 {}
 
-/// What a text within its limits sets up is such a world, with whatever common seed and in the life
-/// of each boot number.
+/// What a text within its limits sets up is such a world, with whatever common seed and in the life of each boot
+/// number.
 pub fn scripts_are_configured()
     ensures { ScriptsAreConfigured }
 {}
 
-/// So agreement, data prefix, matched sessions and single use of numbers hold of each world that the
-/// events of a script lead to, where no two tags agree by chance.
+/// So agreement, data prefix, matched sessions and single use of numbers hold of each world that the events of a script
+/// lead to, where no two tags agree by chance.
 pub fn scripts_hold()
     ensures { ScriptsHold }
 {}

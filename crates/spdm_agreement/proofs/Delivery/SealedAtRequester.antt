@@ -96,7 +96,7 @@ pub clear_same : (t2 : List ℕ) (old : List marks.Asked) (h : History) (effect 
 clear_same t2 old h (Answers (PskExchange exchange) answer) = (refl, refl)
 clear_same t2 old h _ = (refl, refl)
 
--- No request that goes out behind an answer holds application data.
+-- No request that goes out after an answer holds application data.
 next_adds : (q : ReqSetup) (h : History) (f : Free) (came : Came) (effect : Effect) (ask : Ask) (next : Option Sent) (s : Steps) (t2 u b reply : List ℕ) (old : List marks.Asked) → NextRecord q h f came effect ask next
     → in_order asked_data (requests t2 ((next_marks s next ++ marks.Asked.Heard u b reply ∷ []) ++ old)) ≡ in_order asked_data (requests t2 old)
 next_adds q h f came effect ask None s t2 u b reply old k = refl

@@ -45,7 +45,7 @@ parted (n ∷ a) (m ∷ b) x y e =
       | inr l ↦ inr (l.0, ap₂ (λ (k : ℕ) (r : List ℕ). k ∷ r) head l.1, l.2)
     ]
 
--- What is behind the longer one is nothing.
+-- What is after the longer one is nothing.
 closed : (a b c x y : List ℕ) → b ≡ a ++ c → x ≡ c ++ y → c ≡ [] → (a ≡ b) × (x ≡ y)
 closed a b c x y e f n = (sym (e ∙ ap (λ (l : List ℕ). a ++ l) n ∙ append-nil a), f ∙ ap (λ (l : List ℕ). l ++ y) n)
 
@@ -194,7 +194,7 @@ sound psk t e =
     let two = and_parts (is_request (hash_len (first_terms t)) t.exchange) _ one.1 in
     record { negotiated = one.0; exchange = two.0; answer = (bytes_eq-Decides t.answer (without_verify (first_hash t) t.answer ++ answer_verify psk t)).0 two.1 }
 
--- Where the bytes behind the negotiation and PSK_EXCHANGE are one, so are these.
+-- Where the bytes after the negotiation and PSK_EXCHANGE are one, so are these.
 began : (psk : List ℕ) (s t : First) (x y : List ℕ) → IsSound psk s → IsSound psk t → vca_of s.negotiation ++ s.exchange ++ x ≡ vca_of t.negotiation ++ t.exchange ++ y → (s.negotiation ≡ t.negotiation) × (s.exchange ≡ t.exchange) × (x ≡ y)
 began psk s t x y p q e =
     let one = negotiation_told s.negotiation t.negotiation (s.exchange ++ x) (t.exchange ++ y) p.negotiated q.negotiated (sym (append_assoc (vca_of s.negotiation) s.exchange x) ∙ e ∙ append_assoc (vca_of t.negotiation) t.exchange y) in
@@ -288,7 +288,7 @@ abbrev pub context_in : Option RequestMessage → List ℕ
 context_in (Some (PskExchange exchange)) = exchange.context
 context_in _ = []
 
--- The length of the measurement summary in PSK_EXCHANGE_RSP, which stands in front of the context.
+-- The length of the measurement summary in PSK_EXCHANGE_RSP, which precedes the context.
 abbrev pub summary_size : ℕ → Option RequestMessage → ℕ
 summary_size size (Some (PskExchange exchange)) = if exchange.summary == 0 then 0 else size
 summary_size size _ = 0

@@ -68,7 +68,7 @@ checked_input t p number s none =
     ∙ ap (λ (x : List ℕ). x ++ b) front_is
     ∙ ap (λ (x : List ℕ). front ++ x) (sym (crypt-crypt key iv b)))
 
--- The inner message stands in the text behind its length.
+-- The inner message stands in the text after its length.
 pub inner_text : (choice : Choice) (p : Purpose) (number : ℕ) (s : List ℕ) → inner_message choice p number s ≡ take (little_number 2 (text_of choice p number s)) (drop 2 (text_of choice p number s))
 unfolding inner_message inner_of text_of
 inner_text choice p number s = refl

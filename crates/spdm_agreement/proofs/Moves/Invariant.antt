@@ -101,7 +101,7 @@ pub record IsShaken (r : Reading) (served : List Served) (transcript : List ℕ)
   pub story : HasReplied r served first reply
   pub covers : input ≡ covered r first (response_shake r first) 0 reply
 
--- The story behind a tag that was made.
+-- The story after a tag that was made.
 abbrev pub IsBackedAs : Reading → List Asked → List Served → Kind → Direction → (transcript : List ℕ) → (epoch : ℕ) → (input : List ℕ) → Type 0
 IsBackedAs r asked served Verify Request t1 e i = Unit {0}
 IsBackedAs r asked served Verify Response t1 e i = (t : First) × (r.transcript t ≡ t1) × HasBegun served t

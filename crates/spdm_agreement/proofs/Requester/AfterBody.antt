@@ -60,7 +60,7 @@ led_waits q h h' f of s ask sealed led shape = elim shape [
 
 -- ---- Sessions.
 
--- How the session of an id stands behind the record.
+-- How the session of an id follows the record.
 abbrev TookHeld : ReqSetup → History → (of id : ℕ) → Steps → (sealed inner : List ℕ) → Led → Option Sent → Type 0
 TookHeld q h of id s sealed inner led o =
     is_held (behind (of == id) id led.next sealed inner led.effect (session_of id h)) ≡ true

@@ -120,7 +120,7 @@ behind_third [] = refl
 behind_third (x ∷ []) = refl
 behind_third (x ∷ y ∷ l) = refl
 
--- The message in a text is told by its inner message.
+-- The message in a text is determined by its inner message.
 pub text_tells : (n : ℕ) (text : List ℕ) (code : ℕ) → slice_index (take n (drop 2 text)) 0 ≡ 5 → slice_index (drop 1 (take n (drop 2 text))) 1 ≡ suc code → (suc code == suc code) ≡ true → is_message (suc code) text ≡ true
 text_tells n text code five is same =
     let one : slice_index text 2 ≡ 5 = sym (behind_first text) ∙ first_of_taken n (drop 2 text) 4 five in

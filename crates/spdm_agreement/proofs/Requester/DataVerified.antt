@@ -79,7 +79,7 @@ open_by (x ∷ s) (Some y) id free live fits = absurd (true≢false free)
 open_at : (q : ReqSetup) (h : History) (id : ℕ) → IsMade q h → is_some (outstanding h) ≡ false → is_live (session_of id h) ≡ true → stage_of (session_of id h) ≡ stage.Open
 open_at q h id made free live = open_by (session_of id h) (outstanding h) id free live (ordered q h id made).fits
 
--- The stage of a session that is held open is told by the exchanges under its T2.
+-- The stage of a session that is held open is determined by the exchanges under its T2.
 abbrev pub StagesStand : ReqSetup → History → Type 0
 StagesStand q h = (id : ℕ) → is_held (session_of id h) ≡ true → is_verifying (stage_of (session_of id h)) ≡ verifying (heard (t2_of (session_of id h)) (asked_marks q h))
 

@@ -38,7 +38,7 @@ opening stage.Handshake q s waiting sealed inner led ends is = ap (λ (b : Bool)
 opening stage.Open q s waiting sealed inner led ends is = absurd (true≢false (sym is ∙ ends))
 opening stage.Verifying q s waiting sealed inner led ends is = absurd (true≢false (sym is ∙ ends))
 
--- What was opened is told by a mark.
+-- What was opened is determined by a mark.
 pub opened_told : (q : ReqSetup) (h : History) → IsSteady h → (t2 : List ℕ) → WasOpened t2 h → (t : First) × IsOpened (asked_marks q h) t t2
 opened_told q [] steady t2 was = elim was [ ]
 opened_told q (Told command sent d ∷ older) steady t2 was = (let o = opened_told q older steady.1 t2 was in (o.0, opened_more (command_marks older command sent d) (asked_marks q older) o.0 t2 o.1))

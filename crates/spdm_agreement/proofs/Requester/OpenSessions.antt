@@ -50,7 +50,7 @@ abbrev pub NoFinish : Option Sent → Type 0
 NoFinish None = Unit {0}
 NoFinish (Some sent) = NoFinishAim sent.aim
 
--- It does not go to a session past its handshake as PSK_FINISH.
+-- It does not go to an established session as PSK_FINISH.
 asked : (psk : List ℕ) (id : ℕ) (ask : Ask) (inner sealed : List ℕ) (s : Steps) (m : List marks.Asked) → NoFinishAim (InSession id ask) → AskedAt psk id s m → AskedAt psk id (when_live s (Asked ask inner sealed)) m
 asked psk id ask inner sealed [] m n i = gone psk id m
 asked psk id AskFinish inner sealed (x ∷ s) m n i = absurd n
@@ -221,7 +221,7 @@ cleared psk id h _ next m steady all = sent psk id next (session_of id h) m stea
 
 -- ---- In a session.
 
--- A record in the handshake ends it only where it is PSK_FINISH_RSP, and behind it there is none.
+-- A record in the handshake ends it only where it is PSK_FINISH_RSP, and after it there is none.
 abbrev pub EndsByAnswer : Stage → Steps → (sealed inner : List ℕ) → Effect → Type 0
 EndsByAnswer stage.Handshake s sealed inner effect = is_past_handshake (stage_of (Took sealed inner effect ∷ s)) ≡ true → finishes effect ≡ true
 EndsByAnswer stage.Open s sealed inner effect = finishes effect ≡ false

@@ -1,5 +1,5 @@
--- What a record leads to at a requester, once it opened: the session ends; or the record answers what was asked, and
--- a further request may go out with it.
+-- What a record leads to at a requester, once it opened: the session ends; or the record answers what was asked, and a
+-- further request may go out with it.
 use Rattle.std.proofs.Common.{◌≡◌, ◌⊎◌, ℕ, ◌+◌, List, [], ◌∷◌, drop, Bool, true, false, cond, Option, Some, None, refl, inl, inr, eq-eqb, eqb-true}
 use Rattle.std.specs.Prelude.{Result, Ok, Err, ◌==◌, ◌&&◌, not, slice_index}
 use Rattle.chunking.specs.Collecting.{joined_with}
@@ -36,7 +36,7 @@ InnerTells (Grants (AskUpdate all) answer) inner = (slice_index inner 0 ≡ 5) �
 InnerTells (Grants AskVerify answer) inner = (slice_index inner 0 ≡ 5) × (slice_index (drop 1 inner) 1 ≡ KEY_UPDATE_ACK)
 InnerTells _ inner = Unit {0}
 
--- The request that goes out with an answer: VerifyNewKey behind an update; CHUNK_GET.
+-- The request that goes out with an answer: VerifyNewKey after an update; CHUNK_GET.
 pub record IsNext (q : ReqSetup) (h : History) (f : Free) (came : Came) (effect : Effect) (ask : Ask) (next : Sent) : Type 0 where
   pub asks : Ask
   pub inner : List ℕ

@@ -83,7 +83,7 @@ next_leads q h f id of y ys m served log ask b sealed effect (Some x) g is k t b
 open_finish : (ask : Ask) (effect : Effect) → is_finish ask ≡ false → may_bring effect ask ≡ true → finishes effect ≡ false
 open_finish ask effect n brings = finishes_only effect ask brings ∙ n
 
--- Of a session past its handshake.
+-- Of an established session.
 pub replies : (q : ReqSetup) (h : History) (f : Free) (id : ℕ) (y : Step) (ys : Steps) (m : List marks.Asked) (served : List Served) (log : Log) (ask : Ask) (b sealed : List ℕ) (led : Led)
     → is_finish ask ≡ false → stage_of (y ∷ ys) ≡ stage_for ask → asked_open (reading_of q.psk) id m ≡ Some (asked_first (y ∷ ys), t2_of (y ∷ ys)) → HeldWell q.psk (y ∷ ys) m (Some b) → RequestTells ask b
     → answer_fault q.psk (y ∷ ys) ask sealed ≡ None → RecordLed q h f (came_at q id (y ∷ ys) ask sealed) ask led

@@ -64,7 +64,7 @@ sound_form r s m e =
 
 -- ---- What a turn takes.
 
--- A turn takes nothing that counts; or a request that its message spells, and that was not refused for its form.
+-- A turn takes nothing that counts; or a request that its message encodes, and that was not refused for its form.
 abbrev Takes : RspSetup → Events → List ℕ → Effect → Type 0
 Takes r s m effect =
     ((code_in effect ≡ 0) × (asked_in effect ≡ None))

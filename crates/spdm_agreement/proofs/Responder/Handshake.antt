@@ -42,7 +42,7 @@ pub record ShakesAt (s : Events) (m : List Served) : Type 0 where
 gone : (m : List Served) → ShakesAt [] m
 gone m = record { last = λ e. absurd (true≢false (sym e)); ready = λ e. absurd (true≢false (sym e)) }
 
--- Behind its handshake nothing is said of it.
+-- After its handshake nothing is said of it.
 pub behind : (s : Events) (m : List Served) → is_past_handshake (stage_of s) ≡ true → ShakesAt s m
 behind s m past = record { last = λ l e. absurd (true≢false (sym past ∙ e)); ready = λ l e. absurd (true≢false (sym past ∙ e)) }
 

@@ -20,7 +20,7 @@ use Rattle.spdm_agreement.proofs.Messages.Beginnings.{reading_of}
 use Rattle.transcript.specs.Transcripts as transcript
 use Rattle.spdm_grammar.specs.declared.names.request_code.TheConstants.{GET_VERSION, PSK_EXCHANGE, PSK_FINISH, END_SESSION}
 
--- A record in the handshake ends it only where it is PSK_FINISH, and behind it there is none.
+-- A record in the handshake ends it only where it is PSK_FINISH, and after it there is none.
 abbrev pub EndsByFinish : Stage → Events → List ℕ → Turn → List ℕ → Type 0
 EndsByFinish stage.Handshake s sealed t reply = is_past_handshake (stage_of (Heard sealed t reply ∷ s)) ≡ true → takes PSK_FINISH t ≡ true
 EndsByFinish stage.Open s sealed t reply = takes PSK_FINISH t ≡ false

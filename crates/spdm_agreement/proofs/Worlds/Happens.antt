@@ -45,7 +45,7 @@ draw_length seed number = length-sha256 _
 pub good_draw : (seed : List ℕ) (number : ℕ) → number < 2 ^ 64 → IsDraw (draw_of seed number)
 good_draw seed number less = record { number = less; bytes = draw_length seed number }
 
--- A number below the limit of wear behind the first one.
+-- A number below the limit of wear after the first one.
 pub below : (first wear n m : ℕ) → first + wear ≤ 2 ^ 64 → n ≤ m → nat_le wear m ≡ false → first + n < 2 ^ 64
 below first wear n m all few fresh = (let less : m < wear = leb-false wear m fresh in omega arith)
 
