@@ -10,7 +10,7 @@ pub none_out : {A : Type 0} (o : Option A) → is_some o ≡ false → o ≡ Non
 none_out None is = refl
 none_out (Some x) is = absurd (false≢true (sym is))
 
--- A test that finds nothing, and neither do those behind it.
+-- A test that finds nothing, and neither do those after it.
 pub both : {A : Type 0} (b : Bool) (x : A) (rest : Option A) → (if b then Some x else rest) ≡ None → (b ≡ false) × (rest ≡ None)
 both true x rest h = absurd (none-some x (sym h))
 both false x rest h = (refl, h)

@@ -13,7 +13,7 @@ GivesSome old new = (bytes : List ℕ) × Gives old bytes new
 abbrev pub IsAtEnd : Option (List ℕ) → Type 0
 IsAtEnd now = (left : List ℕ) → now ≡ Some left → left ≡ []
 
--- A sink that tells what it holds took these bytes behind what it held.
+-- A sink that tells what it holds took these bytes after what it held.
 abbrev pub Takes : Option (List ℕ) → List ℕ → Option (List ℕ) → Type 0
 Takes old bytes new = (held : List ℕ) → old ≡ Some held → new ≡ Some (held ++ bytes)
 

@@ -1,8 +1,7 @@
-//! What every layer stands on: bytes, end points and keys as types, what the program reads from and
-//! writes to, and the faults that several layers name.
+//! What every layer stands on: bytes, endpoints and keys as types, what the program reads from and writes to, and the
+//! faults that several layers name.
 //!
-//! Read first: `Takes` in `specs/Stream.antt`, what a sink holds after a write. The call to begin
-//! with is `read_all`.
+//! Read first: `Takes` in `specs/Stream.antt`, what a sink holds after a write. The call to begin with is `read_all`.
 #![tactic(auto)]
 
 mod causes;

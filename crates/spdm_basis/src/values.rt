@@ -1,4 +1,4 @@
-//! Bytes, end points, keys and algorithms as types.
+//! Bytes, endpoints, keys and algorithms as types.
 
 pub mod aead_alg;
 pub mod buffer;

@@ -9,20 +9,19 @@ pub enum RecordFault {
     /// The session id is another one.
     #[error("another session id")]
     WrongId,
-    /// The number is not the awaited one.
+    /// The number is not the expected one.
     #[error("another number")]
     WrongNumber,
-    /// The length field is not the count of bytes behind it, or the record has more than 4,160 bytes.
+    /// The length field is not the count of bytes after it, or the record has more than 4,160 bytes.
     #[error("another length")]
     WrongLength,
     /// The tag is not that of the record.
     #[error("another tag")]
     BadTag,
-    /// The length of the inner message passes the bytes behind it.
+    /// The length of the inner message passes the bytes after it.
     #[error("an inner message longer than its record")]
     BadInnerLength,
-    /// The key has sealed as many records as it may. Opening a record under a key and a number never
-    /// gives this one.
+    /// The key has sealed as many records as it may. Opening a record under a key and a number never gives this one.
     #[error("a spent key")]
     KeySpent,
 }

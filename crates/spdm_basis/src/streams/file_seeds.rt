@@ -10,9 +10,8 @@ use std::{fs, io};
 // The random numbers of the system.
 const RANDOM: &str = "/dev/urandom";
 
-/// Seeds from the system: each is the first 32 bytes of `/dev/urandom`. It tells nothing of what it has
-/// left. Its count of faults rises by one at each seed that could not be read, and stands still at
-/// 2^64 - 1.
+/// Seeds from the system: each is the first 32 bytes of `/dev/urandom`. It tells nothing of what it has left. Its fault
+/// count rises by one at each seed that could not be read, and saturates at `u64::MAX`.
 #[derive(Drop)]
 pub struct FileSeeds<'a, F: Files> {
     files: &'a F,

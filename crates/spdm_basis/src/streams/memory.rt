@@ -144,8 +144,8 @@ impl Model for MemSink {
 }
 
 impl MemSink {
-    /// An empty sink that holds up to `limit` bytes, for which it takes the memory here. The calls of
-    /// `write` with the numbers of `failing` fail, counted from 0, and so does each call where it is full.
+    /// An empty sink that holds up to `limit` bytes, allocated here. The calls of `write` with the numbers of `failing`
+    /// fail, counted from 0, and so does each call where it is full.
     pub fn new(alloc: Global, limit: usize, failing: &[u64]) -> Result<MemSink, OutOfMemory>
         ensures held { IfOk result (λ sink. sink.held ≡ []) }
         ensures limit { IfOk result (λ sink. sink.limit ≡ limit) }
@@ -238,8 +238,8 @@ impl Model for MemSeeds {
 }
 
 impl MemSeeds {
-    /// These seeds. The calls of `seed` with the numbers of `failing` fail, counted from 0, and so does each
-    /// call when no seed is left.
+    /// These seeds. The calls of `seed` with the numbers of `failing` fail, counted from 0, and so does each call when
+    /// no seed is left.
     pub fn new(alloc: Global, seeds: &[[u8; 32]], failing: &[u64]) -> Result<MemSeeds, OutOfMemory>
         ensures left { IfOk result (λ kept. kept.left ≡ seeds.now) }
         ensures made { IfOk result (λ kept. kept.calls.made ≡ 0) }

@@ -13,7 +13,7 @@ pub trait Source {
     /// What it has left, where it tells that.
     ghost remaining: { Self → Option (List ℕ) };
 
-    /// How often it has failed. The count never falls, and stands still at the last number of 64 bits.
+    /// How often it has failed. The count never falls, and saturates at `u64::MAX`.
     ghost faults: { Self → ℕ };
 
     /// Reads the next bytes into the front of `into`, and says how many. None is the end of input.
@@ -34,11 +34,10 @@ pub trait Sink {
     /// What it holds, where it tells that.
     ghost contents: { Self → Option (List ℕ) };
 
-    /// How often it has failed. The count never falls, and stands still at the last number of 64 bits.
+    /// How often it has failed. The count never falls, and saturates at `u64::MAX`.
     ghost faults: { Self → ℕ };
 
-    /// Writes the first bytes of `from`, at least one, and says how many. After `Failed` the sink
-    /// holds what it held.
+    /// Writes the first bytes of `from`, at least one, and says how many. After `Failed` the sink holds what it held.
     fn write(&mut self, from: &[u8]) -> Result<usize, Failed>
         requires { 0 < length from.now }
         ensures some { IfOk result (λ n. 0 < n) }
@@ -55,7 +54,7 @@ pub trait Seeds {
     /// The seeds that it has left, where it tells that.
     ghost left: { Self → Option (List (List ℕ)) };
 
-    /// How often it has failed. The count never falls, and stands still at the last number of 64 bits.
+    /// How often it has failed. The count never falls, and saturates at `u64::MAX`.
     ghost faults: { Self → ℕ };
 
     /// The next seed. After `Failed` it has left what it had left.

@@ -7,8 +7,8 @@ use crate::{Failed, Sink, Source};
 use std::io::{Read, Write};
 use std::marker::Model;
 
-/// Standard input, or any other reader, as a source. It tells nothing of what it has left. Its count of
-/// faults rises by one at each error of the reader, and stands still at 2^64 - 1.
+/// Standard input, or any other reader, as a source. It tells nothing of what it has left. Its fault count rises by one
+/// at each error of the reader, and saturates at `u64::MAX`.
 #[derive(Drop)]
 pub struct StdinSource<R: Read + Drop> {
     reader: R,
@@ -51,10 +51,9 @@ impl<R: Read + Drop> Source for StdinSource<R> {
     }
 }
 
-/// Standard output, or any other writer, as a sink. Each call hands the whole piece on in one write, so
-/// that a caller who gives whole lines writes whole lines. It tells nothing of what it holds. Its count of
-/// faults rises by one at each error of the writer and at each write that took nothing, and stands still
-/// at 2^64 - 1.
+/// Standard output, or any other writer, as a sink. Each call hands the whole piece on in one write, so that a caller
+/// who gives whole lines writes whole lines. It tells nothing of what it holds. Its fault count rises by one at each
+/// error of the writer and at each write that took nothing, and saturates at `u64::MAX`.
 #[derive(Drop)]
 pub struct StdoutSink<W: Write + Drop> {
     writer: W,

@@ -26,9 +26,9 @@ pub enum OutFault {
 // How many bytes are asked for at a time.
 const PIECE: usize = 4096;
 
-/// Reads to the end of input, of which there may be at most `limit` bytes. After a fault the bytes read
-/// so far are gone from the source. `ReadFault` comes only by the count of the source, and `TooLong`
-/// exactly where more than `limit` bytes came.
+/// Reads to the end of input, of which there may be at most `limit` bytes. After a fault the bytes read so far are gone
+/// from the source. `ReadFault` is returned only if the source's `faults` count rose, and `TooLong` exactly when more
+/// than `limit` bytes came.
 pub fn read_all<S: Source>(alloc: Global, source: &mut S, limit: usize) -> Result<Bytes, InFault>
     // Ok: the bytes are all that the source had left, and it has nothing left.
     ensures whole { IfOk result (λ bytes. Gives (S.remaining source.old) bytes (Some [])) }
@@ -59,8 +59,8 @@ pub fn read_all<S: Source>(alloc: Global, source: &mut S, limit: usize) -> Resul
     }
 }
 
-/// Writes all of `text`. After `WriteFault`, which comes only by the count of the sink, a prefix of the
-/// text was written. It takes no memory.
+/// Writes all of `text`. After `WriteFault` (only if the sink's `faults` count rose) a prefix of the text was written.
+/// Never allocates.
 pub fn write_all<K: Sink>(sink: &mut K, text: &[u8]) -> Result<(), OutFault>
     ensures whole { OnOk result (Takes (K.contents sink.old) text.now (K.contents sink.new)) }
     ensures prefix { OnErr result (TakesPrefix (K.contents sink.old) text.now

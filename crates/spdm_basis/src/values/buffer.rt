@@ -6,8 +6,7 @@ use arrayvec::ArrayVec;
 use std::marker::Model;
 use thiserror::Error;
 
-/// Bytes of which there are at most `N`, kept in place and without memory of their own. Contracts see
-/// them as a list.
+/// Bytes of which there are at most `N`, stored inline; never allocates. Contracts see them as a list.
 #[derive(Clone, Debug, Drop)]
 pub struct Buffer<const N: usize> {
     items: ArrayVec<u8, N>,
@@ -62,14 +61,14 @@ impl<const N: usize> Buffer<N> {
         self.items.as_mut_slice()
     }
 
-    /// Takes all bytes out.
+    /// Removes all bytes.
     pub fn clear(&mut self)
         ensures { self.new ≡ [] }
     {
         self.items.clear();
     }
 
-    /// Adds bytes at the end. `Full` comes exactly where they do not all fit, and changes nothing.
+    /// Appends bytes. Returns `Full` exactly when they do not all fit, and changes nothing.
     pub fn extend(&mut self, more: &[u8]) -> Result<(), Full>
         ensures ok { OnOk result (self.new ≡ self.old ++ more.now) }
         ensures fits { OnOk result (length self.old + length more.now ≤ N) }

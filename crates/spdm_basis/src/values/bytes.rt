@@ -4,7 +4,7 @@ use std::alloc::Global;
 use std::marker::Model;
 use thiserror::Error;
 
-/// Memory ran out.
+/// Out of memory.
 #[derive(Clone, Copy, Debug, PartialEq, Eq, Error)]
 #[error("out of memory")]
 pub struct OutOfMemory;
@@ -24,7 +24,7 @@ impl Model for Bytes {
 }
 
 impl Bytes {
-    /// No bytes. It takes no memory.
+    /// No bytes. Never allocates.
     pub fn new(alloc: Global) -> Self
         ensures { result ≡ [] }
     {
@@ -50,14 +50,14 @@ impl Bytes {
         self.items.as_slice()
     }
 
-    /// Takes all bytes out, and keeps the memory.
+    /// Removes all bytes and keeps the capacity.
     pub fn clear(&mut self)
         ensures { self.new ≡ [] }
     {
         self.items.clear();
     }
 
-    /// Adds bytes at the end. An `Err` leaves what was there.
+    /// Appends bytes. An `Err` changes nothing.
     pub fn extend(&mut self, more: &[u8]) -> Result<(), OutOfMemory>
         ensures ok { OnOk result (self.new ≡ self.old ++ more.now) }
         ensures err { OnErr result (self.new ≡ self.old) }

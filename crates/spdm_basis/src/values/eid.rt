@@ -1,7 +1,7 @@
 ghost use Rattle.std.specs.Prelude.{◌≡◌, ◌<◌, ◌≤◌, ◌↔◌, IsSome, IfSome};
 
-/// The number of an end point (DSP0236, "Endpoint ID"): from 8 to 254. The numbers below are null and
-/// reserved, and 255 is for broadcasts.
+/// The number of an endpoint (DSP0236, "Endpoint ID"): from 8 to 254. The numbers below are null and reserved, and 255
+/// is for broadcasts.
 #[derive(Clone, Copy, Debug, PartialEq, Eq)]
 pub struct Eid {
     number: u8,
@@ -10,7 +10,7 @@ pub struct Eid {
 }
 
 impl Eid {
-    /// The end point of this number, and `None` exactly where the number is below 8 or is 255.
+    /// The endpoint of this number, and `None` exactly when the number is below 8 or is 255.
     pub fn new(number: u8) -> Option<Eid>
         ensures range { IsSome result ↔ ((8 ≤ number) × (number < 255)) }
         ensures value { IfSome result (λ eid. eid.number ≡ number) }

@@ -22,7 +22,7 @@ impl Model for HashBytes {
 }
 
 impl HashBytes {
-    /// The hash of these bytes, and `None` exactly where there are neither 32 nor 48.
+    /// The hash of these bytes, and `None` exactly when there are neither 32 nor 48.
     pub fn new(bytes: &[u8]) -> Option<HashBytes>
         ensures range { IsSome result ↔ ((length bytes.now ≡ 32) ⊎ (length bytes.now ≡ 48)) }
         ensures value { IfSome result (λ hash. hash ≡ bytes.now) }

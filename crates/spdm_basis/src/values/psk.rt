@@ -20,7 +20,7 @@ impl Model for Psk {
 }
 
 impl Psk {
-    /// The key of these bytes, and `None` exactly where there are none or more than 64.
+    /// The key of these bytes, and `None` exactly when there are none or more than 64.
     pub fn new(bytes: &[u8]) -> Option<Psk>
         ensures range { IsSome result ↔ ((0 < length bytes.now) × (length bytes.now ≤ 64)) }
         ensures value { IfSome result (λ psk. psk ≡ bytes.now) }
