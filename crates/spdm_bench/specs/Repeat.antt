@@ -10,7 +10,7 @@ use Rattle.spdm_basis.specs.declared.values.hash_alg.HashAlg.TheVariants.{Sha256
 abbrev pub zero_key : List ℕ
 zero_key = replicate 16 0
 
--- The IV of message n, counted from 0: its number in eight bytes, the lowest first, and four zeros.
+-- The IV of message n, counted from 0: its number in eight bytes, little-endian, and four zeros.
 abbrev pub iv_of : ℕ → List ℕ
 iv_of n = little_bytes 8 n ++ replicate 4 0
 
@@ -28,8 +28,8 @@ unfoldable pub last_tag : List ℕ → ℕ → List ℕ
 last_tag text zero = replicate 16 0
 last_tag text (suc n) = tag_of zero_key (iv_of n) aad (sealed text (suc n))
 
--- The code of the last of n messages of this many bytes, and zeros where there is none. Each byte
--- of message k is the lowest byte of k.
+-- The code of the last of n messages of this many bytes, and zeros where there is none. Each byte of message k is the
+-- lowest byte of k.
 unfoldable pub last_code : ℕ → ℕ → List ℕ
 last_code size zero = replicate 32 0
 last_code size (suc n) = hmac (hash_of Sha256) zero_key (replicate size (n % 256))

@@ -6,8 +6,8 @@ use crate::bench_error::BenchError;
 use crate::repeat::{authenticate_all, seal_all};
 use std::alloc::Global;
 
-/// The last tag of `count` messages of `size` bytes, in hexadecimal. The first is all zeros, and
-/// each other is the one before it sealed. A message has at most 65,535 bytes.
+/// The last tag of `count` messages of `size` bytes, in hexadecimal. The first is all zeros, and each other is the one
+/// before it sealed. A message has at most 65,535 bytes.
 pub fn last_tag(alloc: Global, size: usize, count: u64) -> Result<String, BenchError>
     requires { size ≤ 65535 }
     ensures { IfOk result (λ text. string_bytes text

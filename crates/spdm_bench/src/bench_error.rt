@@ -14,7 +14,7 @@ pub enum BenchError {
     /// A record was refused.
     #[error("a record was refused")]
     Refused,
-    /// Memory ran out.
+    /// Out of memory.
     #[error("out of memory")]
     OutOfMemory,
     /// The words could not be had, or the tag could not be written.

@@ -7,7 +7,7 @@ use spdm_basis::{Bytes, Eid, Psk};
 use spdm_grammar::{Event, FlagSet, Pick, Suites};
 use std::alloc::Global;
 
-// The end point of the responder; those of its requesters stand behind it.
+// The endpoint of the responder; those of its requesters follow it.
 const RESPONDER: u8 = 8;
 
 // After so many messages a requester has all keys updated: the numbers of its records are few.
@@ -40,7 +40,7 @@ fn eid(number: u8) -> Result<Eid, BenchError> {
     Eid::new(number).ok_or(BenchError::NoSession)
 }
 
-// The pre-shared key of the requester with this end point.
+// The pre-shared key of the requester with this endpoint.
 fn psk(number: u8) -> Result<Psk, BenchError> {
     Psk::new(&[number; 16]).ok_or(BenchError::NoSession)
 }
@@ -72,7 +72,7 @@ fn responder(alloc: Global, count: u8) -> Result<Responder, BenchError> {
     Ok(Responder::new(alloc, &config, [0; 32])?)
 }
 
-// The requester with this end point.
+// The requester with this endpoint.
 fn requester(alloc: Global, number: u8) -> Result<Requester, BenchError> {
     let config = ReqConfig {
         eid: eid(number)?,
@@ -123,8 +123,7 @@ impl Ends {
         Ok(ends)
     }
 
-    // The packets of a requester are given to the responder, and the answer to the requester; what it is told
-    // last.
+    // The packets of a requester are given to the responder, and the answer to the requester; what it is told last.
     fn round(&mut self, place: usize) -> Option<Event> {
         for index in 0..self.asked.len() {
             let _ = self
@@ -156,8 +155,8 @@ impl Ends {
     }
 }
 
-/// Has so many requesters, at most eight, send `count` application messages of 32 bytes in turn to one
-/// responder, over packets, and gives the last packet of the responder in hexadecimal.
+/// Has so many requesters, at most eight, send `count` application messages of 32 bytes in turn to one responder, over
+/// packets, and gives the last packet of the responder in hexadecimal.
 pub fn last_of_ends(alloc: Global, requesters: usize, count: u64) -> Result<String, BenchError> {
     let all = u8::try_from(requesters).map_err(|_| BenchError::Usage)?;
     if all == 0 || all > 8 {

@@ -1,9 +1,7 @@
-//! The program `spdm_bench`: it seals or authenticates many messages, or has a session send and
-//! answer them, so that the time that this takes can be measured from outside. It tells no time
-//! itself.
+//! The program `spdm_bench`: it seals or authenticates many messages, or has a session send and answer them, so that
+//! the time that this takes can be measured from outside. It tells no time itself.
 //!
-//! Read first: `kind_named` in `specs/Words.antt`, the work that a word asks for. The call is
-//! `Work::of`.
+//! Read first: `kind_named` in `specs/Words.antt`, the work that a word asks for. The call is `Work::of`.
 #![tactic(auto)]
 
 mod answer;
@@ -21,8 +19,8 @@ use std::rt::Env;
 use talk::{last_of_records, last_of_session};
 use work::{Kind, Work};
 
-/// Does the work that the words behind the program's name ask for, and prints the last tag, code or
-/// record in hexadecimal.
+/// Does the work that the words after the program's name ask for, and prints the last tag, code or record in
+/// hexadecimal.
 fn main(rt: HostRuntime) -> Result<(), BenchError> {
     let work = asked(&rt)?;
     let last = match work.kind {

@@ -15,8 +15,8 @@ fn iv_of(number: u64) -> [u8; 12]
     iv
 }
 
-/// Seals `count` messages under a key of zeros with eight bytes of associated data, each message
-/// the one before it sealed, and gives the last tag. The text has at most 65,535 bytes.
+/// Seals `count` messages under a key of zeros with eight bytes of associated data, each message the one before it
+/// sealed, and gives the last tag. The text has at most 65,535 bytes.
 #[tactic(auto, unfolding(crate::specs::Repeat::sealed, crate::specs::Repeat::last_tag))]
 pub fn seal_all(text: &mut [u8], count: u64) -> [u8; 16]
     requires { length text.old ≤ 65535 }

@@ -52,8 +52,7 @@ pub struct Talk {
     work: Work,
 }
 
-/// The keys of such a session, with the inner message that was opened last and the record that was
-/// sealed last.
+/// The keys of such a session, with the inner message that was opened last and the record that was sealed last.
 #[derive(Drop)]
 pub struct Records {
     request: RecordKey,
@@ -67,7 +66,7 @@ fn psk() -> Result<Psk, BenchError> {
     Psk::new(&[0; 16]).ok_or(BenchError::NoSession)
 }
 
-// The responder behind a PSK_EXCHANGE of no bytes, with its answer.
+// The responder after a PSK_EXCHANGE of no bytes, with its answer.
 fn begin(psk: &Psk, answer: &mut Frame) -> RspSession {
     let parts = ExchangeParts {
         heartbeat: 0,
@@ -96,7 +95,7 @@ fn sent_back(text: &[u8]) -> RecordFree<'_>
 }
 
 impl Talk {
-    /// Both ends behind their handshake.
+    /// Both ends after their handshake.
     pub fn begin(alloc: Global) -> Result<Talk, BenchError> {
         let psk = psk()?;
         let mut answer = Frame::new();
@@ -120,8 +119,7 @@ impl Talk {
         })
     }
 
-    // One round trip: the requester sends a text of at most 1,024 bytes, and the responder sends it
-    // back.
+    // One round trip: the requester sends a text of at most 1,024 bytes, and the responder sends it back.
     fn turn(&mut self, text: &[u8]) -> Result<(), BenchError>
         requires { length text.now ≤ 1024 }
     {
@@ -150,7 +148,7 @@ impl Talk {
     }
 }
 
-// The hash of T1 behind a PSK_EXCHANGE of no bytes: the answer without its verify data.
+// The hash of T1 after a PSK_EXCHANGE of no bytes: the answer without its verify data.
 fn hash_of_t1(answer: &Frame) -> HashBytes
     ensures { length result ≡ hash_size Sha256 }
 {
@@ -161,7 +159,7 @@ fn hash_of_t1(answer: &Frame) -> HashBytes
 }
 
 impl Records {
-    /// The keys behind the handshake.
+    /// The keys after the handshake.
     pub fn begin(alloc: Global) -> Result<Records, BenchError> {
         let th2 = Talk::begin(alloc)?.requester.view().hash;
         if th2.as_slice().len() != HASH.size() {
@@ -195,9 +193,9 @@ impl Records {
     }
 }
 
-/// Has a requester send `count` application messages of `size` zeros, each of which its responder
-/// sends back, and gives the last record of the responder in hexadecimal. A session refuses more
-/// than 65,535 of them, and more than 1,024 bytes.
+/// Has a requester send `count` application messages of `size` zeros, each of which its responder sends back, and gives
+/// the last record of the responder in hexadecimal. A session refuses more than 65,535 of them, and more than 1,024
+/// bytes.
 pub fn last_of_session(alloc: Global, size: usize, count: u16) -> Result<String, BenchError> {
     if size > 1024 {
         return Err(BenchError::Refused);
