@@ -1,6 +1,6 @@
 //! The program `spdm`: the call `spdm` of `spdm_command`, over standard input and output.
 //!
-//! Read first: `main` in `src/main.rt`, what is told of an outcome.
+//! Read first: `main` in `src/main.rt`, what is reported of an outcome.
 #![tactic(auto)]
 
 use spdm_basis::{FileSeeds, StdinSource, StdoutSink};
@@ -9,8 +9,8 @@ use std::process::ExitCode;
 use std::rt::Env;
 use std::{env, io};
 
-/// Runs the command with the words behind the program's name, over standard input and output. The name of
-/// each outcome but `Done` is printed to standard error, and the status is that of the outcome.
+/// Runs the command with the words after the program's name, over standard input and output. The name of each outcome
+/// but `Done` is printed to standard error, and the status is that of the outcome.
 fn main(rt: HostRuntime) -> ExitCode {
     let outcome = command(&rt);
     match outcome {
@@ -38,7 +38,7 @@ fn command(rt: &HostRuntime) -> Outcome {
     )
 }
 
-// The words that the program was started with, behind its name.
+// The words that the program was started with, after its name.
 fn words(rt: &(impl Env + AllocGlobal)) -> io::Result<Vec<String>> {
     let mut words = Vec::new(rt.alloc());
     for word in env::args(rt)?.skip(1) {
