@@ -1,4 +1,4 @@
--- Places of one input, one behind the other. This project's own.
+-- Places of one input, one after the other. This project's own.
 use Rattle.std.specs.Prelude.{◌≡◌, ◌≤◌, ◌+◌, length}
 use Rattle.spdm_grammar.specs.Reading.{Place}
 

@@ -11,7 +11,7 @@ pub record Fed : Type 0 where
   pub expect : Expect
   pub bytes : List ℕ
 
--- The first fault of bytes that spell no message of the awaited kind.
+-- The first fault of bytes that encode no message of the expected kind.
 abbrev pub fault_in : Expect → List ℕ → Option Malformed
 fault_in (Request hash_len) bytes = request_fault hash_len bytes
 fault_in (Response hash_len summary) bytes = response_fault hash_len summary bytes

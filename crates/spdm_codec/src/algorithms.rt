@@ -14,7 +14,7 @@ use spdm_grammar::names::response_code::ALGORITHMS;
 use spdm_grammar::names::spdm_version::V1_2;
 use spdm_grammar::{AlgOffer, AlgReply, Malformed, Request, Response};
 
-/// NEGOTIATE_ALGORITHMS behind its code.
+/// NEGOTIATE_ALGORITHMS after its code.
 #[tactic(auto, unfolding(spdm_grammar::specs::Requests::negotiate_algorithms_layout))]
 pub fn read_negotiate_algorithms<'a>(cursor: &mut Cursor<'a>) -> Result<Request<'a>, Malformed>
     ensures { Gives request_message result (read negotiate_algorithms_layout cursor.old) }
@@ -46,7 +46,7 @@ pub fn read_negotiate_algorithms<'a>(cursor: &mut Cursor<'a>) -> Result<Request<
     }))
 }
 
-/// ALGORITHMS behind its code.
+/// ALGORITHMS after its code.
 #[tactic(auto, unfolding(spdm_grammar::specs::Responses::algorithms_layout))]
 pub fn read_algorithms<'a>(cursor: &mut Cursor<'a>) -> Result<Response<'a>, Malformed>
     ensures { Gives response_message result (read algorithms_layout cursor.old) }
@@ -80,7 +80,7 @@ pub fn read_algorithms<'a>(cursor: &mut Cursor<'a>) -> Result<Response<'a>, Malf
     }))
 }
 
-/// NEGOTIATE_ALGORITHMS in place of what `out` holds.
+/// Overwrites `out` with NEGOTIATE_ALGORITHMS.
 pub fn write_negotiate_algorithms(offer: &AlgOffer<'_>, out: &mut Frame) -> Result<(), TooLong>
     requires ext_asym { length offer.now.ext_asym.now ≤ 1020 }
     requires ext_hash { length offer.now.ext_hash.now ≤ 1020 }
@@ -116,7 +116,7 @@ pub fn write_negotiate_algorithms(offer: &AlgOffer<'_>, out: &mut Frame) -> Resu
     put(out, offer.tables)
 }
 
-/// ALGORITHMS in place of what `out` holds.
+/// Overwrites `out` with ALGORITHMS.
 pub fn write_algorithms(reply: &AlgReply<'_>, out: &mut Frame) -> Result<(), TooLong>
     requires ext_asym { length reply.now.ext_asym.now ≤ 1020 }
     requires ext_hash { length reply.now.ext_hash.now ≤ 1020 }

@@ -14,7 +14,7 @@ use spdm_grammar::names::MAX_MESSAGE_SIZE;
 use spdm_grammar::names::spdm_version::V1_2;
 use spdm_grammar::{Caps, Malformed};
 
-/// GET_CAPABILITIES or CAPABILITIES behind its code.
+/// GET_CAPABILITIES or CAPABILITIES after its code.
 #[tactic(auto, unfolding(spdm_grammar::specs::Requests::get_capabilities_layout, spdm_grammar::specs::Responses::capabilities_layout))]
 pub fn read_caps(cursor: &mut Cursor<'_>) -> Result<Caps, Malformed>
     ensures request { Gives GetCapabilities result (read get_capabilities_layout cursor.old) }
@@ -35,7 +35,7 @@ pub fn read_caps(cursor: &mut Cursor<'_>) -> Result<Caps, Malformed>
     })
 }
 
-/// GET_CAPABILITIES or CAPABILITIES, by its code, in place of what `out` holds.
+/// Overwrites `out` with GET_CAPABILITIES or CAPABILITIES, by its code.
 pub fn write_caps(code: u8, caps: &Caps, out: &mut Frame) -> Result<(), TooLong>
     ensures ok { OnOk result (out.new ≡ V1_2 ∷ code ∷ caps_bytes caps.now) }
     ensures fits { OnOk result (length out.new ≤ MAX_MESSAGE_SIZE) }

@@ -15,7 +15,7 @@ use spdm_grammar::names::MAX_MESSAGE_SIZE;
 use spdm_grammar::names::spdm_version::V1_2;
 use spdm_grammar::{ChunkView, Malformed, Request, Response};
 
-/// CHUNK_SEND or CHUNK_RESPONSE behind its code.
+/// CHUNK_SEND or CHUNK_RESPONSE after its code.
 #[tactic(auto, unfolding(spdm_grammar::specs::Requests::chunk_send_layout, spdm_grammar::specs::Responses::chunk_response_layout))]
 pub fn read_chunk<'a>(cursor: &mut Cursor<'a>) -> Result<ChunkView<'a>, Malformed>
     ensures request { Gives (λ chunk. ChunkSend (chunk_message chunk)) result
@@ -40,7 +40,7 @@ pub fn read_chunk<'a>(cursor: &mut Cursor<'a>) -> Result<ChunkView<'a>, Malforme
     })
 }
 
-/// CHUNK_GET behind its code.
+/// CHUNK_GET after its code.
 #[tactic(auto, unfolding(spdm_grammar::specs::Requests::chunk_get_layout))]
 pub fn read_chunk_get<'a>(cursor: &mut Cursor<'a>) -> Result<Request<'a>, Malformed>
     ensures { Gives request_message result (read chunk_get_layout cursor.old) }
@@ -52,7 +52,7 @@ pub fn read_chunk_get<'a>(cursor: &mut Cursor<'a>) -> Result<Request<'a>, Malfor
     Ok(Request::ChunkGet { handle, number })
 }
 
-/// CHUNK_SEND_ACK behind its code.
+/// CHUNK_SEND_ACK after its code.
 #[tactic(auto, unfolding(spdm_grammar::specs::Responses::chunk_send_ack_layout))]
 pub fn read_chunk_send_ack<'a>(cursor: &mut Cursor<'a>) -> Result<Response<'a>, Malformed>
     ensures { Gives response_message result (read chunk_send_ack_layout cursor.old) }
@@ -68,7 +68,7 @@ pub fn read_chunk_send_ack<'a>(cursor: &mut Cursor<'a>) -> Result<Response<'a>, 
     })
 }
 
-/// CHUNK_SEND or CHUNK_RESPONSE, by its code, in place of what `out` holds.
+/// Overwrites `out` with CHUNK_SEND or CHUNK_RESPONSE, by its code.
 pub fn write_chunk(code: u8, chunk: &ChunkView<'_>, out: &mut Frame) -> Result<(), TooLong>
     requires { length chunk.now.chunk.now < 2 ^ 32 }
     ensures ok { OnOk result (out.new ≡ V1_2 ∷ code ∷ chunk_bytes (chunk_message chunk.now)) }

@@ -7,7 +7,7 @@ ghost use Rattle.spdm_codec.specs.Answer.{Gives};
 use crate::cursor::Cursor;
 use spdm_grammar::{Malformed, Request, Response};
 
-/// END_SESSION behind its code.
+/// END_SESSION after its code.
 #[tactic(auto, unfolding(spdm_grammar::specs::Requests::end_session_layout))]
 pub fn read_end_session<'a>(cursor: &mut Cursor<'a>) -> Result<Request<'a>, Malformed>
     ensures { Gives request_message result (read end_session_layout cursor.old) }
@@ -17,7 +17,7 @@ pub fn read_end_session<'a>(cursor: &mut Cursor<'a>) -> Result<Request<'a>, Malf
     Ok(Request::EndSession)
 }
 
-/// END_SESSION_ACK behind its code.
+/// END_SESSION_ACK after its code.
 #[tactic(auto, unfolding(spdm_grammar::specs::Responses::end_session_ack_layout))]
 pub fn read_end_session_ack<'a>(cursor: &mut Cursor<'a>) -> Result<Response<'a>, Malformed>
     ensures { Gives response_message result (read end_session_ack_layout cursor.old) }

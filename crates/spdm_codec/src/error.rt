@@ -8,7 +8,7 @@ use crate::cursor::Cursor;
 use spdm_grammar::names::error_number::{LARGE_RESPONSE, RESPONSE_TOO_LARGE};
 use spdm_grammar::{ErrorCode, Malformed, Part, Response};
 
-/// ERROR behind its code.
+/// ERROR after its code.
 #[tactic(auto, unfolding(spdm_grammar::specs::Responses::error_layout))]
 pub fn read_error<'a>(cursor: &mut Cursor<'a>, version: u8) -> Result<Response<'a>, Malformed>
     ensures { Gives response_message result (read (error_layout version) cursor.old) }

@@ -12,7 +12,7 @@ use spdm_grammar::names::request_code::PSK_EXCHANGE;
 use spdm_grammar::names::spdm_version::V1_2;
 use spdm_grammar::{Exchange, Malformed, Request};
 
-/// PSK_EXCHANGE behind its code.
+/// PSK_EXCHANGE after its code.
 #[tactic(auto, unfolding(spdm_grammar::specs::Requests::psk_exchange_layout))]
 pub fn read_psk_exchange<'a>(
     cursor: &mut Cursor<'a>,
@@ -51,7 +51,7 @@ pub fn read_psk_exchange<'a>(
     }))
 }
 
-/// PSK_EXCHANGE in place of what `out` holds.
+/// Overwrites `out` with PSK_EXCHANGE.
 pub fn write_psk_exchange(exchange: &Exchange<'_>, out: &mut Frame) -> Result<(), TooLong>
     requires hint { length exchange.now.hint.now < 2 ^ 16 }
     requires context { length exchange.now.context.now < 2 ^ 16 }

@@ -12,7 +12,7 @@ use spdm_grammar::names::response_code::PSK_EXCHANGE_RSP;
 use spdm_grammar::names::spdm_version::V1_2;
 use spdm_grammar::{ExchangeRsp, Malformed, Response};
 
-/// PSK_EXCHANGE_RSP behind its code.
+/// PSK_EXCHANGE_RSP after its code.
 #[tactic(auto, unfolding(spdm_grammar::specs::Responses::psk_exchange_rsp_layout))]
 pub fn read_psk_exchange_rsp<'a>(
     cursor: &mut Cursor<'a>,
@@ -58,7 +58,7 @@ fn summary_len(hash_len: usize, has_summary: bool) -> usize
     if has_summary { hash_len } else { 0 }
 }
 
-/// PSK_EXCHANGE_RSP in place of what `out` holds.
+/// Overwrites `out` with PSK_EXCHANGE_RSP.
 pub fn write_psk_exchange_rsp(exchange: &ExchangeRsp<'_>, out: &mut Frame) -> Result<(), TooLong>
     requires context { length exchange.now.context.now < 2 ^ 16 }
     requires opaque { length exchange.now.opaque.now ≤ 1024 }

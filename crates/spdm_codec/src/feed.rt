@@ -22,13 +22,13 @@ pub enum FeedFault {
     /// More than 4,096 bytes would stand.
     #[error("the message passes 4096 bytes")]
     TooLong,
-    /// The bytes with this piece spell no message, and neither do any longer ones.
+    /// The bytes with this piece encode no message, and neither do any longer ones.
     #[error(transparent)]
     Bad(Malformed),
 }
 
-/// A message that comes in pieces. It keeps the bytes in place, takes no memory, and reads at each
-/// piece again what it holds.
+/// A message that comes in pieces. It stores the bytes inline, never allocates, and reads at each piece again what it
+/// holds.
 #[derive(Drop)]
 pub struct Feed {
     expect: Expect,
@@ -54,9 +54,8 @@ impl Feed {
         }
     }
 
-    /// Adds a piece at the end. `TooLong` comes exactly where more than 4,096 bytes would stand, and
-    /// `Bad` exactly where fewer would and they have another fault than that they end too early. A
-    /// refused piece changes nothing.
+    /// Appends a piece. Returns `TooLong` exactly when more than 4,096 bytes would stand, and `Bad` exactly when fewer
+    /// would and they have another fault than that they end too early. A refused piece changes nothing.
     pub fn push(&mut self, piece: &[u8]) -> Result<(), FeedFault>
         ensures ok { OnOk result (self.new
             ≡ record { expect = self.old.expect; bytes = self.old.bytes ++ piece.now }) }
@@ -83,7 +82,7 @@ impl Feed {
         }
     }
 
-    /// The request that the pieces spell, as `read_request` answers.
+    /// The request that the pieces encode, as `read_request` answers.
     pub fn finish_request(&self) -> Result<Request<'_>, Malformed>
         requires { AwaitsRequest self.now.expect }
         ensures value { (hash_len : ℕ) → self.now.expect ≡ Expect.Request hash_len →
@@ -97,7 +96,7 @@ impl Feed {
         }
     }
 
-    /// The response that the pieces spell, as `read_response` answers.
+    /// The response that the pieces encode, as `read_response` answers.
     pub fn finish_response(&self) -> Result<Response<'_>, Malformed>
         requires { AwaitsResponse self.now.expect }
         ensures value { (hash_len : ℕ) (summary : Bool)
@@ -117,7 +116,7 @@ impl Feed {
     }
 }
 
-// The first fault of the bytes, if they spell no message of the awaited kind.
+// The first fault of the bytes, if they encode no message of the expected kind.
 fn fault_of(expect: Expect, bytes: &[u8]) -> Option<Malformed>
     ensures { result ≡ fault_in expect bytes.now }
 {
@@ -127,8 +126,7 @@ fn fault_of(expect: Expect, bytes: &[u8]) -> Option<Malformed>
     }
 }
 
-/// A fault that refuses a piece is that of the whole input, however it goes on: no cut into pieces
-/// changes the answer.
+/// A fault that refuses a piece is that of the whole input, however it goes on: no cut into pieces changes the answer.
 pub fn feed_fault_stays()
     ensures { (expect : Expect) (bytes more : List ℕ) (fault : Malformed) →
         fault_in expect bytes ≡ Some fault → fault.what ≢ End

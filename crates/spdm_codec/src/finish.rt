@@ -7,7 +7,7 @@ ghost use Rattle.spdm_codec.specs.Answer.{Gives};
 use crate::cursor::Cursor;
 use spdm_grammar::{Malformed, Request, Response};
 
-/// PSK_FINISH behind its code.
+/// PSK_FINISH after its code.
 #[tactic(auto, unfolding(spdm_grammar::specs::Requests::psk_finish_layout))]
 pub fn read_psk_finish<'a>(
     cursor: &mut Cursor<'a>,
@@ -21,7 +21,7 @@ pub fn read_psk_finish<'a>(
     Ok(Request::PskFinish { verify })
 }
 
-/// PSK_FINISH_RSP behind its code.
+/// PSK_FINISH_RSP after its code.
 #[tactic(auto, unfolding(spdm_grammar::specs::Responses::psk_finish_rsp_layout))]
 pub fn read_psk_finish_rsp<'a>(cursor: &mut Cursor<'a>) -> Result<Response<'a>, Malformed>
     ensures { Gives response_message result (read psk_finish_rsp_layout cursor.old) }

@@ -7,7 +7,7 @@ ghost use Rattle.spdm_codec.specs.Answer.{Gives};
 use crate::cursor::Cursor;
 use spdm_grammar::{Malformed, Request, Response};
 
-/// HEARTBEAT behind its code.
+/// HEARTBEAT after its code.
 #[tactic(auto, unfolding(spdm_grammar::specs::Requests::heartbeat_layout))]
 pub fn read_heartbeat<'a>(cursor: &mut Cursor<'a>) -> Result<Request<'a>, Malformed>
     ensures { Gives request_message result (read heartbeat_layout cursor.old) }
@@ -17,7 +17,7 @@ pub fn read_heartbeat<'a>(cursor: &mut Cursor<'a>) -> Result<Request<'a>, Malfor
     Ok(Request::Heartbeat)
 }
 
-/// HEARTBEAT_ACK behind its code.
+/// HEARTBEAT_ACK after its code.
 #[tactic(auto, unfolding(spdm_grammar::specs::Responses::heartbeat_ack_layout))]
 pub fn read_heartbeat_ack<'a>(cursor: &mut Cursor<'a>) -> Result<Response<'a>, Malformed>
     ensures { Gives response_message result (read heartbeat_ack_layout cursor.old) }

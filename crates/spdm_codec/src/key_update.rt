@@ -7,7 +7,7 @@ ghost use Rattle.spdm_codec.specs.Answer.{Gives};
 use crate::cursor::{Cursor, not_allowed};
 use spdm_grammar::{Malformed, Request, Response};
 
-/// KEY_UPDATE behind its code.
+/// KEY_UPDATE after its code.
 #[tactic(auto, unfolding(spdm_grammar::specs::Requests::key_update_layout))]
 pub fn read_key_update<'a>(cursor: &mut Cursor<'a>) -> Result<Request<'a>, Malformed>
     ensures { Gives request_message result (read key_update_layout cursor.old) }
@@ -22,7 +22,7 @@ pub fn read_key_update<'a>(cursor: &mut Cursor<'a>) -> Result<Request<'a>, Malfo
     Ok(Request::KeyUpdate { op, tag })
 }
 
-/// KEY_UPDATE_ACK behind its code.
+/// KEY_UPDATE_ACK after its code.
 #[tactic(auto, unfolding(spdm_grammar::specs::Responses::key_update_ack_layout))]
 pub fn read_key_update_ack<'a>(cursor: &mut Cursor<'a>) -> Result<Response<'a>, Malformed>
     ensures { Gives response_message result (read key_update_ack_layout cursor.old) }

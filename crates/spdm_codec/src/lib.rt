@@ -1,6 +1,5 @@
-//! Reading and writing of the messages of `spdm_grammar`, exactly: a reader answers the value that
-//! the whole input spells, or its first fault, and a writer writes the canonical spelling. No call
-//! takes memory.
+//! Reading and writing of the messages of `spdm_grammar`, exactly: a reader answers the value that the whole input
+//! encodes, or its first fault, and a writer writes the canonical encoding. No call allocates.
 //!
 //! Read first: `Gives` in `specs/Answer.antt`, when a reader answers what the definitions read.
 //! Calls are `read_request` and `write_request`.

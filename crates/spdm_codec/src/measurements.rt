@@ -15,7 +15,7 @@ use spdm_grammar::names::response_code::MEASUREMENTS;
 use spdm_grammar::names::spdm_version::V1_2;
 use spdm_grammar::{Malformed, Measured, Request, Response};
 
-/// GET_MEASUREMENTS behind its code.
+/// GET_MEASUREMENTS after its code.
 #[tactic(auto, unfolding(spdm_grammar::specs::Requests::get_measurements_layout))]
 pub fn read_get_measurements<'a>(cursor: &mut Cursor<'a>) -> Result<Request<'a>, Malformed>
     ensures { Gives request_message result (read get_measurements_layout cursor.old) }
@@ -30,7 +30,7 @@ pub fn read_get_measurements<'a>(cursor: &mut Cursor<'a>) -> Result<Request<'a>,
     Ok(Request::GetMeasurements { op })
 }
 
-/// MEASUREMENTS behind its code.
+/// MEASUREMENTS after its code.
 #[tactic(auto, unfolding(spdm_grammar::specs::Responses::measurements_layout))]
 pub fn read_measurements<'a>(cursor: &mut Cursor<'a>) -> Result<Response<'a>, Malformed>
     ensures { Gives response_message result (read measurements_layout cursor.old) }
@@ -57,7 +57,7 @@ pub fn read_measurements<'a>(cursor: &mut Cursor<'a>) -> Result<Response<'a>, Ma
     }))
 }
 
-/// MEASUREMENTS in place of what `out` holds.
+/// Overwrites `out` with MEASUREMENTS.
 pub fn write_measurements(measured: &Measured<'_>, out: &mut Frame) -> Result<(), TooLong>
     requires block_bytes { length measured.now.block_bytes.now < 2 ^ 24 }
     requires opaque { length measured.now.opaque.now ≤ 1024 }

@@ -39,7 +39,7 @@ fn is_known_code(version: u8, code: u8) -> bool
     }
 }
 
-// What stands behind the code.
+// What follows the code.
 #[tactic(auto, unfolding(spdm_grammar::specs::Requests::request_body))]
 fn read_body<'a>(
     cursor: &mut Cursor<'a>,
@@ -63,7 +63,7 @@ fn read_body<'a>(
     }
 }
 
-// The request that the bytes spell, or their first fault.
+// The request that the bytes encode, or their first fault.
 fn read_whole(bytes: &[u8], hash_len: usize) -> Result<Request<'_>, Malformed>
     ensures { Gives request_message result (request_reading hash_len bytes.now) }
 {
@@ -80,14 +80,14 @@ fn read_whole(bytes: &[u8], hash_len: usize) -> Result<Request<'_>, Malformed>
     read_body(&mut cursor, code, hash_len)
 }
 
-/// Reads the request that the bytes spell, all of them (DSP0274, section 10). A hash has `hash_len`
-/// bytes. Where they spell none, the fault is the first in the order of the fields.
+/// Reads the request that the bytes encode, all of them (DSP0274, section 10). A hash has `hash_len` bytes. Where they
+/// encode none, the fault is the first in the order of the fields.
 pub fn read_request(bytes: &[u8], hash_len: usize) -> Result<Request<'_>, Malformed>
-    // The request that the bytes spell, and their first fault, as functions of the bytes.
+    // The request that the bytes encode, and their first fault, as functions of the bytes.
     ensures value { option_map request_message (result_ok result) ≡ request_in hash_len bytes.now }
     ensures fault { result_err result ≡ request_fault hash_len bytes.now }
 
-    // What is read is spelled, and what is spelled is read.
+    // What is read is encoded, and what is encoded is read.
     ensures found { IfOk result (λ request. IsRequestSpelling hash_len
         (request_message request) bytes.now) }
     ensures only { (message : RequestMessage) → IsRequestSpelling hash_len message bytes.now →
@@ -96,8 +96,8 @@ pub fn read_request(bytes: &[u8], hash_len: usize) -> Result<Request<'_>, Malfor
     read_whole(bytes, hash_len)
 }
 
-/// Writes the canonical spelling of a request, in place of what `out` holds: zero in each reserved
-/// field. `TooLong` comes exactly where it passes 4,096 bytes. A hash has `hash_len` bytes.
+/// Overwrites `out` with the canonical encoding of a request: every reserved field is zero. Returns `TooLong` exactly
+/// when it passes 4,096 bytes. A hash has `hash_len` bytes.
 pub fn write_request(message: &Request<'_>, hash_len: usize, out: &mut Frame) -> Result<(), TooLong>
     requires { IsSoundRequest hash_len (request_message message.now) }
     ensures ok { OnOk result (out.new ≡ canonical_request (request_message message.now)) }

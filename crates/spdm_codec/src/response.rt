@@ -47,7 +47,7 @@ fn is_known_code(version: u8, code: u8) -> bool
     }
 }
 
-// What stands behind the code.
+// What follows the code.
 #[tactic(auto, unfolding(spdm_grammar::specs::Responses::response_body))]
 fn read_body<'a>(
     cursor: &mut Cursor<'a>,
@@ -74,7 +74,7 @@ fn read_body<'a>(
     }
 }
 
-// The response that the bytes spell, or their first fault.
+// The response that the bytes encode, or their first fault.
 fn read_whole(bytes: &[u8], lengths: Lengths) -> Result<Response<'_>, Malformed>
     ensures { Gives response_message result
         (response_reading lengths.hash_len lengths.has_summary bytes.now) }
@@ -92,20 +92,20 @@ fn read_whole(bytes: &[u8], lengths: Lengths) -> Result<Response<'_>, Malformed>
     read_body(&mut cursor, version, code, lengths)
 }
 
-/// Reads the response that the bytes spell, all of them (DSP0274, section 10). A hash has `hash_len`
-/// bytes, and `summary` says whether a measurement summary hash was asked for. Where they spell none,
-/// the fault is the first in the order of the fields.
+/// Reads the response that the bytes encode, all of them (DSP0274, section 10). A hash has `hash_len` bytes, and
+/// `summary` says whether a measurement summary hash was asked for. Where they encode none, the fault is the first in
+/// the order of the fields.
 pub fn read_response(
     bytes: &[u8],
     hash_len: usize,
     summary: bool,
 ) -> Result<Response<'_>, Malformed>
-    // The response that the bytes spell, and their first fault, as functions of the bytes.
+    // The response that the bytes encode, and their first fault, as functions of the bytes.
     ensures value { option_map response_message (result_ok result)
         ≡ response_in hash_len summary bytes.now }
     ensures fault { result_err result ≡ response_fault hash_len summary bytes.now }
 
-    // What is read is spelled, and what is spelled is read.
+    // What is read is encoded, and what is encoded is read.
     ensures found { IfOk result (λ response. IsResponseSpelling hash_len summary
         (response_message response) bytes.now) }
     ensures only { (message : ResponseMessage)
@@ -121,9 +121,9 @@ pub fn read_response(
     )
 }
 
-/// Writes the canonical spelling of a response, in place of what `out` holds: zero in each reserved
-/// field. `TooLong` comes exactly where it passes 4,096 bytes. A hash has `hash_len` bytes, and
-/// `summary` says whether a measurement summary hash was asked for.
+/// Overwrites `out` with the canonical encoding of a response: every reserved field is zero. Returns `TooLong` exactly
+/// when it passes 4,096 bytes. A hash has `hash_len` bytes, and `summary` says whether a measurement summary hash was
+/// asked for.
 pub fn write_response(
     message: &Response<'_>,
     hash_len: usize,

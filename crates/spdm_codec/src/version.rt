@@ -8,7 +8,7 @@ ghost use Rattle.spdm_codec.specs.Answer.{Gives};
 use crate::cursor::Cursor;
 use spdm_grammar::{Malformed, Request, Response};
 
-/// GET_VERSION behind its code.
+/// GET_VERSION after its code.
 #[tactic(auto, unfolding(spdm_grammar::specs::Requests::get_version_layout))]
 pub fn read_get_version<'a>(cursor: &mut Cursor<'a>) -> Result<Request<'a>, Malformed>
     ensures { Gives request_message result (read get_version_layout cursor.old) }
@@ -18,7 +18,7 @@ pub fn read_get_version<'a>(cursor: &mut Cursor<'a>) -> Result<Request<'a>, Malf
     Ok(Request::GetVersion)
 }
 
-/// VERSION behind its code.
+/// VERSION after its code.
 #[tactic(auto, unfolding(spdm_grammar::specs::Responses::version_layout))]
 pub fn read_version<'a>(cursor: &mut Cursor<'a>) -> Result<Response<'a>, Malformed>
     ensures { Gives response_message result (read version_layout cursor.old) }
