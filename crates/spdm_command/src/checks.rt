@@ -12,7 +12,7 @@ use spdm_basis::{Sink, Source};
 use trace_check::{CheckAnswer, CheckFault, check_input};
 use std::alloc::Global;
 
-// What a capture came to, as the command tells it.
+// The outcome of a capture, as the command's outcome.
 fn outcome_of(answer: &Result<CheckAnswer, CheckFault>) -> Outcome
     ensures { result ≡ outcome_of answer.now }
 {

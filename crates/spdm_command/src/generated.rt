@@ -15,8 +15,8 @@ use script_text::{MOST_GENERATED, generate, line_summary};
 use spdm_basis::{Line, NullSink, OutFault, Sink, write_all};
 use std::alloc::Global;
 
-/// Runs the generated script of a seed and a count without its trace, writes the line that tells what it came
-/// to, and gives its world as it is after all events. A full link writes nothing.
+/// Runs the script generated from a seed and a count without its trace, writes its summary line, and returns its final
+/// world. A full link writes nothing.
 pub fn summarize<K: Sink>(
     alloc: Global,
     seed: u64,
@@ -57,7 +57,7 @@ pub fn summarize<K: Sink>(
     }
 }
 
-// Writes the line that tells what a world came to.
+// Writes the summary line of a world.
 fn write_summary<K: Sink>(
     seed: u64,
     count: u32,

@@ -1,5 +1,5 @@
 //! The command `spdm` over any source, sink and seeds: it runs requesters and a responder over a scripted link and
-//! writes their trace, answers streams, and judges captures.
+//! writes their trace, serves streams, and checks captures.
 //!
 //! Read first: `answer_to` in `specs/Answer.antt`, what the command answers. The call is `spdm`.
 #![tactic(auto)]

@@ -3,32 +3,32 @@ ghost use Rattle.std.specs.Prelude.{◌≡◌};
 use script_text::LineFault;
 use spdm_grammar::Why;
 
-/// What a command came to.
+/// The outcome of a command.
 #[derive(Clone, Copy, Debug, PartialEq, Eq)]
 pub enum Outcome {
-    /// The command is finished and all was written.
+    /// Success; all output was written.
     Done,
-    /// The capture differs first at this packet, counted from 1, for this reason. That was written.
+    /// The capture does not conform: this packet, counted from 1, is the first to differ, for this reason. The verdict
+    /// was written.
     Differs { packet: u32, why: Why },
-    /// The words are no command. Nothing was read.
+    /// The arguments are no command. Nothing was read.
     Usage,
-    /// This line, counted from 1, is the first bad one. Nothing was written.
+    /// This line, counted from 1, is the first invalid one. Nothing was written.
     BadScript { line: u32, fault: LineFault },
-    /// Reading failed, behind a part of the output in a command that answers a stream; in the others nothing was
-    /// written.
+    /// Reading failed, possibly after part of the output where a stream is served; otherwise nothing was written.
     ReadFault,
-    /// Writing failed, behind a part of the output.
+    /// Writing failed, possibly after part of the output.
     WriteFault,
-    /// Memory ran out, maybe behind a part of the output.
+    /// Out of memory, possibly after part of the output.
     OutOfMemory,
     /// No seed was given. Nothing was written.
     SeedFault,
     /// The text is longer than 4 MiB, and nothing was written; or the stream is longer than 2^40 bytes.
     TooLong,
-    /// The event on this line sends a packet for which the link has no room. All that stands before the
-    /// line of the packet was written.
+    /// The event on this line sends a packet for which the link has no room. All output before the packet's line was
+    /// written.
     LinkFull { line: u32 },
-    /// The frame that begins at this byte of the stream is bad. What the frames before it led to was written.
+    /// The frame that begins at this byte of the stream is invalid. The output for the frames before it was written.
     BadFrame { at: u64 },
 }
 

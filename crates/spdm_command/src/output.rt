@@ -19,23 +19,22 @@ use thiserror::Error;
 /// Why a command did not write its whole output for a text.
 #[derive(Clone, Copy, Debug, PartialEq, Eq, Error)]
 pub enum TextFault {
-    /// The first bad line, counted from 1, and its first fault. Nothing was written.
+    /// The first invalid line, counted from 1, and its first fault. Nothing was written.
     #[error("line {0}: {1}")]
     Line(u32, LineFault),
-    /// The event on this line sends a packet for which the link has no room. All that stands before the
-    /// line of the packet was written.
+    /// The event on this line sends a packet for which the link has no room. All output before the packet's line was
+    /// written.
     #[error("line {0}: a full link")]
     LinkFull(u32),
-    /// Writing failed, behind a part of the output.
+    /// Writing failed, possibly after part of the output.
     #[error("writing failed")]
     WriteFault,
-    /// Memory ran out, maybe behind a part of the output.
+    /// Out of memory, possibly after part of the output.
     #[error("out of memory")]
     OutOfMemory,
 }
 
-/// Writes the output of a command for a text of at most 4 MiB. A script leaves its world in `left`, as it is
-/// after all events.
+/// Writes the output of a command for a text of at most 4 MiB. A script leaves its final world in `left`.
 pub fn write_output<K: Sink>(
     alloc: Global,
     command: TextCommand,

@@ -8,7 +8,7 @@ use script_text::TEXT_LIMIT;
 use spdm_basis::{Bytes, InFault, Source, read_all};
 use std::alloc::Global;
 
-/// Reads what a command reads, up to 4 MiB: no bytes for one that reads nothing.
+/// Reads a command's input, up to 4 MiB; empty for a command without input.
 pub fn read_text<S: Source>(
     alloc: Global,
     command: TextCommand,

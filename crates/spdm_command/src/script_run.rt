@@ -17,7 +17,7 @@ use script_text::{Entry, LineFault, Script, ScriptFault, TEXT_LIMIT, parse_scrip
 use spdm_basis::{OutFault, OutOfMemory, Sink};
 use std::alloc::Global;
 
-/// Runs a script of at most 4 MiB, and gives its world as it is after all events.
+/// Runs a script of at most 4 MiB, and returns its final world.
 pub fn run<K: Sink>(alloc: Global, text: &[u8], sink: &mut K) -> Result<World, TextFault>
     requires { length text.now ≤ TEXT_LIMIT }
     ensures whole { OnOk result (Takes (K.contents sink.old) (output_of Run text.now)
@@ -79,8 +79,7 @@ fn run_script<K: Sink>(alloc: Global, script: &Script, sink: &mut K) -> Result<W
     }
 }
 
-/// The world of a script whose configuration is in range, in which nothing has happened yet: no end of it is
-/// refused.
+/// The initial world of a script whose configuration is in range: no endpoint is rejected.
 pub fn new_world(alloc: Global, script: &Script) -> Result<World, OutOfMemory>
     requires { IsSoundConfig script.now.config }
     ensures { IfOk result (λ world. StandsFor world (machine.new_world (set_up script.now))) }
@@ -93,7 +92,7 @@ pub fn new_world(alloc: Global, script: &Script) -> Result<World, OutOfMemory>
     }
 }
 
-/// Lets events happen in a world, one after another, and writes their lines.
+/// Runs events in a world, in order, and writes their lines.
 pub fn run_events<K: Sink>(
     world: &mut World,
     events: &[Entry],

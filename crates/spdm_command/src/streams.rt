@@ -10,7 +10,7 @@ use spdm_basis::{Seeds, Sink, Source};
 use std::alloc::Global;
 use stream_commands::{StreamFault, drive_input, serve_input};
 
-// What a stream came to, as the command tells it.
+// The outcome of a stream, as the command's outcome.
 fn outcome_of(answer: &Result<(), StreamFault>) -> Outcome
     ensures { result ≡ outcome_of answer.now }
 {
@@ -29,7 +29,7 @@ fn outcome_of(answer: &Result<(), StreamFault>) -> Outcome
     }
 }
 
-/// Reads a configuration up to `end`, takes one seed, and answers the frames of the stream behind.
+/// Reads a configuration up to `end`, takes one seed, and answers the frames that follow.
 pub fn serve_stream<S: Source, K: Sink, E: Seeds>(
     alloc: Global,
     source: &mut S,
@@ -58,8 +58,7 @@ pub fn serve_stream<S: Source, K: Sink, E: Seeds>(
     outcome_of(&answer)
 }
 
-/// Reads a configuration up to `end`, takes one seed, and drives the first requester by the frames of the stream
-/// behind.
+/// Reads a configuration up to `end`, takes one seed, and drives the first requester by the frames that follow.
 pub fn drive_stream<S: Source, K: Sink, E: Seeds>(
     alloc: Global,
     source: &mut S,

@@ -6,7 +6,7 @@ use script_text::{MOST_GENERATED, long_number, number};
 /// A command of the program.
 #[derive(Clone, Copy, Debug, PartialEq, Eq)]
 pub enum Command {
-    /// One text is read whole, and its output written.
+    /// Reads one text and writes its output.
     Text(TextCommand),
     /// A responder answers a stream of frames.
     Serve,
@@ -23,12 +23,11 @@ pub enum TextCommand {
     Run,
     /// Messages are shown, a line for each.
     Show,
-    /// The script of a seed and a count of events is run without its trace, and a line tells what it came
-    /// to.
+    /// The script of a seed and a count of events is run without its trace, and a line tells what it came to.
     Gen { seed: u64, count: u32 },
 }
 
-/// The command that the words are.
+/// Parses the arguments.
 pub fn command_of(words: &[String]) -> Option<Command>
     ensures is { result ≡ command_of (map string_bytes words.now) }
     ensures range { IfSome result (λ command. IsInRange command) }
