@@ -1,4 +1,4 @@
--- What is told of a text: that it is good, or its first bad line. This project's own.
+-- What is reported of a text: that it is good, or its first bad line. This project's own.
 use Rattle.std.specs.Prelude.{ℕ, List, [], ◌∷◌, ◌++◌, ◌≡◌, codes, bytes_eq, if◌then◌else◌, Option, Some, None, Result, Ok, Err}
 use Rattle.std.specs.Fmt.{decimal}
 use Rattle.script_text.specs.ConfigText.{config_in}
@@ -30,7 +30,7 @@ report_of (Err (fault.Line line f)) = Bad line f
 report_of (Err (fault.TooManyEvents line)) = Bad line TooManyEvents
 report_of (Err fault.OutOfMemory) = OutOfMemory
 
--- What is told of a text of a form. The lines of a policy are counted from 1.
+-- What is reported of a text of a form. The lines of a policy are counted from 1.
 abbrev pub said_of : Form → List ℕ → Report
 said_of form.Script text = report_of (script_in text)
 said_of form.Capture text = report_of (capture_in text)
@@ -44,7 +44,7 @@ report_text Good = codes "good\n"
 report_text (Bad line f) = codes "line " ++ decimal line ++ codes ": " ++ name_of f ++ 10 ∷ [] ++ help_of f ++ 10 ∷ []
 report_text OutOfMemory = []
 
--- A report is the right one; want of memory says nothing.
+-- A report is the right one; allocation failure says nothing.
 abbrev pub IsTold : Report → Report → Type 0
 IsTold said Good = said ≡ Good
 IsTold said (Bad line f) = said ≡ Bad line f

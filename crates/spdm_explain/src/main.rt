@@ -1,7 +1,7 @@
-//! The program `spdm_explain`: it reads a text from standard input and tells whether it is good, or its
-//! first bad line with a sentence of help.
+//! The program `spdm_explain`: it reads a text from standard input and tells whether it is good, or its first bad line
+//! with a sentence of help.
 //!
-//! Read first: `report_of` in `specs/Report.antt`, what is told of a text. The call is `explain`.
+//! Read first: `report_of` in `specs/Report.antt`, what is reported of a text. The call is `explain`.
 #![tactic(auto)]
 
 mod form;
@@ -42,7 +42,7 @@ fn command(rt: &HostRuntime) -> Outcome {
     run::run(rt.alloc(), words.as_slice(), &mut source, &mut sink)
 }
 
-// The words that the program was started with, behind its name.
+// The words that the program was started with, after its name.
 fn given(rt: &(impl Env + AllocGlobal)) -> io::Result<Vec<String>> {
     let mut words = Vec::new(rt.alloc());
     for word in env::args(rt)?.skip(1) {

@@ -10,14 +10,14 @@ use script_text::{
 };
 use std::alloc::{AllocError, Global};
 
-/// What is told of a text.
+/// What is reported of a text.
 #[derive(Clone, Copy, Debug, PartialEq, Eq)]
 pub enum Report {
     /// No line is bad.
     Good,
     /// The first bad line and its first fault.
     Bad { line: u32, fault: LineFault },
-    /// Memory ran out.
+    /// Out of memory.
     OutOfMemory,
 }
 
@@ -36,7 +36,7 @@ macro_rules! report {
     };
 }
 
-/// What is told of a text of a form: the answer of its reader.
+/// What is reported of a text of a form: the answer of its reader.
 pub fn explain(alloc: Global, form: Form, text: &[u8]) -> Report
     requires { length text.now ≤ TEXT_LIMIT }
     ensures { IsTold (said_of form text.now) result }

@@ -26,7 +26,7 @@ pub enum Outcome {
     TooLong,
 }
 
-/// Reads a text whose form is the one word, and writes what is told of it.
+/// Reads a text whose form is the one word, and writes what is reported of it.
 pub fn run<S: Source, K: Sink>(
     alloc: Global,
     words: &[String],
