@@ -1,4 +1,4 @@
--- The canonical spelling of a sound request is a spelling of it.
+-- The canonical encoding of a sound request is an encoding of it.
 use Rattle.std.proofs.Common.{◌≡◌, ◌<◌, ◌^◌, ℕ, ◌+◌, ◌*◌, ◌/◌, Bool, cond, [], ◌∷◌, ◌++◌, length, refl, sym, ap, append_assoc, arith}
 use Rattle.std.proofs.lemmas.Bool.{le-leb}
 use Rattle.std.proofs.lemmas.List.{append-nil}
@@ -48,7 +48,7 @@ exchange_spelled hash_len exchange fits s =
     (bytes exchange.opaque [] (sym (append-nil exchange.opaque)) refl
     (whole _ _ refl)))))))))))
 
--- the request's canonical spelling spells it
+-- the request's canonical encoding encodes it
 pub request_spelled : (hash_len : ℕ) (m : RequestMessage) → FitsRequest m → IsSoundRequest hash_len m → Spelled (request_layout hash_len) 0 m (canonical_request m)
 unfolding request_body get_version_layout get_capabilities_layout get_measurements_layout psk_finish_layout heartbeat_layout key_update_layout end_session_layout chunk_send_layout chunk_get_layout
 request_spelled hash_len GetVersion f s = one V1_0 refl (one GET_VERSION refl (bytes (0 ∷ 0 ∷ []) [] refl refl (whole _ _ refl)))

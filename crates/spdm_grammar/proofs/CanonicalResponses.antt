@@ -1,4 +1,4 @@
--- The canonical spelling of a sound response is a spelling of it.
+-- The canonical encoding of a sound response is an encoding of it.
 use Rattle.std.proofs.Common.{◌≡◌, ◌<◌, ◌^◌, ℕ, ◌+◌, ◌*◌, ◌/◌, Bool, cond, eqb, List, [], ◌∷◌, ◌++◌, length, refl, sym, ap, subst, append_assoc, arith, inl, inr}
 use Rattle.std.proofs.lemmas.Bool.{le-leb, eqb-true}
 use Rattle.std.proofs.lemmas.List.{append-nil}
@@ -76,7 +76,7 @@ error_spelled hash_len has_summary version code detail extended s =
     let new : P V1_2 = one V1_2 refl (one ERROR refl (extended_spelled V1_2 code detail extended s.1)) in
     elim s.0 [ inl is ↦ subst P (sym is) old | inr is ↦ subst P (sym is) new ]
 
--- the response's canonical spelling spells it
+-- the response's canonical encoding encodes it
 pub response_spelled : (hash_len : ℕ) (has_summary : Bool) (m : ResponseMessage) → FitsResponse m → IsSoundResponse hash_len has_summary m → Spelled (response_layout hash_len has_summary) 0 m (canonical_response m)
 unfolding response_body capabilities_layout psk_finish_rsp_layout heartbeat_ack_layout key_update_ack_layout end_session_ack_layout chunk_send_ack_layout chunk_response_layout
 response_spelled hash_len has_summary (Version entries) f s = version_spelled hash_len has_summary entries s

@@ -11,7 +11,7 @@ use Rattle.spdm_grammar.specs.Layout.Layout.{Whole, Sized, Number, Optional, Byt
 use Rattle.spdm_grammar.specs.Reading.{front, Place, read, field_at, number_at, optional_at, behind_table, behind_tables, tables_at, ended, all_up_to}
 use Rattle.spdm_grammar.proofs.Steps.{then_err, passed_err, avoided_err, field_takes, field_again, number_takes, number_again, optional_none, optional_some, optional_none_again, optional_some_again, table_takes, table_again, tables_take, tables_again}
 
--- the place in an input that has more behind it
+-- the place in an input that has more after it
 abbrev pub longer : Place → List ℕ → Place
 longer p more = record { rest = p.rest ++ more; at = p.at }
 

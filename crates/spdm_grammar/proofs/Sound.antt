@@ -1,4 +1,4 @@
--- What bytes spell fits its fields and is sound.
+-- What bytes encode fits its fields and is sound.
 use Rattle.std.proofs.Common.{◌≡◌, ℕ, zero, suc, ◌+◌, ◌*◌, ◌^◌, ◌<◌, ◌≤◌, ◌⊎◌, Bool, true, false, cond, List, ◌++◌, length, Option, Some, None, refl, sym, ap, subst, ◌∙◌, arith, inl, inr, add-one}
 use Rattle.std.specs.Prelude.{slice_index, ◌||◌}
 use Rattle.std.proofs.lemmas.Bool.{cases_lt}

@@ -1,4 +1,4 @@
--- A request that bytes spell fits its fields and is sound.
+-- A request that bytes encode fits its fields and is sound.
 use Rattle.std.proofs.Common.{ℕ, ◌%◌, eqb, leb, List, Some, None, sym, arith}
 use Rattle.std.proofs.lemmas.Bool.{leb-true, and_parts}
 use Rattle.spdm_grammar.specs.declared.messages.capabilities.Caps.{Caps}
@@ -106,7 +106,7 @@ body hash_len code =
     (either_values _ (chunk_send hash_len)
     (chunk_get hash_len))))))))))
 
--- what bytes spell fits and is sound
+-- what bytes encode fits and is sound
 pub spelled_request : (hash_len : ℕ) (m : RequestMessage) (bytes : List ℕ) → AreBytes bytes → IsRequestSpelling hash_len m bytes → FitsRequest m × IsSoundRequest hash_len m
 spelled_request hash_len m bytes h s =
     value_of (Good hash_len) (request_layout hash_len) 0 m bytes (λ version _ _ code _ _. (body hash_len code).are) h s

@@ -1,4 +1,4 @@
--- A response that bytes spell fits its fields and is sound.
+-- A response that bytes encode fits its fields and is sound.
 use Rattle.std.proofs.Common.{◌≡◌, ℕ, ◌⊎◌, Bool, true, cond, eqb, leb, List, arith, inl, inr}
 use Rattle.std.specs.Prelude.{◌||◌}
 use Rattle.std.proofs.lemmas.Bool.{leb-true, eqb-true, eqb-false, and_parts}
@@ -130,7 +130,7 @@ known_version : (version : ℕ) → (eqb version V1_0 || eqb version V1_2) ≡ t
 known_version version e =
     elim (one_of (eqb version V1_0) (eqb version V1_2) e) [ inl is ↦ inl (eqb-true _ _ is) | inr is ↦ inr (eqb-true _ _ is) ]
 
--- what bytes spell fits and is sound
+-- what bytes encode fits and is sound
 pub spelled_response : (h : ℕ) (s : Bool) (m : ResponseMessage) (bytes : List ℕ) → AreBytes bytes → IsResponseSpelling h s m bytes → FitsResponse m × IsSoundResponse h s m
 spelled_response h s m bytes are spelled =
     value_of (Good h s) (response_layout h s) 0 m bytes (λ version _ known code _ _. (body h s version code (known_version version known)).are) are spelled

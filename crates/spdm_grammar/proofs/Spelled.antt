@@ -1,4 +1,4 @@
--- A spelling, put together field by field.
+-- An encoding, put together field by field.
 use Rattle.std.proofs.Common.{◌≡◌, ℕ, ◌+◌, ◌%◌, ◌^◌, ◌<◌, Bool, true, false, cond, eqb, List, [], ◌∷◌, ◌++◌, length, Option, Some, None, refl, sym, ap, subst, ◌∙◌, arith}
 use Rattle.std.specs.Prelude.{IfSome, is_some, ◌&&◌}
 use Rattle.byteorder.specs.Endian.{little_number, little_bytes}
@@ -34,7 +34,7 @@ pub four : {A : Type 0} {at : ℕ} {is_allowed : ℕ → Bool} {next : ℕ → L
     is_allowed n ≡ true → Spelled (next n) (at + 4) v others → Spelled (Number 4 is_allowed next) at v (little_bytes 4 n ++ others)
 four {others = others} n few ok more = number n (little_bytes 4 n) others refl (omega arith) ok more
 
--- so many bytes, in front of others
+-- so many bytes, before others
 pub bytes : {A : Type 0} {width at : ℕ} {next : List ℕ → Layout A} {v : A} {whole : List ℕ} (field others : List ℕ) →
     whole ≡ field ++ others → length field ≡ width → Spelled (next field) (at + width) v others → Spelled (Bytes width next) at v whole
 bytes field others parts long more = record { is = (field, others, parts, long, more.is) }

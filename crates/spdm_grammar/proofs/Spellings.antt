@@ -1,4 +1,4 @@
--- Reading answers a value exactly where it is spelled.
+-- Reading answers a value exactly when it is encoded.
 use Rattle.std.proofs.Common.{◌≡◌, ℕ, ◌+◌, true, false, eqb, ltb, List, [], length, Option, Some, None, Result, Ok, Err, sym, ap, subst, ◌∙◌}
 use Rattle.std.proofs.lemmas.Bool.{ltb-false, le-ltb, eqb-true, eq-eqb}
 use Rattle.std.proofs.lemmas.List.{nil_from_length}
@@ -17,7 +17,7 @@ ended_is value v p e =
     let t = passed (eqb (length p.rest) 0) (Ok value) (record { at = p.at; what = Rest }) v e in
     (sym (ok_is value v t.1), nil_from_length p.rest (eqb-true _ _ t.0))
 
--- what is read is spelled
+-- what is read is encoded
 pub read_spelling : {A : Type 0} (l : Layout A) (p : Place) (v : A) → read l p ≡ Ok v → IsSpelling l p.at v p.rest
 read_spelling (Whole value) p v e = ended_is value v p e
 read_spelling (Sized told told_at value) p v e =
@@ -58,7 +58,7 @@ read_spelling (UpTo most value) p v e =
     (sym (ok_is (value n.0) v n.2) ∙ ap value (sym (ok_is p.rest n.0 t.1)), ltb-false _ _ t.0)
 read_spelling (Remaining value) p v e = sym (ok_is (value p.rest) v e)
 
--- what is spelled is read
+-- what is encoded is read
 pub spelling_read : {A : Type 0} (l : Layout A) (at : ℕ) (v : A) (bytes : List ℕ) → IsSpelling l at v bytes → read l (record { rest = bytes; at = at }) ≡ Ok v
 spelling_read (Whole value) at v bytes s = rw s.1 (ap Ok (sym s.0))
 spelling_read (Sized told told_at value) at v bytes s =

@@ -23,7 +23,7 @@ pub passed : {A : Type 0} (b : Bool) (x : Result A Malformed) (d : Malformed) (y
 passed true x d y e = (refl, e)
 passed false x d y e = absurd cc
 
--- the same where it was failed or something behind it
+-- the same where it was failed or something after it
 pub passed_err : {A : Type 0} (b : Bool) (x : Result A Malformed) (d e : Malformed) → cond b x (Err d) ≡ Err e → ((b ≡ false) × (d ≡ e)) ⊎ ((b ≡ true) × (x ≡ Err e))
 passed_err true x d y e = inr (refl, e)
 passed_err false x d y e = inl (refl, cc)

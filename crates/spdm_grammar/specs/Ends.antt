@@ -1,4 +1,4 @@
--- Messages that end by themselves: no longer bytes begin with their spelling and spell a message too.
+-- Messages that end by themselves: no longer bytes begin with their encoding and encode a message too.
 use Rattle.spdm_grammar.specs.Message.{ResponseMessage}
 use Rattle.spdm_grammar.specs.Message.ResponseMessage.{ChunkSendAck, Error}
 

@@ -30,7 +30,8 @@ is_opaque_length n = nat_le n 1024
 abbrev pub zeros : ℕ → List ℕ
 zeros n = replicate n 0
 
--- Capabilities behind the code: Param1 and Param2, CTExponent between reserved bytes, Flags, DataTransferSize and MaxSPDMmsgSize.
+-- Capabilities after the code: Param1 and Param2, CTExponent between reserved bytes, Flags, DataTransferSize and
+-- MaxSPDMmsgSize.
 abbrev pub caps_layout : {A : Type 0} → (Caps → A) → Layout A
 caps_layout value =
     reserved 3 (
@@ -48,11 +49,12 @@ pub record FitsCaps (caps : Caps) : Type 0 where
   pub transfer : caps.transfer < 2 ^ 32
   pub max : caps.max < 2 ^ 32
 
--- Capabilities behind the code, as they are written.
+-- Capabilities after the code, as they are written.
 abbrev pub caps_bytes : Caps → List ℕ
 caps_bytes caps = (0 ∷ 0 ∷ 0 ∷ caps.ct ∷ 0 ∷ 0 ∷ []) ++ little_bytes 4 caps.flags ++ little_bytes 4 caps.transfer ++ little_bytes 4 caps.max
 
--- A chunk behind the code: bit 0 of Param1 marks the last one, Param2 is the handle, and then come ChunkSeqNo, ChunkSize, LargeMessageSize where ChunkSeqNo is 0, and the bytes.
+-- A chunk after the code: bit 0 of Param1 marks the last one, Param2 is the handle, and then come ChunkSeqNo,
+-- ChunkSize, LargeMessageSize where ChunkSeqNo is 0, and the bytes.
 abbrev pub chunk_layout : {A : Type 0} → (ChunkMessage → A) → Layout A
 chunk_layout value =
     Number 1 any (λ attributes.
@@ -70,7 +72,7 @@ pub record FitsChunk (chunk : ChunkMessage) : Type 0 where
   pub number : chunk.number < 2 ^ 16
   pub large : IfSome chunk.large (λ n. n < 2 ^ 32)
 
--- A chunk that has a spelling: the one of number 0, and no other, tells the size of the whole.
+-- A chunk that has an encoding: the one of number 0, and no other, tells the size of the whole.
 pub record IsSoundChunk (chunk : ChunkMessage) : Type 0 where
   pub first : is_some chunk.large ≡ (chunk.number == 0)
   pub size : length chunk.chunk < 2 ^ 32
@@ -80,7 +82,7 @@ abbrev pub large_bytes : Option ℕ → List ℕ
 large_bytes None = []
 large_bytes (Some n) = little_bytes 4 n
 
--- A chunk behind the code, as it is written.
+-- A chunk after the code, as it is written.
 abbrev pub chunk_bytes : ChunkMessage → List ℕ
 chunk_bytes chunk =
     ((if chunk.last then 1 else 0) ∷ chunk.handle ∷ []) ++ little_bytes 2 chunk.number ++ zeros 2 ++ little_bytes 4 (length chunk.chunk)

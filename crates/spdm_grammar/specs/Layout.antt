@@ -1,14 +1,15 @@
--- A message as its fields, one behind the other: this project's own way to write the tables of DSP0274, section 10.
+-- A message as its fields, one after the other: this project's own way to write the tables of DSP0274, section 10.
 use Rattle.std.specs.Prelude.{◌≡◌, ◌≤◌, ◌+◌, ◌*◌, ◌/◌, ◌%◌, ℕ, zero, suc, Bool, true, false, List, [], ◌++◌, length, slice_index, Option, Some, None}
 use Rattle.byteorder.specs.Endian.{little_number}
 
--- The fields of a message from some place on, and the value that they give. What comes behind a field may depend on its value.
+-- The fields of a message from some place on, and the value that they give. What comes after a field may depend on its
+-- value.
 pub data Layout (A : Type 0) : Type 0 where
   -- No field is left, and this is the value.
   Whole : (value : A) → Layout A
   -- No field is left, and this is the value, where the Length field at this offset tells the length of the message.
   Sized : (told : ℕ) → (told_at : ℕ) → (value : A) → Layout A
-  -- A number of so many bytes, the low byte first, that is allowed.
+  -- A number of so many bytes, little-endian, that is allowed.
   Number : (width : ℕ) → (is_allowed : ℕ → Bool) → (next : ℕ → Layout A) → Layout A
   -- A number of so many bytes where it is there, else nothing.
   Optional : (is_there : Bool) → (width : ℕ) → (next : Option ℕ → Layout A) → Layout A
@@ -31,12 +32,13 @@ pub record IsTable (bytes : List ℕ) : Type 0 where
   pub fixed_count : slice_index bytes 1 / 16 ≡ 2
   pub entries : length bytes ≡ 4 + 4 * (slice_index bytes 1 % 16)
 
--- So many algorithm structures, one behind the other.
+-- So many algorithm structures, one after the other.
 abbrev pub AreTables : ℕ → List ℕ → Type 0
 AreTables zero bytes = bytes ≡ []
 AreTables (suc count) bytes = (table : List ℕ) × (others : List ℕ) × (bytes ≡ table ++ others) × IsTable table × AreTables count others
 
--- The bytes behind the first so many of a message spell the value: they are the fields, one behind the other, each of its width and with an allowed value.
+-- The bytes after the first so many of a message encode the value: they are the fields, one after the other, each of
+-- its width and with an allowed value.
 abbrev pub IsSpelling : {A : Type 0} → Layout A → ℕ → A → List ℕ → Type 0
 IsSpelling (Whole value) at v bytes = (v ≡ value) × (bytes ≡ [])
 IsSpelling (Sized told told_at value) at v bytes = (v ≡ value) × (bytes ≡ []) × (told ≡ at)

@@ -1,4 +1,4 @@
--- The value that bytes spell, field by field, or where they are at fault. This project's own: DSP0274 names no places.
+-- The value that bytes encode, field by field, or where they are at fault. This project's own: DSP0274 names no places.
 use Rattle.std.specs.Prelude.{◌+◌, ◌-◌, ◌*◌, ◌/◌, ◌%◌, ◌==◌, ℕ, zero, suc, Bool, List, length, take, drop, nat_lt, if◌then◌else◌, Option, Some, None, Result, Ok, Err}
 use Rattle.byteorder.specs.Endian.{little_number}
 use Rattle.spdm_grammar.specs.declared.messages.malformed.Malformed.{Malformed}
@@ -16,22 +16,23 @@ abbrev pub and_then : {A B : Type 0} → Result A Malformed → (A → Result B 
 and_then (Ok x) next = next x
 and_then (Err fault) next = Err fault
 
--- The bytes of one field and the place behind it; where they are not all there, End at the end of the input.
+-- The bytes of one field and the place after it; where they are not all there, End at the end of the input.
 unfoldable pub field_at : ℕ → Place → Result (List ℕ × Place) Malformed
 field_at width p =
     if nat_lt (length p.rest) width then Err (record { at = p.at + length p.rest; what = End })
     else Ok (take width p.rest, record { rest = drop width p.rest; at = p.at + width })
 
--- The number of one field, the low byte first, and the place behind it.
+-- The number of one field, little-endian, and the place after it.
 unfoldable pub number_at : ℕ → Place → Result (ℕ × Place) Malformed
 number_at width p = and_then (field_at width p) (λ field. Ok (little_number width field.0, field.1))
 
--- The number of a field that may be left out, and the place behind it.
+-- The number of a field that may be left out, and the place after it.
 unfoldable pub optional_at : Bool → ℕ → Place → Result (Option ℕ × Place) Malformed
 optional_at is_there width p =
     if is_there then and_then (number_at width p) (λ number. Ok (Some number.0, number.1)) else Ok (None, p)
 
--- The place behind one algorithm structure: type, count with 2 in its high four bits, and then the value and the external entries.
+-- The place after one algorithm structure: type, count with 2 in its high four bits, and then the value and the
+-- external entries.
 unfoldable pub behind_table : Place → Result Place Malformed
 behind_table p =
     and_then (field_at 1 p) (λ kind.
@@ -39,16 +40,16 @@ behind_table p =
     if count.0 / 16 == 2 then and_then (field_at (2 + 4 * (count.0 % 16)) count.1) (λ others. Ok others.1)
     else Err (record { at = kind.1.at; what = Field })))
 
--- The place behind so many of them.
+-- The place after so many of them.
 unfoldable pub behind_tables : ℕ → Place → Result Place Malformed
 behind_tables zero p = Ok p
 behind_tables (suc count) p = and_then (behind_table p) (λ after. behind_tables count after)
 
--- So many algorithm structures as they stand, and the place behind them.
+-- So many algorithm structures as they stand, and the place after them.
 unfoldable pub tables_at : ℕ → Place → Result (List ℕ × Place) Malformed
 tables_at count p = and_then (behind_tables count p) (λ after. Ok (take (after.at - p.at) p.rest, after))
 
--- The value, where no field is left; else Rest at the first byte behind the last field.
+-- The value, where no field is left; else Rest at the first byte after the last field.
 abbrev pub ended : {A : Type 0} → A → Place → Result A Malformed
 ended value p = if length p.rest == 0 then Ok value else Err (record { at = p.at; what = Rest })
 
@@ -60,7 +61,9 @@ ended_sized told told_at value p = if told == p.at then ended value p else Err (
 abbrev pub all_up_to : ℕ → Place → Result (List ℕ) Malformed
 all_up_to most p = if nat_lt most (length p.rest) then Err (record { at = p.at + most; what = Rest }) else Ok p.rest
 
--- The value that the bytes from a place on spell, or the first fault in the order of the fields: End where the bytes of a field are not all there, Field at the first byte of a field whose value is not allowed, Length behind all fields at the Length field, Rest last of all.
+-- The value that the bytes from a place on encode, or the first fault in the order of the fields: End where the bytes
+-- of a field are not all there, Field at the first byte of a field whose value is not allowed, Length after all fields
+-- at the Length field, Rest last of all.
 abbrev pub read : {A : Type 0} → Layout A → Place → Result A Malformed
 read (Whole value) p = ended value p
 read (Sized told told_at value) p = ended_sized told told_at value p

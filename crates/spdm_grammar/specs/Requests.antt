@@ -1,4 +1,4 @@
--- The requests: which bytes spell which one (DSP0274, section 10). A number is spelled with its low byte first.
+-- The requests: which bytes encode which one (DSP0274, section 10). A number is encoded with its low byte first.
 use Rattle.std.specs.Prelude.{◌≡◌, ◌<◌, ◌≤◌, ◌^◌, ◌+◌, ◌*◌, ◌/◌, ◌%◌, ◌==◌, ◌||◌, ℕ, true, nat_le, if◌then◌else◌, List, [], ◌∷◌, ◌++◌, length, Option, Result}
 use Rattle.std.specs.Result.{result_ok, result_err}
 use Rattle.byteorder.specs.Endian.{little_bytes}
@@ -86,7 +86,7 @@ chunk_get_layout = reserved 1 (Number 1 any (λ handle. Number 2 any (λ number.
 
 -- ---- The whole request
 
--- The fields behind a code that goes with its SPDMVersion.
+-- The fields after a code that goes with its SPDMVersion.
 unfoldable pub request_body : ℕ → ℕ → Layout RequestMessage
 request_body hash_len code =
     if code == GET_VERSION then get_version_layout
@@ -108,19 +108,19 @@ request_layout hash_len =
     Number 1 (is_request_code version) (λ code.
     request_body hash_len code))
 
--- The bytes spell the request, where a hash has so many bytes.
+-- The bytes encode the request, where a hash has so many bytes.
 abbrev pub IsRequestSpelling : ℕ → RequestMessage → List ℕ → Type 0
 IsRequestSpelling hash_len message bytes = IsSpelling (request_layout hash_len) 0 message bytes
 
--- The request that bytes spell, or their first fault.
+-- The request that bytes encode, or their first fault.
 abbrev pub request_reading : ℕ → List ℕ → Result RequestMessage Malformed
 request_reading hash_len bytes = read (request_layout hash_len) (front bytes)
 
--- The request that bytes spell, if they spell one.
+-- The request that bytes encode, if they encode one.
 abbrev pub request_in : ℕ → List ℕ → Option RequestMessage
 request_in hash_len bytes = result_ok (request_reading hash_len bytes)
 
--- The first fault of bytes that spell none.
+-- The first fault of bytes that encode none.
 abbrev pub request_fault : ℕ → List ℕ → Option Malformed
 request_fault hash_len bytes = result_err (request_reading hash_len bytes)
 
@@ -148,7 +148,8 @@ FitsRequest EndSession = Unit {0}
 FitsRequest (ChunkSend chunk) = FitsChunk chunk
 FitsRequest (ChunkGet handle number) = (handle < 256) × (number < 2 ^ 16)
 
--- An offer that has a spelling: external entries of four bytes each, up to 255 of either kind, as many structures as told, and a length that Length can tell.
+-- An offer that has an encoding: external entries of four bytes each, up to 255 of either kind, as many structures as
+-- told, and a length that Length can tell.
 pub record IsSoundOffer (offer : OfferMessage) : Type 0 where
   pub ext_asym : length offer.ext_asym % 4 ≡ 0
   pub ext_asym_few : length offer.ext_asym ≤ 1020
@@ -157,7 +158,8 @@ pub record IsSoundOffer (offer : OfferMessage) : Type 0 where
   pub tables : AreTables offer.count offer.tables
   pub told : 32 + length offer.ext_asym + length offer.ext_hash + length offer.tables < 2 ^ 16
 
--- An exchange that has a spelling: a known kind of summary, a context of at least so many bytes as a hash has, and lengths that their fields can tell.
+-- An exchange that has an encoding: a known kind of summary, a context of at least so many bytes as a hash has, and
+-- lengths that their fields can tell.
 pub record IsSoundExchange (hash_len : ℕ) (exchange : ExchangeMessage) : Type 0 where
   pub summary : is_summary exchange.summary ≡ true
   pub hint : length exchange.hint < 2 ^ 16
@@ -165,7 +167,7 @@ pub record IsSoundExchange (hash_len : ℕ) (exchange : ExchangeMessage) : Type 
   pub context : length exchange.context < 2 ^ 16
   pub opaque : length exchange.opaque ≤ 1024
 
--- The requests that have a spelling, of those whose numbers fit.
+-- The requests that have an encoding, of those whose numbers fit.
 abbrev pub IsSoundRequest : ℕ → RequestMessage → Type 0
 IsSoundRequest hash_len GetVersion = Unit {0}
 IsSoundRequest hash_len (GetCapabilities caps) = Unit {0}
@@ -179,7 +181,7 @@ IsSoundRequest hash_len EndSession = Unit {0}
 IsSoundRequest hash_len (ChunkSend chunk) = IsSoundChunk chunk
 IsSoundRequest hash_len (ChunkGet handle number) = Unit {0}
 
--- An offer behind its code.
+-- An offer after its code.
 abbrev pub offer_bytes : OfferMessage → List ℕ
 offer_bytes offer =
     (offer.count ∷ 0 ∷ []) ++ little_bytes 2 (32 + length offer.ext_asym + length offer.ext_hash + length offer.tables)
@@ -187,14 +189,14 @@ offer_bytes offer =
     ++ (length offer.ext_asym / 4 ∷ length offer.ext_hash / 4 ∷ 0 ∷ 0 ∷ [])
     ++ offer.ext_asym ++ offer.ext_hash ++ offer.tables
 
--- An exchange behind its code.
+-- An exchange after its code.
 abbrev pub exchange_bytes : ExchangeMessage → List ℕ
 exchange_bytes exchange =
     (exchange.summary ∷ 0 ∷ []) ++ little_bytes 2 exchange.req_id ++ little_bytes 2 (length exchange.hint)
     ++ little_bytes 2 (length exchange.context) ++ little_bytes 2 (length exchange.opaque)
     ++ exchange.hint ++ exchange.context ++ exchange.opaque
 
--- The one spelling that is written: zero in each reserved field.
+-- The one encoding that is written: every reserved field is zero.
 abbrev pub canonical_request : RequestMessage → List ℕ
 canonical_request GetVersion = V1_0 ∷ GET_VERSION ∷ 0 ∷ 0 ∷ []
 canonical_request (GetCapabilities caps) = (V1_2 ∷ GET_CAPABILITIES ∷ []) ++ caps_bytes caps

@@ -1,4 +1,4 @@
--- The responses: which bytes spell which one (DSP0274, section 10). A number is spelled with its low byte first.
+-- The responses: which bytes encode which one (DSP0274, section 10). A number is encoded with its low byte first.
 use Rattle.std.specs.Prelude.{◌≡◌, ◌<◌, ◌≤◌, ◌^◌, ◌+◌, ◌*◌, ◌/◌, ◌%◌, ◌==◌, ◌||◌, ◌⊎◌, ℕ, Bool, nat_le, if◌then◌else◌, List, [], ◌∷◌, ◌++◌, length, Option, Result}
 use Rattle.std.specs.Result.{result_ok, result_err}
 use Rattle.byteorder.specs.Endian.{little_bytes}
@@ -115,7 +115,7 @@ error_layout version =
 
 -- ---- The whole response
 
--- The fields behind a code that goes with its SPDMVersion.
+-- The fields after a code that goes with its SPDMVersion.
 unfoldable pub response_body : ℕ → Bool → ℕ → ℕ → Layout ResponseMessage
 response_body hash_len has_summary version code =
     if code == VERSION then version_layout
@@ -138,19 +138,19 @@ response_layout hash_len has_summary =
     Number 1 (is_response_code version) (λ code.
     response_body hash_len has_summary version code))
 
--- The bytes spell the response, where a hash has so many bytes and a measurement summary hash was asked for or not.
+-- The bytes encode the response, where a hash has so many bytes and a measurement summary hash was asked for or not.
 abbrev pub IsResponseSpelling : ℕ → Bool → ResponseMessage → List ℕ → Type 0
 IsResponseSpelling hash_len has_summary message bytes = IsSpelling (response_layout hash_len has_summary) 0 message bytes
 
--- The response that bytes spell, or their first fault.
+-- The response that bytes encode, or their first fault.
 abbrev pub response_reading : ℕ → Bool → List ℕ → Result ResponseMessage Malformed
 response_reading hash_len has_summary bytes = read (response_layout hash_len has_summary) (front bytes)
 
--- The response that bytes spell, if they spell one.
+-- The response that bytes encode, if they encode one.
 abbrev pub response_in : ℕ → Bool → List ℕ → Option ResponseMessage
 response_in hash_len has_summary bytes = result_ok (response_reading hash_len has_summary bytes)
 
--- The first fault of bytes that spell none.
+-- The first fault of bytes that encode none.
 abbrev pub response_fault : ℕ → Bool → List ℕ → Option Malformed
 response_fault hash_len has_summary bytes = result_err (response_reading hash_len has_summary bytes)
 
@@ -180,7 +180,8 @@ FitsResponse (ChunkSendAck early handle number answer) = (handle < 256) × (numb
 FitsResponse (ChunkResponse chunk) = FitsChunk chunk
 FitsResponse (Error version code detail extended) = (code < 256) × (detail < 256)
 
--- A choice that has a spelling: external entries of four bytes each, up to 255 of either kind, as many structures as told, and a length that Length can tell.
+-- A choice that has an encoding: external entries of four bytes each, up to 255 of either kind, as many structures as
+-- told, and a length that Length can tell.
 pub record IsSoundReply (reply : ReplyMessage) : Type 0 where
   pub ext_asym : length reply.ext_asym % 4 ≡ 0
   pub ext_asym_few : length reply.ext_asym ≤ 1020
@@ -189,13 +190,13 @@ pub record IsSoundReply (reply : ReplyMessage) : Type 0 where
   pub tables : AreTables reply.count reply.tables
   pub told : 36 + length reply.ext_asym + length reply.ext_hash + length reply.tables < 2 ^ 16
 
--- Measurements that have a spelling.
+-- Measurements that have an encoding.
 pub record IsSoundMeasured (measured : MeasuredMessage) : Type 0 where
   pub block_bytes : length measured.block_bytes < 2 ^ 24
   pub nonce : length measured.nonce ≡ 32
   pub opaque : length measured.opaque ≤ 1024
 
--- An answer to an exchange that has a spelling.
+-- An answer to an exchange that has an encoding.
 pub record IsSoundExchangeRsp (hash_len : ℕ) (has_summary : Bool) (exchange : ExchangeRspMessage) : Type 0 where
   pub summary : length exchange.summary ≡ summary_len hash_len has_summary
   pub context_long : hash_len ≤ length exchange.context
@@ -208,7 +209,7 @@ abbrev pub IsExtended : ℕ → List ℕ → Type 0
 IsExtended code extended =
     (code ≡ RESPONSE_TOO_LARGE → length extended ≡ 4) × (code ≡ LARGE_RESPONSE → length extended ≡ 1) × (length extended ≤ 32)
 
--- The responses that have a spelling, of those whose numbers fit.
+-- The responses that have an encoding, of those whose numbers fit.
 abbrev pub IsSoundResponse : ℕ → Bool → ResponseMessage → Type 0
 IsSoundResponse hash_len has_summary (Version entries) = (length entries % 2 ≡ 0) × (length entries ≤ 510)
 IsSoundResponse hash_len has_summary (Capabilities caps) = Unit {0}
@@ -224,7 +225,7 @@ IsSoundResponse hash_len has_summary (ChunkResponse chunk) = IsSoundChunk chunk
 IsSoundResponse hash_len has_summary (Error version code detail extended) =
     ((version ≡ V1_0) ⊎ (version ≡ V1_2)) × IsExtended code extended
 
--- A choice behind its code.
+-- A choice after its code.
 abbrev pub reply_bytes : ReplyMessage → List ℕ
 reply_bytes reply =
     (reply.count ∷ 0 ∷ []) ++ little_bytes 2 (36 + length reply.ext_asym + length reply.ext_hash + length reply.tables)
@@ -232,20 +233,20 @@ reply_bytes reply =
     ++ (length reply.ext_asym / 4 ∷ length reply.ext_hash / 4 ∷ 0 ∷ 0 ∷ [])
     ++ reply.ext_asym ++ reply.ext_hash ++ reply.tables
 
--- Measurements behind their code.
+-- Measurements after their code.
 abbrev pub measured_bytes : MeasuredMessage → List ℕ
 measured_bytes measured =
     (measured.total ∷ 0 ∷ measured.blocks ∷ []) ++ little_bytes 3 (length measured.block_bytes) ++ measured.block_bytes
     ++ measured.nonce ++ little_bytes 2 (length measured.opaque) ++ measured.opaque
 
--- An answer to an exchange behind its code.
+-- An answer to an exchange after its code.
 abbrev pub exchange_rsp_bytes : ExchangeRspMessage → List ℕ
 exchange_rsp_bytes exchange =
     (exchange.heartbeat ∷ 0 ∷ []) ++ little_bytes 2 exchange.rsp_id ++ zeros 2
     ++ little_bytes 2 (length exchange.context) ++ little_bytes 2 (length exchange.opaque)
     ++ exchange.summary ++ exchange.context ++ exchange.opaque ++ exchange.verify
 
--- The one spelling that is written: zero in each reserved field.
+-- The one encoding that is written: every reserved field is zero.
 abbrev pub canonical_response : ResponseMessage → List ℕ
 canonical_response (Version entries) = (V1_0 ∷ VERSION ∷ 0 ∷ 0 ∷ 0 ∷ length entries / 2 ∷ []) ++ entries
 canonical_response (Capabilities caps) = (V1_2 ∷ CAPABILITIES ∷ []) ++ caps_bytes caps

@@ -8,33 +8,33 @@ ghost use Rattle.spdm_grammar.specs.Ends.{EndsByItself};
 ghost use Rattle.spdm_grammar.specs.declared.messages.malformed.Malformed.{Malformed};
 ghost use Rattle.spdm_grammar.specs.declared.messages.malformed.Part.TheVariants.{End};
 
-/// The function on bytes answers a request exactly where they spell it.
+/// The function on bytes answers a request exactly when they encode it.
 pub fn request_in_is_spelled()
     ensures { (hash_len : ℕ) (message : RequestMessage) (bytes : List ℕ) →
         (request_in hash_len bytes ≡ Some message) ↔ IsRequestSpelling hash_len message bytes }
 {}
 
-/// The function on bytes answers a response exactly where they spell it.
+/// The function on bytes answers a response exactly when they encode it.
 pub fn response_in_is_spelled()
     ensures { (hash_len : ℕ) (summary : Bool) (message : ResponseMessage) (bytes : List ℕ) →
         (response_in hash_len summary bytes
         ≡ Some message) ↔ IsResponseSpelling hash_len summary message bytes }
 {}
 
-/// Bytes spell one request at most.
+/// Bytes encode one request at most.
 pub fn one_request()
     ensures { (hash_len : ℕ) (m n : RequestMessage) (bytes : List ℕ) →
         IsRequestSpelling hash_len m bytes → IsRequestSpelling hash_len n bytes → m ≡ n }
 {}
 
-/// Bytes spell one response at most.
+/// Bytes encode one response at most.
 pub fn one_response()
     ensures { (hash_len : ℕ) (summary : Bool) (m n : ResponseMessage) (bytes : List ℕ) →
         IsResponseSpelling hash_len summary m bytes → IsResponseSpelling hash_len summary n bytes
         → m ≡ n }
 {}
 
-/// The canonical spelling of a sound request spells it, and so is read as that request.
+/// The canonical encoding of a sound request encodes it, and so is read as that request.
 pub fn canonical_request_is_read()
     ensures spelled { (hash_len : ℕ) (message : RequestMessage) → FitsRequest message
         → IsSoundRequest hash_len message →
@@ -44,7 +44,7 @@ pub fn canonical_request_is_read()
         request_in hash_len (canonical_request message) ≡ Some message }
 {}
 
-/// The canonical spelling of a sound response spells it, and so is read as that response.
+/// The canonical encoding of a sound response encodes it, and so is read as that response.
 pub fn canonical_response_is_read()
     ensures spelled { (hash_len : ℕ) (summary : Bool) (message : ResponseMessage)
         → FitsResponse message → IsSoundResponse hash_len summary message →
@@ -54,14 +54,14 @@ pub fn canonical_response_is_read()
         response_in hash_len summary (canonical_response message) ≡ Some message }
 {}
 
-/// No spelling of a request is a proper prefix of another.
+/// No encoding of a request is a proper prefix of another.
 pub fn no_request_prefix()
     ensures { (hash_len : ℕ) (m n : RequestMessage) (bytes more : List ℕ) →
         IsRequestSpelling hash_len m bytes → IsRequestSpelling hash_len n (bytes ++ more)
         → more ≡ [] }
 {}
 
-/// No spelling of a response other than CHUNK_SEND_ACK and ERROR is a proper prefix of another.
+/// No encoding of a response other than CHUNK_SEND_ACK and ERROR is a proper prefix of another.
 pub fn no_response_prefix()
     ensures { (hash_len : ℕ) (summary : Bool) (m n : ResponseMessage) (bytes more : List ℕ)
         → EndsByItself m →
@@ -83,7 +83,7 @@ pub fn response_fault_stays()
         → response_fault hash_len summary (bytes ++ more) ≡ Some fault }
 {}
 
-/// What bytes spell is a request whose numbers fit their fields and that is sound.
+/// What bytes encode is a request whose numbers fit their fields and that is sound.
 pub fn spelled_request_is_sound()
     ensures { (hash_len : ℕ) (message : RequestMessage) (bytes : List ℕ) → ((i : ℕ)
         → slice_index bytes i < 256) →
@@ -91,7 +91,7 @@ pub fn spelled_request_is_sound()
         → FitsRequest message × IsSoundRequest hash_len message }
 {}
 
-/// What bytes spell is a response whose numbers fit their fields and that is sound.
+/// What bytes encode is a response whose numbers fit their fields and that is sound.
 pub fn spelled_response_is_sound()
     ensures { (hash_len : ℕ) (summary : Bool) (message : ResponseMessage) (bytes : List ℕ)
         → ((i : ℕ) → slice_index bytes i < 256) →

@@ -1,8 +1,8 @@
-//! The messages of SPDM 1.2 sessions under pre-shared keys (DSP0274, section 10): their values, the
-//! bytes that spell them, and where bytes that spell none are at fault.
+//! The messages of SPDM 1.2 sessions under pre-shared keys (DSP0274, section 10): their values, the bytes that encode
+//! them, and where bytes that encode none are at fault.
 //!
-//! Read first: `request_message` in `specs/Message.antt`, the bytes that spell a request. The law
-//! to read first is `canonical_request_is_read`.
+//! Read first: `request_message` in `specs/Message.antt`, the bytes that encode a request. The law to read first is
+//! `canonical_request_is_read`.
 #![tactic(auto)]
 
 mod messages;

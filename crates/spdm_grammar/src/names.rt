@@ -203,7 +203,7 @@ pub const PSK_EXCHANGE_FIELDS_LEN: usize = 12;
 /// (DSP0274, "PSK_EXCHANGE_RSP response message format").
 pub const PSK_EXCHANGE_RSP_FIELDS_LEN: usize = 12;
 
-/// The length of CHUNK_SEND and CHUNK_RESPONSE in front of the chunk and, in the first one, of the size of the large
+/// The length of CHUNK_SEND and CHUNK_RESPONSE before the chunk and, in the first one, of the size of the large
 /// message, in bytes (DSP0274, "CHUNK_SEND request message format").
 pub const CHUNK_FIELDS_LEN: usize = 12;
 
@@ -211,15 +211,15 @@ pub const CHUNK_FIELDS_LEN: usize = 12;
 /// format").
 pub const LARGE_SIZE_LEN: usize = 4;
 
-/// The length of CHUNK_SEND_ACK in front of the response to the large request, in bytes (DSP0274, "CHUNK_SEND_ACK
-/// response message format").
+/// The length of CHUNK_SEND_ACK before the response to the large request, in bytes (DSP0274, "CHUNK_SEND_ACK response
+/// message format").
 pub const CHUNK_SEND_ACK_FIELDS_LEN: usize = 6;
 
 /// The measurement operation that asks for all blocks (DSP0274, "GET_MEASUREMENTS request message format").
 pub const ALL_BLOCKS: u8 = 255;
 
-/// The length of MEASUREMENTS without its record and its opaque data, in bytes (DSP0274, "MEASUREMENTS
-/// response message format").
+/// The length of MEASUREMENTS without its record and its opaque data, in bytes (DSP0274, "MEASUREMENTS response message
+/// format").
 pub const MEASUREMENTS_FIELDS_LEN: u32 = 42;
 
 /// Bits of BaseHashAlgo and BaseHashSel (DSP0274, "NEGOTIATE_ALGORITHMS request message format").

@@ -1,7 +1,6 @@
 use crate::messages::tables::are_tables;
 
-/// What a requester offers in NEGOTIATE_ALGORITHMS (DSP0274, "NEGOTIATE_ALGORITHMS request message
-/// format").
+/// What a requester offers in NEGOTIATE_ALGORITHMS (DSP0274, "NEGOTIATE_ALGORITHMS request message format").
 #[derive(Clone, Copy, Debug, PartialEq, Eq)]
 pub struct AlgOffer<'a> {
     /// MeasurementSpecification: bit 0 is DMTF.
@@ -18,7 +17,7 @@ pub struct AlgOffer<'a> {
     pub ext_hash: &'a [u8],
     /// How many algorithm structures `tables` holds.
     pub count: u8,
-    /// The algorithm structures, one behind the other, as they stand in the message.
+    /// The algorithm structures, one after the other, as they stand in the message.
     pub tables: &'a [u8],
 }
 
@@ -41,7 +40,7 @@ pub struct AlgReply<'a> {
     pub ext_hash: &'a [u8],
     /// How many algorithm structures `tables` holds.
     pub count: u8,
-    /// The algorithm structures, one behind the other, as they stand in the message.
+    /// The algorithm structures, one after the other, as they stand in the message.
     pub tables: &'a [u8],
 }
 
@@ -50,8 +49,8 @@ impl AlgOffer<'_> {
     ghost use Rattle.spdm_grammar.specs.Message.{offer_message};
     ghost use Rattle.spdm_grammar.specs.Requests.{IsSoundOffer};
 
-    /// Whether the offer has a spelling: whole external entries, up to 255 of either kind, `count`
-    /// structures, and a length that two bytes can tell.
+    /// Whether the offer has an encoding: whole external entries, up to 255 of either kind, `count` structures, and a
+    /// length that two bytes can tell.
     pub fn is_sound(&self) -> bool
         ensures { IsTrue result ↔ IsSoundOffer (offer_message self.now) }
     {
@@ -70,8 +69,8 @@ impl AlgReply<'_> {
     ghost use Rattle.spdm_grammar.specs.Message.{reply_message};
     ghost use Rattle.spdm_grammar.specs.Responses.{IsSoundReply};
 
-    /// Whether the choice has a spelling: whole external entries, up to 255 of either kind, `count`
-    /// structures, and a length that two bytes can tell.
+    /// Whether the choice has an encoding: whole external entries, up to 255 of either kind, `count` structures, and a
+    /// length that two bytes can tell.
     pub fn is_sound(&self) -> bool
         ensures { IsTrue result ↔ IsSoundReply (reply_message self.now) }
     {

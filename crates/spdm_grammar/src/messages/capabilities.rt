@@ -1,5 +1,4 @@
-/// What an end can do, in GET_CAPABILITIES and CAPABILITIES (DSP0274, "GET_CAPABILITIES request
-/// message format").
+/// What an end can do, in GET_CAPABILITIES and CAPABILITIES (DSP0274, "GET_CAPABILITIES request message format").
 #[derive(Clone, Copy, Debug, PartialEq, Eq)]
 pub struct Caps {
     /// CTExponent: a cryptographic answer takes up to 2 to this power microseconds.

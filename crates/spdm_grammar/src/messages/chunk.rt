@@ -1,5 +1,4 @@
-/// A piece of a large message, in CHUNK_SEND and CHUNK_RESPONSE (DSP0274, "CHUNK_SEND request message
-/// format").
+/// A piece of a large message, in CHUNK_SEND and CHUNK_RESPONSE (DSP0274, "CHUNK_SEND request message format").
 #[derive(Clone, Copy, Debug, PartialEq, Eq)]
 pub struct ChunkView<'a> {
     /// LastChunk: no piece comes after this one.
@@ -19,8 +18,7 @@ impl ChunkView<'_> {
     ghost use Rattle.spdm_grammar.specs.Message.{chunk_message};
     ghost use Rattle.spdm_grammar.specs.Fields.{IsSoundChunk};
 
-    /// Whether the piece has a spelling: the one of number 0, and no other, tells the size of the
-    /// whole.
+    /// Whether the piece has an encoding: the one of number 0, and no other, tells the size of the whole.
     pub fn is_sound(&self) -> bool
         ensures { IsTrue result ↔ IsSoundChunk (chunk_message self.now) }
     {

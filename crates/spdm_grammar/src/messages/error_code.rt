@@ -7,8 +7,7 @@ use crate::names::error_number::{
     VERSION_MISMATCH,
 };
 
-/// The codes of ERROR that the responder of this project sends, and Unspecified (DSP0274, "Error
-/// code and error data").
+/// The codes of ERROR that the responder of this project sends, and Unspecified (DSP0274, "Error code and error data").
 #[derive(Clone, Copy, Debug, PartialEq, Eq)]
 pub enum ErrorCode {
     InvalidRequest,

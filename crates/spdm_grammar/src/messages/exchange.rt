@@ -35,7 +35,7 @@ impl Exchange<'_> {
     ghost use Rattle.spdm_grammar.specs.Message.{exchange_message};
     ghost use Rattle.spdm_grammar.specs.Requests.{IsSoundExchange};
 
-    /// Whether the exchange has a spelling, where a hash has `hash_len` bytes.
+    /// Whether the exchange has an encoding, where a hash has `hash_len` bytes.
     pub fn is_sound(&self, hash_len: usize) -> bool
         ensures { IsTrue result ↔ IsSoundExchange hash_len (exchange_message self.now) }
     {
@@ -52,8 +52,8 @@ impl ExchangeRsp<'_> {
     ghost use Rattle.spdm_grammar.specs.Message.{exchange_rsp_message};
     ghost use Rattle.spdm_grammar.specs.Responses.{IsSoundExchangeRsp};
 
-    /// Whether the answer has a spelling, where a hash has `hash_len` bytes and `summary` says
-    /// whether a measurement summary hash was asked for.
+    /// Whether the answer has an encoding, where a hash has `hash_len` bytes and `summary` says whether a measurement
+    /// summary hash was asked for.
     pub fn is_sound(&self, hash_len: usize, summary: bool) -> bool
         ensures { IsTrue result ↔ IsSoundExchangeRsp hash_len summary
             (exchange_rsp_message self.now) }

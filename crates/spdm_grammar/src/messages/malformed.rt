@@ -9,16 +9,16 @@ pub enum Part {
     Field,
     /// The Length field does not tell the length of the message.
     Length,
-    /// Bytes stand behind the last field.
+    /// Bytes follow the last field.
     Rest,
 }
 
-/// Where bytes that spell no message are at fault: the first fault in the order of the fields.
+/// Where bytes that encode no message are at fault: the first fault in the order of the fields.
 #[derive(Clone, Copy, Debug, PartialEq, Eq, Error)]
 #[error("malformed at byte {at}: {what:?}")]
 pub struct Malformed {
-    /// The offset of the first byte of the field at fault, or of the first byte behind the last field;
-    /// the length of the bytes where they end too early.
+    /// The offset of the first byte of the field at fault, or of the first byte after the last field; the length of the
+    /// bytes where they end too early.
     pub at: usize,
     /// The part at fault.
     pub what: Part,

@@ -5,7 +5,7 @@ pub struct Measured<'a> {
     pub total: u8,
     /// NumberOfBlocks: how many stand in `block_bytes`.
     pub blocks: u8,
-    /// MeasurementRecordData: the blocks, one behind the other.
+    /// MeasurementRecordData: the blocks, one after the other.
     pub block_bytes: &'a [u8],
     /// Nonce: 32 bytes.
     pub nonce: &'a [u8],
@@ -18,7 +18,7 @@ impl Measured<'_> {
     ghost use Rattle.spdm_grammar.specs.Message.{measured_message};
     ghost use Rattle.spdm_grammar.specs.Responses.{IsSoundMeasured};
 
-    /// Whether the measurements have a spelling.
+    /// Whether the measurements have an encoding.
     pub fn is_sound(&self) -> bool
         ensures { IsTrue result ↔ IsSoundMeasured (measured_message self.now) }
     {

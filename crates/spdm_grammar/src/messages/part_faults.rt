@@ -1,7 +1,6 @@
 use thiserror::Error;
 
-/// Why the capabilities of two ends do not go together (DSP0274, "CAPABILITIES"), in the order in which
-/// they are tested.
+/// Why the capabilities of two ends do not go together (DSP0274, "CAPABILITIES"), in the order of the checks.
 #[derive(Clone, Copy, Debug, PartialEq, Eq, Error)]
 pub enum CapsFault {
     /// A DataTransferSize is below 42.

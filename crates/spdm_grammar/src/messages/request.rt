@@ -1,7 +1,6 @@
 use crate::{AlgOffer, Caps, ChunkView, Exchange};
 
-/// A request (DSP0274, "SPDM request codes"), with its variable parts lent from the bytes that it was
-/// read from.
+/// A request (DSP0274, "SPDM request codes"), with its variable parts lent from the bytes that it was read from.
 #[derive(Clone, Copy, Debug, PartialEq, Eq)]
 pub enum Request<'a> {
     GetVersion,
@@ -25,7 +24,7 @@ impl Request<'_> {
     ghost use Rattle.spdm_grammar.specs.Message.{request_message};
     ghost use Rattle.spdm_grammar.specs.Requests.{IsSoundRequest};
 
-    /// Whether the request has a spelling, where a hash has `hash_len` bytes.
+    /// Whether the request has an encoding, where a hash has `hash_len` bytes.
     pub fn is_sound(&self, hash_len: usize) -> bool
         ensures { IsTrue result ↔ IsSoundRequest hash_len (request_message self.now) }
     {

@@ -5,12 +5,11 @@ use crate::names::error_number::{LARGE_RESPONSE, RESPONSE_TOO_LARGE};
 use crate::names::spdm_version::{V1_0, V1_2};
 use crate::{AlgReply, Caps, ChunkView, ExchangeRsp, Measured};
 
-/// A response (DSP0274, "SPDM response codes"), with its variable parts lent from the bytes that it
-/// was read from.
+/// A response (DSP0274, "SPDM response codes"), with its variable parts lent from the bytes that it was read from.
 #[derive(Clone, Copy, Debug, PartialEq, Eq)]
 pub enum Response<'a> {
-    /// The versions that the responder speaks: two bytes each, the low byte first, with the major
-    /// version in bits 15:12, the minor one in 11:8, the update in 7:4 and alpha in 3:0.
+    /// The versions that the responder speaks: two bytes each, little-endian, with the major version in bits 15:12, the
+    /// minor one in 11:8, the update in 7:4 and alpha in 3:0.
     Version {
         entries: &'a [u8],
     },
@@ -34,9 +33,9 @@ pub enum Response<'a> {
         response: &'a [u8],
     },
     ChunkResponse(ChunkView<'a>),
-    /// `version` is the SPDMVersion of the message, 0x10 or 0x12. `code` is the number of an
-    /// `ErrorCode` or any other, and `detail` its error data. `extended` is four bytes for
-    /// ResponseTooLarge, one for LargeResponse, and up to 32 for any other code.
+    /// `version` is the SPDMVersion of the message, 0x10 or 0x12. `code` is the number of an `ErrorCode` or any other,
+    /// and `detail` its error data. `extended` is four bytes for ResponseTooLarge, one for LargeResponse, and up to 32
+    /// for any other code.
     Error {
         version: u8,
         code: u8,
@@ -50,8 +49,8 @@ impl Response<'_> {
     ghost use Rattle.spdm_grammar.specs.Message.{response_message};
     ghost use Rattle.spdm_grammar.specs.Responses.{IsSoundResponse};
 
-    /// Whether the response has a spelling, where a hash has `hash_len` bytes and `summary` says
-    /// whether a measurement summary hash was asked for.
+    /// Whether the response has an encoding, where a hash has `hash_len` bytes and `summary` says whether a measurement
+    /// summary hash was asked for.
     pub fn is_sound(&self, hash_len: usize, summary: bool) -> bool
         ensures { IsTrue result ↔ IsSoundResponse hash_len summary (response_message self.now) }
     {

@@ -13,7 +13,7 @@ fn first_table_len(bytes: &[u8]) -> Option<usize>
     if bytes.len() < len { None } else { Some(len) }
 }
 
-// Whether the bytes are so many algorithm structures, one behind the other.
+// Whether the bytes are so many algorithm structures, one after the other.
 pub fn are_tables(count: u8, bytes: &[u8]) -> bool
     ensures { IsTrue result ↔ AreTables count bytes.now }
 {

@@ -1,6 +1,6 @@
 use thiserror::Error;
 
-/// Why a requester does not do a command, in the order in which it is tested.
+/// Why a requester does not do a command, in the order of the checks.
 #[derive(Clone, Copy, Debug, PartialEq, Eq, Error)]
 pub enum CommandFault {
     /// 2^40 packets and commands were taken before.

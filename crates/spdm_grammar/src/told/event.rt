@@ -2,7 +2,7 @@ use crate::{CapsFault, ChunkFault};
 use spdm_basis::{DropCause, PacketFault, RecordFault, SessionId};
 use thiserror::Error;
 
-/// What a packet led to at a requester.
+/// The outcome of a packet at a requester.
 #[derive(Clone, Copy, Debug, PartialEq, Eq)]
 pub enum Event {
     /// A further message was sent.
@@ -23,7 +23,7 @@ pub enum Event {
     Ignored(ReqIgnored),
 }
 
-/// What a command came to.
+/// The outcome of a command.
 #[derive(Clone, Copy, Debug, PartialEq, Eq)]
 pub enum Finished {
     /// The negotiation is whole.
@@ -68,18 +68,18 @@ pub enum BadReply {
     /// The inner message is malformed, at this byte.
     #[error("malformed at byte {0}")]
     Malformed(usize),
-    /// Another answer than the awaited one.
+    /// Another answer than the expected one.
     #[error("another answer")]
     WrongKind,
     /// ERROR of this code, after which the session can't go on.
     #[error("refused with error code {0}")]
     Refused(u8),
-    /// A chunk of a large answer is refused.
+    /// A chunk of a large response is refused.
     #[error("chunk: {0}")]
     Chunk(ChunkFault),
 }
 
-/// Why a packet is ignored at a requester, in the order in which it is tested.
+/// Why a packet is ignored at a requester, in the order of the checks.
 #[derive(Clone, Copy, Debug, PartialEq, Eq, Error)]
 pub enum ReqIgnored {
     /// 2^40 packets and commands were taken before.
@@ -112,7 +112,7 @@ pub enum ReqIgnored {
     /// The message is malformed, at this byte.
     #[error("malformed at byte {0}")]
     Malformed(usize),
-    /// A chunk of a large answer is refused.
+    /// A chunk of a large response is refused.
     #[error("chunk: {0}")]
     Chunk(ChunkFault),
     /// The verify data of PSK_EXCHANGE_RSP is not the computed one.

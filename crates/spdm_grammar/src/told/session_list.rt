@@ -5,7 +5,7 @@ use arrayvec::ArrayVec;
 use spdm_basis::{AeadAlg, HashAlg, HashBytes, SessionId};
 use std::marker::Model;
 
-/// Up to four sessions as an end shows them, kept in place. Contracts see them as a list.
+/// Up to four session views, stored inline. In contracts, a list.
 #[derive(Clone, Debug, Drop)]
 pub struct SessionList {
     views: ArrayVec<SessionView, 4>,
@@ -51,7 +51,7 @@ impl SessionList {
         }
     }
 
-    /// Those of four that there are, in their order.
+    /// Those of four that are present, in order.
     pub fn of(
         first: Option<SessionView>,
         second: Option<SessionView>,
@@ -69,7 +69,7 @@ impl SessionList {
         list
     }
 
-    // One more behind the others, if there is one.
+    // Appends a view, if there is one.
     fn add(&mut self, view: Option<SessionView>)
         requires { length self.old < 4 }
         ensures value { self.new ≡ self.old ++ option_to_list view }

@@ -1,20 +1,20 @@
 use crate::{Choice, Stage};
 use spdm_basis::{HashBytes, SessionId};
 
-/// A session as an end shows it.
+/// A view of a session at one endpoint.
 #[derive(Clone, Debug, Drop)]
 pub struct SessionView {
     pub id: SessionId,
     pub stage: Stage,
-    /// How often the request key was updated.
+    /// Key epoch of the request direction: the number of updates.
     pub request_epoch: u64,
-    /// How often the response key was updated.
+    /// Key epoch of the response direction: the number of updates.
     pub response_epoch: u64,
-    /// The number of the next record of a request.
+    /// Sequence number of the next request record.
     pub request_next: u32,
-    /// The number of the next record of a response.
+    /// Sequence number of the next response record.
     pub response_next: u32,
-    /// How many application messages were taken at this end.
+    /// Application messages received at this endpoint.
     pub taken: u64,
     /// The hash of T1 in the handshake, and of T2 after it.
     pub hash: HashBytes,

@@ -1,15 +1,15 @@
 use thiserror::Error;
 
-/// Why a packet is the first of a capture that differs.
+/// Why the packets of a capture stop conforming at this one.
 #[derive(Clone, Copy, Debug, PartialEq, Eq, Error)]
 pub enum Why {
     /// It is no packet, is dropped, or completes a body of another type.
     #[error("a bad packet")]
     BadPacket,
-    /// It does not go between the responder and a configured requester.
+    /// It does not travel between the responder and a configured requester.
     #[error("an unknown end")]
     UnknownEnd,
-    /// It stands where no message of its direction may stand.
+    /// No message of its direction is allowed here.
     #[error("out of turn")]
     WrongTurn,
     /// The requester may not send this message.
