@@ -22,16 +22,15 @@ pub record Draw : Type 0 where
 abbrev pub draw_of : List ℕ → ℕ → Draw
 draw_of seed number = record { number = number; bytes = draw seed number }
 
--- A context is as long as the hash and holds the number of its draw, so that no two are equal: the first 24
--- bytes of the draw and the number as eight bytes, the lowest first, with SHA-256; the draw, the number and
--- eight zero bytes with SHA-384. This project's own.
+-- A context is as long as the hash and holds the number of its draw, so that no two are equal: the first 24 bytes of
+-- the draw and the number as eight bytes, little-endian, with SHA-256; the draw, the number and eight zero bytes with
+-- SHA-384. This project's own.
 abbrev pub context_of : HashAlg → Draw → List ℕ
 context_of Sha256 d = take 24 d.bytes ++ little_bytes 8 d.number
 context_of Sha384 d = d.bytes ++ little_bytes 8 d.number ++ replicate 8 0
 
--- Verify data of a direction: HMAC of the hash of a transcript under the finished key that belongs to T1
--- (DSP0274, "PSK_EXCHANGE_RSP" and "PSK_FINISH"). The transcript is T1 itself for the responder's, and Tv
--- for the requester's.
+-- Verify data of a direction: HMAC of the hash of a transcript under the finished key that belongs to T1 (DSP0274,
+-- "PSK_EXCHANGE_RSP" and "PSK_FINISH"). The transcript is T1 itself for the responder's, and Tv for the requester's.
 unfoldable pub verify_data : Choice → List ℕ → List ℕ → Direction → List ℕ → List ℕ
 verify_data choice psk t1 direction transcript =
     hmac (hash_of choice.hash) (key_of choice.hash choice.aead (verify psk t1 direction)) ((hash_of choice.hash).digest transcript)

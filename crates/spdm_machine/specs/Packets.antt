@@ -1,11 +1,11 @@
--- Packets given to an end, and the bodies that they complete. An end hears a body as a whole, by all packets
--- that it was ever given.
+-- Packets given to an end, and the bodies that they complete. An end hears a body as a whole, by all packets that it
+-- was ever given.
 use Rattle.std.specs.Prelude.{◌^◌, ℕ, List, [], ◌∷◌, slice_index, Bool, Result, Ok, Err}
 use Rattle.mctp_framing.specs.Cutting.{packets_of}
 use Rattle.mctp_framing.specs.Gathering.{Gathered, gathered}
 use Rattle.mctp_framing.specs.Packet.{PacketFields, parsed}
 
--- The fields of a packet in front of the others; bytes that are no packet add none.
+-- The fields of a packet before the others; bytes that are no packet add none.
 abbrev pub fields_with : {E : Type 0} → Result PacketFields E → List PacketFields → List PacketFields
 fields_with (Ok packet) others = packet ∷ others
 fields_with (Err fault) others = others

@@ -1,5 +1,5 @@
--- What both ends read alike off a session: its ids, its stage, the transcript and the purposes that belong to
--- the stage.
+-- What both ends read alike off a session: its ids, its stage, the transcript and the purposes that belong to the
+-- stage.
 use Rattle.std.specs.Prelude.{ℕ, List, drop, if◌then◌else◌, Bool, true, false}
 use Rattle.byteorder.specs.Endian.{little_number}
 use Rattle.key_schedule.specs.Purpose.{Purpose, handshake_record, application_record}
@@ -7,8 +7,8 @@ use Rattle.key_schedule.specs.declared.direction.Direction.{Direction}
 use Rattle.spdm_grammar.specs.declared.told.phase.Stage.{Stage}
 use Rattle.spdm_grammar.specs.declared.told.phase.Stage.TheVariants.{Handshake, Open, Verifying}
 
--- ReqSessionID and RspSessionID are the two bytes behind the header of PSK_EXCHANGE and of PSK_EXCHANGE_RSP
--- (DSP0274, "PSK_EXCHANGE").
+-- ReqSessionID and RspSessionID are the two bytes after the header of PSK_EXCHANGE and of PSK_EXCHANGE_RSP (DSP0274,
+-- "PSK_EXCHANGE").
 abbrev pub id_in_exchange : List ℕ → ℕ
 id_in_exchange message = little_number 2 (drop 4 message)
 

@@ -1,5 +1,5 @@
--- The tags that an end computes, and what it compares them with. This project's own notion: agreement of the
--- ends rests on these comparisons alone.
+-- The tags that an end computes, and what it compares them with. This project's own notion: agreement of the ends rests
+-- on these comparisons alone.
 use Rattle.std.specs.Prelude.{ℕ, ◌-◌, List, [], ◌∷◌, length, take, if◌then◌else◌, is_none}
 use Rattle.aes_gcm.specs.Gcm.{tag_of}
 use Rattle.key_schedule.specs.Purpose.{Purpose, key_of, iv_of}
@@ -7,9 +7,9 @@ use Rattle.secured_record.specs.Faults.{header_fault, tag_part, text_part}
 use Rattle.secured_record.specs.Format.{nonce}
 use Rattle.spdm_grammar.specs.declared.messages.choice.Choice.{Choice}
 
--- A tag was made; or one was made to be compared with a received one. Each has its purpose, what it was
--- computed over, and its value. What verify data are computed over is T1 or Tv. What the tag of a record is
--- computed over is its number, written in front, and the record without its tag.
+-- A tag was made; or one was made to be compared with a received one. Each has its purpose, what it was computed over,
+-- and its value. What verify data are computed over is T1 or Tv. What the tag of a record is computed over is its
+-- number, written in front, and the record without its tag.
 pub data Act : Type 0 where
   Made : (purpose : Purpose) → (input : List ℕ) → (value : List ℕ) → Act
   Checked : (purpose : Purpose) → (input : List ℕ) → (value : List ℕ) → (received : List ℕ) → Act

@@ -1,6 +1,6 @@
--- What a negotiation settled, read off its messages alone, so that two ends that have the same messages have
--- the same terms. DSP0274, section 10: the messages of the negotiation; what stands where nothing was settled
--- is this project's own.
+-- What a negotiation settled, read off its messages alone, so that two ends that have the same messages have the same
+-- terms. DSP0274, section 10: the messages of the negotiation; what stands where nothing was settled is this project's
+-- own.
 use Rattle.std.specs.Prelude.{ℕ, List, [], false, Option, Some, None, unwrap_or}
 use Rattle.std.specs.Result.{result_ok}
 use Rattle.negotiate.specs.Capabilities.{common_of}
@@ -84,8 +84,8 @@ abbrev pub choice_from : Option OfferMessage → Option ReplyMessage → Choice
 choice_from (Some offer) (Some reply) = unwrap_or (agreed offer reply) no_choice
 choice_from _ _ = no_choice
 
--- The common capabilities, read off GET_CAPABILITIES and CAPABILITIES, and the choice, read off
--- NEGOTIATE_ALGORITHMS and ALGORITHMS.
+-- The common capabilities, read off GET_CAPABILITIES and CAPABILITIES, and the choice, read off NEGOTIATE_ALGORITHMS
+-- and ALGORITHMS.
 unfoldable pub terms_of : Negotiation → Terms
 terms_of n = record {
   common = common_from (asked_caps (request_value n.get_capabilities)) (told_caps (response_value n.capabilities));
