@@ -1,4 +1,4 @@
--- Right behind a connect both ends stand as a measure needs it.
+-- Right after a connect both ends stand as a measure needs it.
 use Rattle.std.proofs.Common.{◌≡◌, ◌∙◌, ◌≤◌, false, sym, ap, subst, arith}
 use Rattle.std.specs.Prelude.{min}
 use Rattle.std.proofs.Math.Nat.{le-min}

@@ -1,4 +1,4 @@
--- The last rounds of a connect: NEGOTIATE_ALGORITHMS and its answer, each of which goes whole or by chunks.
+-- The last rounds of a connect: NEGOTIATE_ALGORITHMS and its answer, each of which goes whole or in chunks.
 use Rattle.std.proofs.Common.{◌≡◌, ◌⊎◌, ◌∙◌, ℕ, suc, ◌<◌, ◌≤◌, ◌+◌, ◌-◌, ◌==◌, List, [], ◌∷◌, ◌++◌, length, Bool, true, false, Some, None, refl, sym, ap, subst, inl, inr, arith, add-one, eqb-true}
 use Rattle.std.specs.Prelude.{bytes_eq, slice_index}
 use Rattle.std.proofs.lemmas.Bool.{eqb-false}

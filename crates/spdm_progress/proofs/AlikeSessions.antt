@@ -122,7 +122,7 @@ is_kept AskEnd = false
 is_kept _ = true
 
 module _ (inner sealed reply : List ℕ) (t : Turn) (s : Steps) (e : Events) (k : AreInStep s e) where
-  -- Both ends behind the exchange.
+  -- Both ends after the exchange.
   abbrev pub AreBehind : Ask → Effect → Type 0
   AreBehind ask effect = AreInStep (TookAnswer reply (inner_reply t) (Grants ask t.reply) ∷ Asked ask inner sealed ∷ s) (Heard sealed (record t { effect = effect }) reply ∷ e)
 

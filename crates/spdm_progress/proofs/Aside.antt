@@ -75,7 +75,7 @@ none_between : (world : World) (r : Responding) → IsStill world r → (eid : �
 none_between world r (inl x) eid is = subst (λ (s : Responding). connection_of eid s.connections ≡ None) (sym x.2) (none_queued eid x.0 x.1 world.responder (reply_fault_of (connection_of x.0 world.responder.connections) x.1) is)
 none_between world r (inr x) eid is = subst (λ (s : Responding). connection_of eid s.connections ≡ None) (sym x.2) (none_mapped eid (changed (λ h. Ticked x.0 ∷ h)) (λ c. refl) world.responder.connections is)
 
--- A connection behind queued data and time was there before, alike.
+-- A connection after queued data and time was there before, alike.
 pub quiet_between : (world : World) (r : Responding) → IsStill world r → (a : Requesting) (c : Connection) → connection_of a.setup.eid r.connections ≡ Some c
     → ((d : Connection) → connection_of a.setup.eid world.responder.connections ≡ Some d → AreQuiet a.setup d.setup a.first world.log a.history d.history) → (o : Option Connection) → connection_of a.setup.eid world.responder.connections ≡ o → AreQuiet a.setup c.setup a.first world.log a.history c.history
 quiet_between world r still a c is quiet None was = absurd (none_some c (sym (none_between world r still a.setup.eid was) ∙ is))

@@ -40,7 +40,7 @@ pumps_idle (suc count) world idle = ap (turn world (pumps count)) idle
 pub pumps_done : (Done : World → Type 0) → ((world : World) → Done world → first_waiting world.sent ≡ None) → (count : ℕ) (world : World) → Done world → Done (pumps count world).after
 pumps_done Done idle count world d = subst (λ (s : WorldStep). Done s.after) (sym (pumps_idle count world (idle world d))) d
 
--- What an honest script makes of a responder between two commands: data is queued for an end point, or seconds pass that
+-- What an honest script makes of a responder between two commands: data is queued for an endpoint, or seconds pass that
 -- end no session.
 abbrev pub IsStill : World → Responding → Type 0
 IsStill world r =
@@ -56,7 +56,7 @@ module _ (Going Done Sound : World → Type 0) (line : Line) (earlier : IsOfEarl
     (done_kept : (world : World) (r : Responding) → IsStill world r → Done world → Done (record world { responder = r })) where
   -- ---- Pumps.
 
-  -- What comes behind a step.
+  -- What comes after a step.
   goes_behind : (first : WorldStep) (second : World → WorldStep) → Goes Going Done line first → ((world : World) → Going world → Sound (second world).after → Goes Going Done line (second world)) → ((world : World) → Done world → Done (second world).after)
       → Sound (second first.after).after → Goes Going Done line (behind first second)
   goes_behind first second (GoesOn u) on stays sound = later (on first.after u sound)

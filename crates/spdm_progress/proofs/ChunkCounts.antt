@@ -34,8 +34,8 @@ few_in_all (suc zero) c unit few wide upper within = (let chunks = few_chunks c 
 few_in_all (suc (suc zero)) c unit few wide upper within = (let chunks = few_chunks c unit wide within in omega (arith, chunks))
 few_in_all (suc (suc (suc e))) c unit few wide upper within = many (suc (suc (suc e))) c unit (nat_le (suc (suc (suc e))) 34) refl (omega arith) few upper within
 
--- A message that goes by chunks, with the round before them: so many packets of each chunk, which has 28 bytes more in a
--- session, and so many of all of them.
+-- A message that is sent in chunks, with the round before them: so many packets of each chunk, which has 28 bytes more
+-- in a session, and so many of all of them.
 pub record InChunks (transfer size : ℕ) : Type 0 where
   pub each : ℕ
   pub fits : transfer + 28 ≤ 64 * each

@@ -63,7 +63,7 @@ module _ (max transfer handle : ℕ) (message : List ℕ) (sound : IsCollectable
       same_whole (k + 1 == count) (joined_with (before k) (nth k)) message
       (ap (λ (o : Option ChunkFault). answer_from o (nth k) (joined_with (before k) (nth k))) (sym (breaks_none k within)) ∙ collects k within) last
 
-  -- Each of them is spelled.
+  -- Each of them is encoded.
   low_number : (k : ℕ) → k < count → k < 2 ^ 16
   low_number k within =
       let low = sound.low in

@@ -1,5 +1,5 @@
--- An answer goes by chunks in the clear: what the two ends make of ERROR LargeResponse and of each CHUNK_GET with its
--- answer.
+-- An answer is sent in chunks in the clear: what the two ends make of ERROR LargeResponse and of each CHUNK_GET with
+-- its answer.
 use Rattle.std.proofs.Common.{◌≡◌, ◌∙◌, ℕ, suc, ◌<◌, ◌≤◌, ◌+◌, ◌==◌, ◌&&◌, ◌||◌, not, nat_lt, List, [], ◌∷◌, length, Bool, true, false, Option, Some, None, Result, Ok, refl, sym, ap, subst, inr, arith, eq-eqb}
 use Rattle.std.specs.Prelude.{bytes_eq, if◌then◌else◌, is_some, slice_index, unwrap_or, ◌^◌}
 use Rattle.std.proofs.lemmas.Bool.{false≢true, lt-ltb}
@@ -86,8 +86,8 @@ gets_differ handle k = differ (get_chunk handle k) (get_chunk handle (suc k)) (b
 abbrev pub transfer_in : Negotiation → ℕ
 transfer_in n = (terms_of n).common.to_requester.transfer
 
--- What the set-ups and the negotiation are where an answer of this size, with so many bytes round it, goes by chunks in
--- the clear.
+-- What the set-ups and the negotiation are where an answer of this size, with so many bytes round it, is sent in chunks
+-- in the clear.
 pub record CanFetchIn (round : ℕ) (q : ReqSetup) (r : RspSetup) (size : ℕ) (n : Negotiation) : Type 0 where
   pub room : MIN_DATA_TRANSFER_SIZE ≤ r.transfer
   pub chunk : (terms_of n).common.chunk ≡ true

@@ -1,4 +1,4 @@
--- A request goes by chunks in the clear: what the two ends make of each CHUNK_SEND and its acknowledgement.
+-- A request is sent in chunks in the clear: what the two ends make of each CHUNK_SEND and its acknowledgement.
 use Rattle.std.proofs.Common.{◌≡◌, ◌∙◌, ℕ, zero, suc, ◌<◌, ◌≤◌, ◌+◌, ◌==◌, ◌&&◌, not, List, [], ◌∷◌, length, Bool, true, false, Option, Some, None, Result, Ok, refl, sym, ap, subst, arith, eq-eqb}
 use Rattle.std.specs.Prelude.{bytes_eq, if◌then◌else◌, slice_index}
 use Rattle.std.proofs.lemmas.Bool.{false≢true, ne_eqb}
@@ -64,7 +64,7 @@ send_chunk c = canonical_request (ChunkSend c)
 abbrev pub ack_of : ChunkMessage → List ℕ → List ℕ
 ack_of c response = canonical_response (ChunkSendAck false c.handle c.number response)
 
--- What the set-ups and the negotiation are where a request of these bytes goes by chunks in the clear.
+-- What the set-ups and the negotiation are where a request of these bytes is sent in chunks in the clear.
 pub record CanSend (q : ReqSetup) (r : RspSetup) (m : List ℕ) (n : Negotiation) : Type 0 where
   pub chunk : (terms_of n).common.chunk ≡ true
   pub large : transfer_there n < length m
@@ -138,7 +138,7 @@ module _ (q : ReqSetup) (r : RspSetup) (v : RequestMessage) (n : Negotiation) (c
       let most = can.most in
       record { low = omega (arith, transfer, least); large = omega (arith, large); fits = fits; short = omega (arith, fits, most) }
 
-  -- The chunks before this one are under way; the first one begins anew.
+  -- The chunks before this one are under way; the first one starts over.
   abbrev pub AreHeld : (j : ℕ) → List Turn → Type 0
   AreHeld zero turns = Unit {0}
   AreHeld (suc j) turns = under_way (chunks_of turns) ≡ before (suc j)

@@ -1,5 +1,5 @@
--- A connect takes three rounds, and one for each further chunk where NEGOTIATE_ALGORITHMS or ALGORITHMS goes by chunks; it
--- leaves two quiet ends.
+-- A connect takes three rounds, and one for each further chunk where NEGOTIATE_ALGORITHMS or ALGORITHMS is sent in
+-- chunks; it leaves two quiet ends.
 use Rattle.std.proofs.Common.{◌≡◌, ◌⊎◌, ◌∙◌, ℕ, suc, ◌≤◌, List, ◌∷◌, ◌++◌, length, Bool, false, Some, refl, sym, ap, subst, inl, inr, arith}
 use Rattle.std.proofs.lemmas.Bool.{false≢true}
 use Rattle.std.specs.Prelude.{if◌then◌else◌}
@@ -116,7 +116,7 @@ module _ (p : Pair) (offer : OfferMessage) (choice : Choice) (can : CanMeet p.re
   abbrev ConnectDone : Log → asked.History → served.History → Type 0
   ConnectDone = AlgorithmsDone p offer choice can
 
-  -- The offer follows, whole or by chunks.
+  -- The offer follows, whole or in chunks.
   after_capabilities : (tag : ℕ) (body : List ℕ) (log : Log) (h : asked.History) (g : served.History) (d : Draw) → CapabilitiesAnswered tag body log h g → (way : AsksWhole q r offer ⊎ AsksByChunks q r offer) → can.way ≡ way
       → LeadsTo (AlgorithmsAsked rounds) (requester_hears q h false tag body d) (asked_log.acts_of q h body (requester_hears q h false tag body d) ++ log) h g
   after_capabilities tag body log h g d y (inl whole) is =

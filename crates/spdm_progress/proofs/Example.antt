@@ -45,7 +45,7 @@ told seed = record {
   life = record { requester = omega arith; responder = omega arith };
 }
 
--- One pump of six packets behind it.
+-- One pump of six packets after it.
 abbrev pumped : List Entry
 pumped = record { line = 6; happening = Pump 6 } ∷ []
 

@@ -51,7 +51,7 @@ hash_few Sha384 = ((omega arith), (omega arith))
 
 -- ---- The request.
 
--- A PSK_EXCHANGE that has a spelling, with a context as long as the hash, and ids and data within their limits.
+-- A PSK_EXCHANGE that has an encoding, with a context as long as the hash, and ids and data within their limits.
 pub record IsExchange (hash : HashAlg) (x : ExchangeMessage) : Type 0 where
   pub summary : is_summary x.summary ≡ true
   pub req_id : x.req_id ≤ 4
@@ -82,7 +82,7 @@ exchange_fits hash x k =
 pub exchange_length : (x : ExchangeMessage) → length (exchange_bytes x) ≡ 12 + length x.hint + length x.context + length x.opaque
 exchange_length x = omega (arith, length-append (x.hint ++ x.context) x.opaque, length-append x.hint x.context)
 
--- ReqSessionID stands behind the header.
+-- ReqSessionID follows the header.
 pub request_id : (x : ExchangeMessage) → x.req_id ≤ 4 → id_in_exchange (exchange_bytes x) ≡ x.req_id
 request_id x small = omega arith
 
@@ -152,7 +152,7 @@ module _ (r : RspSetup) (g : served.History) (d : Draw) (x : ExchangeMessage) wh
     pub id_small : f.id ≤ 4
     id_small = subst (λ (n : ℕ). n ≤ 4) (sym own_id) (free_id-range g).1
 
-    -- RspSessionID stands behind the header.
+    -- RspSessionID follows the header.
     pub answer_id : id_in_exchange answer ≡ free_id g
     answer_id = (let small = id_small in let is_id = own_id in let told : id_in_exchange answer ≡ f.id = omega arith in told ∙ is_id)
 

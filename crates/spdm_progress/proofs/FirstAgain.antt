@@ -118,7 +118,7 @@ module _ (q : ReqSetup) (r : RspSetup) (v : RequestMessage) (n : Negotiation) (c
   first_right (Ticked seconds ∷ older) made = kept_on older (Ticked seconds ∷ older) refl refl (first_right older made)
   first_right (Dropped id ∷ older) made = absurd made
 
-  -- A chunk behind another one is no repeat.
+  -- A chunk after another one is no repeat.
   pub next_right : (j : ℕ) (tag : ℕ) (reply : List ℕ) (g : served.History) → served.kept_of g ≡ Some (record { tag = tag; message = send_chunk (piece j); reply = reply }) → IsKeptRight (suc j) g
   next_right j tag reply g kept k is message =
       let here : send_chunk (piece j) ≡ send_chunk (piece (suc j)) = ap (λ (z : served.Kept). z.message) (some_same _ k (sym kept ∙ is)) ∙ message in

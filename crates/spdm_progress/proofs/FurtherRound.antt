@@ -1,4 +1,4 @@
--- A further record follows the answer to a record, for the session as it stands behind it.
+-- A further record follows the answer to a record, for the session as it follows it.
 use Rattle.std.proofs.Common.{◌≡◌, ◌∙◌, ℕ, ◌≤◌, ◌+◌, List, [], ◌∷◌, ◌++◌, length, Bool, true, false, Some, Ok, refl, sym, ap, subst, eq-eqb}
 use Rattle.std.specs.Prelude.{if◌then◌else◌}
 use Rattle.spdm_grammar.specs.declared.told.event.Event.{Event}

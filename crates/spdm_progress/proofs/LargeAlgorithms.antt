@@ -1,4 +1,4 @@
--- ALGORITHMS goes by chunks: what the two ends make of ERROR LargeResponse and of each CHUNK_GET with its answer.
+-- ALGORITHMS is sent in chunks: what the two ends make of ERROR LargeResponse and of each CHUNK_GET with its answer.
 use Rattle.std.proofs.Common.{◌≡◌, ◌∙◌, ℕ, ◌<◌, ◌≤◌, ◌+◌, ◌==◌, List, [], ◌∷◌, length, Bool, true, false, Some, None, refl, sym, ap, subst, arith, add-one}
 use Rattle.std.specs.Prelude.{bytes_eq, slice_index}
 use Rattle.chunking.specs.Cutting.{chunk_count, chunks_before, nth_chunk}

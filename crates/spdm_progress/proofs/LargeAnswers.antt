@@ -1,5 +1,5 @@
--- MEASUREMENTS goes by chunks in the clear: what the two ends make of ERROR LargeResponse and of each CHUNK_GET with its
--- answer.
+-- MEASUREMENTS is sent in chunks in the clear: what the two ends make of ERROR LargeResponse and of each CHUNK_GET with
+-- its answer.
 use Rattle.std.proofs.Common.{◌≡◌, ◌⊎◌, ◌∙◌, ℕ, zero, suc, ◌<◌, ◌==◌, List, [], ◌∷◌, length, Bool, true, false, Option, Some, None, Result, Ok, refl, sym, ap, subst, inl, inr, arith}
 use Rattle.std.specs.Prelude.{bytes_eq, slice_index}
 use Rattle.std.proofs.lemmas.Bool.{false≢true}
@@ -68,7 +68,7 @@ before_differs op handle zero = differ (get_measurements op) (get_chunk handle 0
     (λ e. (let code : slice_index (get_measurements op) 1 ≡ slice_index (get_chunk handle 0) 1 = ap (λ (l : List ℕ). slice_index l 1) e in omega (arith, code)))
 before_differs op handle (suc k) = gets_differ handle k
 
--- What the set-ups and the negotiation are where MEASUREMENTS goes by chunks.
+-- What the set-ups and the negotiation are where MEASUREMENTS is sent in chunks.
 pub record GoesLarge (q : ReqSetup) (r : RspSetup) (op : ℕ) (n : Negotiation) : Type 0 where
   pub byte : op < 256
   pub block : is_missing op (inventory_of r) ≡ false

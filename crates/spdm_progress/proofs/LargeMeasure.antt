@@ -1,4 +1,5 @@
--- A clear measure whose answer goes by chunks: one round for each chunk behind the first, and it leaves quiet ends quiet.
+-- A clear measure whose answer is sent in chunks: one round for each chunk after the first, and it leaves quiet ends
+-- quiet.
 use Rattle.std.proofs.Common.{◌≡◌, ◌⊎◌, ◌∙◌, ℕ, suc, ◌<◌, ◌≤◌, ◌+◌, ◌*◌, ◌-◌, ◌==◌, List, [], ◌∷◌, ◌++◌, length, Bool, true, false, Some, None, refl, sym, ap, subst, inl, inr, arith, add-one}
 use Rattle.std.specs.Int.{div_ceil}
 use Rattle.std.specs.Prelude.{slice_index}

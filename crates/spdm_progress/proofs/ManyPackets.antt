@@ -1,5 +1,5 @@
--- A long body comes packet by packet: each but the last leads to nothing but that more is awaited, and the last
--- one completes it.
+-- A long body comes packet by packet: each but the last leads to nothing but that more is awaited, and the last one
+-- completes it.
 use Rattle.std.proofs.Common.{◌≡◌, ◌∙◌, ℕ, zero, suc, ◌<◌, ◌≤◌, ◌+◌, ◌*◌, nat_le, List, [], ◌∷◌, ◌++◌, length, Bool, true, false, nat_eq, Option, Some, None, Result, Ok, refl, ap, arith, eq-eqb}
 use Rattle.std.specs.Prelude.{if◌then◌else◌, slice_index}
 use Rattle.std.proofs.lemmas.Bool.{leb-false, leb-true, ne_eqb}
@@ -114,7 +114,7 @@ module _ (own peer : ℕ) (owner : Bool) (tag unit : ℕ) (body : List ℕ) (sma
   sound : IsGatherable (record { own = own; peer = peer; limit = body_limit }) route unit body
   sound = record { to_is = refl; from_is = refl; filled = whole.filled; plain = whole.plain; fits = whole.fits; some = some }
 
-  -- The packets before this one were given behind some others.
+  -- The packets before this one were given after some others.
   pub record Came (k : ℕ) (given : List (List ℕ)) : Type 0 where
     pub earlier : List PacketFields
     pub fields : fields_in given ≡ packets_before route unit body k ++ earlier

@@ -311,7 +311,7 @@ pub record IsMeasuredBy (r : RspSetup) (op : ℕ) (h : asked.History) : Type 0 w
 abbrev pub measured_led : RspSetup → ℕ → List ℕ → Led
 measured_led r op nonce = is_done (finished.Measured (number_for r op)) (Answers (GetMeasurements op) (measurements r op nonce))
 
--- What is taken last behind it, however the answer came.
+-- What is taken last after it, however the answer came.
 pub record_taken : (r : RspSetup) (h : asked.History) (tag op : ℕ) (m nonce : List ℕ) (d : Draw) → length nonce ≡ 32 → measurements_size r op ≤ 4138 → last_data (TookClear tag m (measured_led r op nonce) d ∷ h) ≡ record_for r op
 record_taken r h tag op m nonce d whole within =
     ap (λ (o : Option ResponseMessage). unwrap_or (option_or None (blocks_of o)) (last_data h)) (ap result_ok (reads h (Measurements (measured r op nonce)) 32 (measured_fits r op nonce) (measured_sound r op 32 nonce whole within)))
@@ -321,7 +321,7 @@ abbrev pub newest_in : asked.History → asked.Effect
 newest_in [] = Nothing
 newest_in (entry ∷ older) = effect_in entry
 
--- What is taken last behind an answer in a session.
+-- What is taken last after an answer in a session.
 pub granted_record : (r : RspSetup) (op : ℕ) (nonce : List ℕ) (h : asked.History) → newest_in h ≡ Grants (AskMeasure op) (measurements r op nonce) → length nonce ≡ 32 → measurements_size r op ≤ 4138 → last_data h ≡ record_for r op
 granted_record r op nonce [] is whole within = absurd (cc)
 granted_record r op nonce (entry ∷ older) is whole within =

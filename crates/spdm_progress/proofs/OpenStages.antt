@@ -111,11 +111,11 @@ pub record GoesWhole (round : ℕ) (q : ReqSetup) (n : Negotiation) (size : ℕ)
   pub fits : round + size ≤ (terms_of n).common.to_requester.transfer
   pub own : round + size ≤ q.transfer
 
--- It goes whole, or by chunks.
+-- It goes whole, or in chunks.
 abbrev pub AnswerGoes : (round : ℕ) → ReqSetup → RspSetup → Negotiation → (size : ℕ) → Type 0
 AnswerGoes round q r n size = GoesWhole round q n size ⊎ CanFetchIn round q r size n
 
--- PSK_EXCHANGE goes whole, or by chunks; its answer goes with nothing or with 6 bytes round it.
+-- PSK_EXCHANGE goes whole, or in chunks; its answer goes with nothing or with 6 bytes round it.
 pub record SendsWhole (q : ReqSetup) (r : RspSetup) (n : Negotiation) (v : RequestMessage) (size : ℕ) : Type 0 where
   pub request_fits : length (canonical_request v) ≤ r.transfer
   pub whole : nat_lt (transfer_there n) (length (canonical_request v)) ≡ false
@@ -172,7 +172,7 @@ module _ (p : Pair) (same_key : p.requester.psk ≡ p.responder.psk) (asker : Is
   abbrev pub terms : Terms
   terms = asked.connection_terms h0
 
-  -- The history behind the command.
+  -- The history after the command.
   abbrev pub h1 : asked.History
   h1 = Told (Open summary) (exchange_sent h0 x) d0 ∷ h0
 
@@ -220,11 +220,11 @@ module _ (p : Pair) (same_key : p.requester.psk ≡ p.responder.psk) (asker : Is
   abbrev pub transfer : ℕ
   transfer = transfer_in n
 
-  -- How many chunks the answer has, where it goes by chunks.
+  -- How many chunks the answer has, where it is sent in chunks.
   abbrev pub count : ℕ
   count = div_ceil (size + 4) (transfer - 12)
 
-  -- How many chunks the request has, where it goes by chunks, and one of them.
+  -- How many chunks the request has, where it is sent in chunks, and one of them.
   abbrev pub pieces : ℕ
   pieces = chunk_count (transfer_there n) m
 

@@ -68,7 +68,7 @@ use Rattle.spdm_progress.proofs.Aside.{IsAside, nothing_aside}
 use Rattle.spdm_progress.proofs.Told.{ArePlaced, fits_always, pair_of}
 use Rattle.requester_machine.proofs.Telling.{fresh_told}
 
--- The draw that stands next has 32 bytes.
+-- The next unused draw has 32 bytes.
 draws_next : (a : Requesting) → length (asking.next_draw a).bytes ≡ 32
 unfolding asking.next_draw
 draws_next a = draw_length a.seed (a.first + asked.draws_of a.setup a.history)
@@ -162,7 +162,7 @@ module _ (w : WorldSetup) (before : List Entry) (n : ℕ) (a : Requesting) (c : 
       let k = not_long (nat_lt common.to_responder.max (length (canonical_request (PskExchange x)))) common.chunk (nat_lt common.to_responder.transfer (length (canonical_request (PskExchange x)))) (passed 8) in
       (ltb-false _ _ k.0, λ none. ltb-false _ _ (k.1 none))
 
-  -- The answer goes whole, or by chunks.
+  -- The answer goes whole, or in chunks.
   answer_way : (round : ℕ) → round ≤ 6 → (common.to_requester.transfer < round + answer_size → common.chunk ≡ true) → AnswerGoes round a.setup c.setup n_now answer_size
   answer_way round few chunks = by_size (nat_le (round + answer_size) common.to_requester.transfer) refl
     where

@@ -125,7 +125,7 @@ module _ (p : Pair) (ends : AreEnds p) where
 
   module _ (k l : ℕ) (Asked : asked.History → Type 0) (Served Then : served.History → Type 0) (tag : ℕ) (m : List ℕ) (Good : List ℕ → Type 0) (reply : List ℕ → List ℕ) (small : tag < 8) (short : length m < 64)
       (answers_it : (h : served.History) (d : Draw) → length d.bytes ≡ 32 → Served h → (value : List ℕ) × Good value × Answered p.responder h tag m d (reply value) Then) where
-    -- The pair, and the packets of the answer behind those that no longer wait.
+    -- The pair, and the packets of the answer after those that no longer wait.
     pub record AtAnswer (world : World) : Type 0 where
       pub before : List SentPacket
       pub idle : first_waiting before ≡ None
@@ -245,7 +245,7 @@ module _ (p : Pair) (ends : AreEnds p) where
 
   module _ (k l : ℕ) (Asked : asked.History → Type 0) (Then : asked.History → asked.History → Type 0) (Served : served.History → Type 0) (tag : ℕ) (m : List ℕ) (told : Event) (next : asked.History → Option (ℕ × List ℕ × RequestMessage)) (small : tag < 8)
       (next_short : (h : asked.History) → IsShort (next h)) (hears_it : (h : asked.History) (d : Draw) → Asked h → Hears p.requester h tag m d told (next_of (next h)) (Then h)) where
-    -- The pair, what waits behind it, and the line that was written.
+    -- The pair, what waits after it, and the line that was written.
     pub record AtNext (before : asked.History) (s : WorldStep) : Type 0 where
       pub waits : NextWaits (next before) s.after
       pub pair : At p k l (Then before) Served s.after

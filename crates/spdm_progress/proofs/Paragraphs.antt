@@ -1,4 +1,4 @@
--- A paragraph: a command that is told in a quiet world, and what stands behind it up to the next one.
+-- A paragraph: a command that is told in a quiet world, and what follows it up to the next one.
 use Rattle.std.proofs.Common.{◌≡◌, ◌∙◌, ◌==◌, ◌≤◌, ◌+◌, ℕ, List, [], ◌∷◌, ◌++◌, map, length, Option, Some, None, refl, sym, ap, subst, arith}
 use Rattle.std.proofs.lemmas.Bool.{false≢true}
 use Rattle.spdm_grammar.specs.declared.told.command_fault.CommandFault.{CommandFault}
@@ -33,7 +33,7 @@ use Rattle.spdm_progress.proofs.QuietWorlds.{IsReady, OthersTook, always_differ,
 use Rattle.spdm_progress.proofs.SessionCompletes.{Idle, Rests, no_chance_from}
 use Rattle.spdm_progress.proofs.Told.{are_placed, pair_of}
 
--- A command for requester n, with the number of its line, and what stands behind it up to the next command.
+-- A command for requester n, with the number of its line, and what follows it up to the next command.
 pub record Paragraph : Type 0 where
   pub line : ℕ
   pub n : ℕ
@@ -43,7 +43,7 @@ pub record Paragraph : Type 0 where
 abbrev pub entries_of : Paragraph → List Entry
 entries_of p = record { line = p.line; happening = Told p.n p.command } ∷ p.behind
 
--- The world in which the command was told, the world behind the paragraph, and the lines between.
+-- The world in which the command was told, the world after the paragraph, and the lines between.
 abbrev pub told_in : World → Paragraph → World
 told_in world p = commanding world p.line p.n p.command
 
@@ -101,7 +101,7 @@ module _ (w : WorldSetup) (configured : IsConfigured w) (before : List Entry) (p
   abbrev world : World
   world = world_after w before
 
-  -- The world behind the paragraph is one that events lead to.
+  -- The world after the paragraph is one that events lead to.
   reached : world_after w (before ++ entries_of p) ≡ world_behind world p
   reached = from_both (new_world w) before (entries_of p)
 

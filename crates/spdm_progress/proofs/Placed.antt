@@ -1,4 +1,4 @@
--- What no event changes of a world: which end points its requesters have, in order, and that all ends are those of one
+-- What no event changes of a world: which endpoints its requesters have, in order, and that all ends are those of one
 -- responder.
 use Rattle.std.proofs.Common.{◌≡◌, ◌∙◌, ℕ, zero, suc, ◌==◌, ◌||◌, List, [], ◌∷◌, length, map, find, Bool, true, false, cond, not, nat_lt, Option, Some, None, Result, Ok, Err, slice_index, refl, sym, ap, subst, eqb-true}
 use Rattle.mctp_framing.specs.Gathering.{Gathered}
@@ -87,7 +87,7 @@ ticks_ends r seconds = record { part = refl; ends = map_ends _ r.connections (λ
 
 -- ---- The world.
 
--- Its requesters have these end points, in order, and the responder this one. What holds of each set-up of a requester,
+-- Its requesters have these endpoints, in order, and the responder this one. What holds of each set-up of a requester,
 -- and of each of a connection, goes on to hold, since set-ups stay.
 pub record IsPlaced (eids : List ℕ) (own : ℕ) (Theirs : ReqSetup → Type 0) (Ends : RspSetup → Type 0) (requesters : List Requesting) (responder : Responding) : Type 0 where
   pub eids_are : map (λ (a : Requesting). a.setup.eid) requesters ≡ eids

@@ -39,7 +39,7 @@ of_same (suc place) world later o same is = ap (requester_at place) same ∙ is
 
 -- ---- Its number.
 
--- The number of an end point in a list of them.
+-- The number of an endpoint in a list of them.
 abbrev number_in : ℕ → ℕ → List ℕ → ℕ
 number_in n eid [] = 0
 number_in n eid (e ∷ others) = if e == eid then n else number_in (n + 1) eid others
@@ -51,7 +51,7 @@ numbered n eid (a ∷ others) = ap (λ (m : ℕ). if a.setup.eid == eid then n e
 pub number_new : (n eid : ℕ) (new : Requesting) (rs : List Requesting) → number_from n eid (with_requester new rs) ≡ number_from n eid rs
 number_new n eid new rs = numbered n eid (with_requester new rs) ∙ ap (number_in n eid) (eids_stay new rs) ∙ sym (numbered n eid rs)
 
--- No end point stands twice.
+-- No endpoint stands twice.
 abbrev pub AllDiffer : List ℕ → Type 0
 AllDiffer [] = Unit {0}
 AllDiffer (e ∷ others) = ((o : ℕ) → IsIn others o → e ≢ o) × AllDiffer others
@@ -78,7 +78,7 @@ pub number_is : (n : ℕ) (world : World) (a : Requesting) → requester_of n wo
 number_is zero world a is differ = absurd (none_some a is)
 number_is (suc place) world a is differ = number_place place 1 world.requesters a is differ ∙ one_on place
 
--- The first requester of an end point is the one of this place.
+-- The first requester of an endpoint is the one of this place.
 first_place : (place : ℕ) (rs : List Requesting) (a : Requesting) → requester_at place rs ≡ Some a → AllDiffer (map (λ (x : Requesting). x.setup.eid) rs) → find (is_at a.setup.eid) rs ≡ Some a
 first_place place [] a is differ = absurd (none_some a is)
 first_place zero (b ∷ others) a is differ =

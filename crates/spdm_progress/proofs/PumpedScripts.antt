@@ -1,4 +1,4 @@
--- Where each command has a pump of enough packets behind it, a script is honest.
+-- Where each command has a pump of enough packets after it, a script is honest.
 use Rattle.std.proofs.Common.{◌≡◌, ◌≤◌, ◌+◌, ◌*◌, ℕ, List, [], ◌∷◌, ◌++◌, length, refl, sym, subst, inr, arith}
 use Rattle.spdm_agreement.specs.Configured.{IsConfigured}
 use Rattle.spdm_machine.specs.Packets.{wear_limit}

@@ -71,7 +71,7 @@ module _ (w : WorldSetup) (before : List Entry) (n : ℕ) (a : Requesting) (c : 
   abbrev pub Result : Command → Type 0
   Result command = IsDone n a.setup c.setup (result_for a c command) (world_from (After command) behind) (lines_from (After command) behind) × Idle (world_after w before) n a Aside (world_from (After command) behind)
 
-  -- What is told of a session is among it.
+  -- What is reported of a session is among it.
   plainly : (command : Command) (result : Finished) (id : ℕ) (left : Bool) → result ≡ result_for a c command
       → IsDoneQuietly n a.setup c.setup result id left (world_from (After command) behind) (lines_from (After command) behind) × Idle (world_after w before) n a Aside (world_from (After command) behind) → Result command
   plainly command result id left same x =
@@ -90,7 +90,7 @@ module _ (w : WorldSetup) (before : List Entry) (n : ℕ) (a : Requesting) (c : 
         x.1,
       ))
 
-  -- What is known of what stands behind the command.
+  -- What is known of what follows the command.
   pub record IsOver (command : Command) : Type 0 where
     pub told : IsToldQuietly w before n a c command
     pub honest : AreHonest (After command) behind
@@ -220,7 +220,7 @@ module _ (w : WorldSetup) (before : List Entry) (n : ℕ) (a : Requesting) (c : 
             taken = e.0.done.1;
           }
 
-    -- It goes by chunks.
+    -- It is sent in chunks.
     module _ (large : (asked.connection_terms a.history).common.to_requester.transfer < measurements_size c.setup op) where
       in_common : (b : Bool) → (asked.connection_terms a.history).common.chunk ≡ b → b ≡ true
       in_common true is = refl

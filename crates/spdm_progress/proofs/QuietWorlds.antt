@@ -98,7 +98,7 @@ still_ready most world r still k = (
 pub behind_ready : (most : ℕ) (world : World) (entries : List Entry) → HaveNoCommand entries → AreHonest world entries → IsReady most world → IsReady most (world_from world entries)
 behind_ready most world entries none honest k = behind_kept (IsReady most) (λ z k. k.0.idle) (still_ready most) world entries none honest k
 
--- The requesters at other end points have taken so much at most.
+-- The requesters at other endpoints have taken so much at most.
 pub record OthersTook (eid most : ℕ) (world : World) : Type 0 where
   pub took : (n : ℕ) (a : Requesting) → a.setup.eid ≢ eid → requester_of n world ≡ Some a → length a.given + a.commands ≤ most
 
@@ -155,7 +155,7 @@ quiet_with world n a c differ idle is connected quiet others = record {
 pub others_of : (eid : ℕ) (world : World) → IsQuietWorld world → OthersAreQuiet eid world
 others_of eid world k = record { quiet = λ n a c other is connected. k.quiet n a c is connected }
 
--- In every world of a set-up the end points differ.
+-- In every world of a set-up the endpoints differ.
 pub always_differ : (w : WorldSetup) → IsConfigured w → (before : List Entry) → AllDiffer (map (λ (x : Requesting). x.setup.eid) (world_after w before).requesters)
 always_differ w configured before = subst AllDiffer (sym (always_placed w configured before).eids_are) (differ_all (setups_of w.requesters) configured.apart)
 

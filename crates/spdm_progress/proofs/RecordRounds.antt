@@ -100,7 +100,7 @@ beside_quiet q r first id log h g k live = record {
   apart = λ i j differ i_other j_other live_i live_j. k.apart i j differ live_i live_j;
 }
 
--- A session that rests is past its handshake at the responder.
+-- A session that rests is established at the responder.
 pub resting_past : (psk : List ℕ) (log : Log) (s : Steps) (e : Events) → AreResting psk log s e → is_past_handshake (events.stage_of e) ≡ true
 resting_past psk log s e k = ap is_past_handshake (sym k.in_step.stage ∙ k.stage)
 

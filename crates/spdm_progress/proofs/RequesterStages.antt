@@ -136,7 +136,7 @@ capabilities_heard q r h tag d offer common room told k asks =
     ∙ ap (λ (l : Led). let x : Result Led ReqIgnored = Ok l in x) (offers q r h offer common k)))
     (record { waits = refl; negotiation = ap (λ (n : Negotiation). record n { get_capabilities = get_capabilities q; capabilities = capabilities r }) asks.negotiation; small = next_small h })
 
--- The offer goes as it is sent, whole or by chunks.
+-- The offer goes as it is sent, whole or in chunks.
 pub record Offers (q : ReqSetup) (r : RspSetup) (offer : OfferMessage) (common : Common) : Type 0 where
   pub shared : common_of (requester_caps q) (responder_caps r) ≡ Ok common
   pub offered : offer_of q.suites common.to_responder.transfer ≡ Some offer

@@ -78,8 +78,8 @@ module _ (w : WorldSetup) (configured : IsConfigured w) where
   StartsPlainly [] = ⊥
   StartsPlainly (entry ∷ entries) = is_command entry.happening ≡ false
 
-  -- What is left of an honest script. A command that was answered has another entry behind it, so it may have taken as much
-  -- as two of them.
+  -- What is left of an honest script. A command that was answered has another entry after it, so it may have taken as
+  -- much as two of them.
   record AreLeft (most : ℕ) (before entries : List Entry) : Type 0 where
     over : ℕ
     few : over ≤ 78
@@ -203,7 +203,7 @@ module _ (w : WorldSetup) (configured : IsConfigured w) where
     command_runs [] others l = alone [] l refl others
     command_runs (entry ∷ entries) others l = by_next entry entries (is_command entry.happening) refl others l
 
-  -- What comes behind an event that is no command.
+  -- What comes after an event that is no command.
   other_runs : (most : ℕ) (before : List Entry) (entry : Entry) (entries : List Entry) → is_command entry.happening ≡ false → Others before entry entries → AreLeft most before (entry ∷ entries) → Runs (later before entry) entries
   other_runs most before entry entries other others l =
       let all = l.room in

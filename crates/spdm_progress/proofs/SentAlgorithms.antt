@@ -1,4 +1,4 @@
--- NEGOTIATE_ALGORITHMS goes by chunks: what the two ends make of each CHUNK_SEND, and of the answer in the last
+-- NEGOTIATE_ALGORITHMS is sent in chunks: what the two ends make of each CHUNK_SEND, and of the answer in the last
 -- acknowledgement, which is ALGORITHMS or ERROR LargeResponse.
 use Rattle.std.proofs.Common.{◌≡◌, ◌∙◌, ℕ, suc, ◌<◌, ◌≤◌, ◌+◌, ◌==◌, ◌&&◌, List, [], length, nat_lt, Bool, true, false, Some, None, refl, sym, ap, subst, arith, add-one}
 use Rattle.std.specs.Prelude.{bytes_eq, if◌then◌else◌, slice_index}

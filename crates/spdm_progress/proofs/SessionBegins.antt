@@ -64,7 +64,7 @@ shows_at Aside world n a c placed is connected idle beside = record {
 abbrev pub sends : Requesting → Command → Sent → CommandStep
 sends a command sent = commanded_by a (Adds (WasTold command sent (asking.next_draw a)))
 
--- The pair behind it.
+-- The pair after it.
 abbrev pub told_view : World → Requesting → Connection → Command → Sent → View
 told_view world a c command sent = record {
   given = a.given;

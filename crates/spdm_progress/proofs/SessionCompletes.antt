@@ -108,7 +108,7 @@ few_by_chunks transfer size counts =
     let there = times_each 1 (suc count) in
     (omega (arith, all, here), omega (arith, rounds, there), omega (arith, rounds, all, here, there))
 
--- No packet waits behind these entries, or there was a pump long enough.
+-- No packet waits after these entries, or there was a pump long enough.
 abbrev pub Rests : World → List Entry → Type 0
 Rests world behind = NothingWaits (world_from world behind) ⊎ IsLongPump behind
 
@@ -266,7 +266,7 @@ module _ (w : WorldSetup) (before : List Entry) (n : ℕ) (a : Requesting) (c : 
   abbrev pub After : Command → World
   After command = commanding (world_after w before) line n command
 
-  -- What is known of what stands behind the command.
+  -- What is known of what follows the command.
   pub record IsOver (command : Command) : Type 0 where
     pub told : IsToldQuietly w before n a c command
     pub honest : AreHonest (After command) behind
@@ -405,7 +405,7 @@ module _ (w : WorldSetup) (before : List Entry) (n : ℕ) (a : Requesting) (c : 
         (CanMeasure pair key id sid here.requester here.responder op) (IsMeasured pair key id sid here.requester here.responder op) (finished.Measured (number_for c.setup op)) (measure_last pair key id sid here.requester here.responder op)
         (record { byte = can.0; block = can.1; chosen = measure_chosen; fits = fits; fits_own = subst (λ (size : ℕ). measurements_size c.setup op ≤ size) sizes.transfer fits }) tt
 
-    -- The answer goes by chunks.
+    -- The answer is sent in chunks.
     module _ (large : (steps.session_terms (session_at a id)).common.to_requester.transfer < measurements_size c.setup op) where
       in_common : (b : Bool) → (steps.session_terms (session_at a id)).common.chunk ≡ b → b ≡ true
       in_common true is = refl

@@ -1,5 +1,5 @@
--- MEASUREMENTS goes by chunks in a session: what the responder makes of GET_MEASUREMENTS and of each CHUNK_GET, and the
--- requester of what answers them.
+-- MEASUREMENTS is sent in chunks in a session: what the responder makes of GET_MEASUREMENTS and of each CHUNK_GET, and
+-- the requester of what answers them.
 use Rattle.std.proofs.Common.{◌≡◌, ◌∙◌, ℕ, ◌<◌, ◌≤◌, ◌+◌, ◌==◌, List, [], ◌∷◌, length, Bool, true, false, Option, Some, None, is_some, Result, Ok, refl, sym, ap, subst, inl, inr, arith}
 use Rattle.std.specs.Prelude.{if◌then◌else◌}
 use Rattle.std.proofs.lemmas.Bool.{false≢true}
@@ -74,7 +74,7 @@ no_pad : (q : ReqSetup) (h : asked.History) (d : Draw) → (body_chosen q h d).p
 unfolding chosen_here
 no_pad q h d = refl
 
--- The stage behind a record that brought no more than this about.
+-- The stage after a record that brought no more than this about.
 pub stage_fetched : (sealed inner : List ℕ) (brought : asked.Effect) (s : Steps) → IsFetched brought → steps.stage_of (TookAnswer sealed inner brought ∷ s) ≡ steps.stage_of s
 stage_fetched sealed inner brought s (inl is) = ap (λ (e : asked.Effect). steps.stage_of (TookAnswer sealed inner e ∷ s)) is
 stage_fetched sealed inner brought s (inr is) = ap (λ (e : asked.Effect). steps.stage_of (TookAnswer sealed inner e ∷ s)) is.2

@@ -1,5 +1,5 @@
--- A measure in a session whose answer goes by chunks: one round for each chunk behind the first, and it leaves quiet ends
--- quiet.
+-- A measure in a session whose answer is sent in chunks: one round for each chunk after the first, and it leaves quiet
+-- ends quiet.
 use Rattle.std.proofs.Common.{◌≡◌, ◌⊎◌, ◌∙◌, ℕ, suc, ◌<◌, ◌≤◌, ◌+◌, ◌*◌, ◌-◌, ◌==◌, List, [], ◌∷◌, ◌++◌, length, Bool, true, false, Some, None, Ok, refl, sym, ap, subst, inl, inr, arith, add-one}
 use Rattle.std.specs.Int.{div_ceil}
 use Rattle.std.proofs.lemmas.Bool.{eqb-false}

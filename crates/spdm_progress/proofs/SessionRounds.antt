@@ -116,13 +116,13 @@ module _ (q : ReqSetup) (r : RspSetup) (first id : ℕ) (x : Asking) where
     pub queued : x.there g
     pub beside : Beside q r first id (rsp_id s) log h g
 
-  -- The turn is the newest of these, behind some of which this was known.
+  -- The turn is the newest of these, after some of which this was known.
   pub record IsNewest (t : Turn) (turns : List Turn) : Type 0 where
     pub earlier : List Turn
     pub is : turns ≡ t ∷ earlier
     pub known : x.before earlier
 
-  -- The record of this turn was the last that came to the connection, behind this history.
+  -- The record of this turn was the last that came to the connection, after this history.
   pub record CameThere (t : Turn) (g : served.History) : Type 0 where
     pub until : served.History
     pub between : x.there until
@@ -277,7 +277,7 @@ module _ (q : ReqSetup) (r : RspSetup) (first id : ℕ) (x : Asking) where
   is_end (AskMeasure op) inner t ends is = absurd (false≢true (sym ends))
   is_end (AskChunk op handle number before) inner t ends is = absurd (false≢true (sym ends))
 
-  -- The responder holds the session behind it, unless it is ended.
+  -- The responder holds the session after it, unless it is ended.
   pub held_then : (Fit : Steps → Type 0) (Good : Steps → Turn → Type 0) (tag : ℕ) (body : List ℕ) (log : Log) (h : asked.History) (g : served.History) (y : IsAnswered Fit Good tag body log h g) → (k : Bool) → is_kept x.ask ≡ k → events.is_live (events.session_of (rsp_id y.s) g) ≡ k
   held_then Fit Good tag body log h g y true kept = (y.kept kept).live
   held_then Fit Good tag body log h g y false ends = y.gone ends
@@ -455,7 +455,7 @@ module _ (q : ReqSetup) (r : RspSetup) (first id : ℕ) (x : Asking) where
       pub hears_so : requester_hears q h false tag body d ≡ Adds entry
       hears_so = ap (λ (b : List ℕ). requester_hears q h false tag b d) y.body_is ∙ hears
 
-      -- The history behind it.
+      -- The history after it.
       abbrev pub behind_it : asked.History
       behind_it = entry ∷ h
 

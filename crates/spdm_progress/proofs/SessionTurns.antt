@@ -60,7 +60,7 @@ not_large_in e answer k =
 abbrev pub turn_in : RspSetup → Events → Free → RequestMessage → Turn
 turn_in r e f v = taken_turn r (session_place e) (canonical_request v) f v
 
--- An inner message of four bytes behind its type is read as an SPDM message.
+-- An inner message of four bytes after its type is read as an SPDM message.
 pub read_inside : (r : RspSetup) (e : Events) (m : List ℕ) (f : Free) → inner_refusal (events.stage_of e) (5 ∷ m) ≡ None → session_turn r e (5 ∷ m) f ≡ turn_of r (session_place e) m f
 unfolding session_turn
 read_inside r e m f none = ap (session_turn_by r e (5 ∷ m) f) none

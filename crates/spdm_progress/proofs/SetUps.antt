@@ -150,11 +150,11 @@ pub record GoesWhole (round : ℕ) (q : ReqSetup) (r : RspSetup) (offer : OfferM
   pub answer_fits : round + length (algorithms r offer) ≤ q.transfer
   pub answer_takes : (length (algorithms r offer) ≤ (common_for q r).to_requester.max) × (round + length (algorithms r offer) ≤ (common_for q r).to_requester.transfer)
 
--- It goes whole, or by chunks.
+-- It goes whole, or in chunks.
 abbrev pub AnswerGoes : (round : ℕ) → ReqSetup → RspSetup → OfferMessage → Type 0
 AnswerGoes round q r offer = GoesWhole round q r offer ⊎ CanFetchIn round q r (length (algorithms r offer)) (two_pairs q r)
 
--- NEGOTIATE_ALGORITHMS goes whole, or by chunks; its answer goes with nothing or with 6 bytes round it.
+-- NEGOTIATE_ALGORITHMS goes whole, or in chunks; its answer goes with nothing or with 6 bytes round it.
 pub record AsksWhole (q : ReqSetup) (r : RspSetup) (offer : OfferMessage) : Type 0 where
   pub request_fits : length (negotiate_algorithms offer) ≤ r.transfer
   pub whole : nat_lt (common_for q r).to_responder.transfer (length (negotiate_algorithms offer)) ≡ false
@@ -166,7 +166,7 @@ pub record AsksByChunks (q : ReqSetup) (r : RspSetup) (offer : OfferMessage) : T
   pub answer_max : length (algorithms r offer) ≤ (common_for q r).to_requester.max
   pub answer : AnswerGoes 6 q r offer
 
--- What a connect comes to, by chunks too.
+-- What a connect comes to, in chunks too.
 pub record CanMeet (q : ReqSetup) (r : RspSetup) (offer : OfferMessage) (choice : Choice) : Type 0 where
   pub requester_room : MIN_DATA_TRANSFER_SIZE ≤ q.transfer
   pub responder_room : MIN_DATA_TRANSFER_SIZE ≤ r.transfer

@@ -52,7 +52,7 @@ module _ (p : Pair) (same_key : p.requester.psk ≡ p.responder.psk) (id : ℕ) 
     pub there : events.is_live (events.session_of (rsp_id brought.before) g) ≡ is_kept x.ask
     pub came : CameThere p.requester p.responder p.first id x brought.turn g
 
-  -- The responder's answer is the one that the command waits for, and behind it the session is open or ended.
+  -- The responder's answer is the one that the command waits for, and after it the session is open or ended.
   pub record IsLast : Type 0 where
     pub answers : AreAnswered p.requester p.responder p.first id x Fit Good
     pub leads : (h : asked.History) (d : Draw) (s : Steps) (pad : List ℕ) (t : Turn) → Fit s → Good s t → steps.session_of id h ≡ asked_steps p.requester p.responder p.first id x s pad

@@ -1,4 +1,4 @@
--- A command that is answered `ok` where nothing is outstanding sends a message, so a packet waits behind it.
+-- A command that is answered `ok` where nothing is outstanding sends a message, so a packet waits after it.
 use Rattle.std.proofs.Common.{◌≡◌, ◌∙◌, ℕ, ◌<◌, ◌≤◌, List, [], ◌∷◌, ◌++◌, length, drop, Option, Some, None, true, false, refl, sym, ap, subst, arith}
 use Rattle.mctp_framing.proofs.Packets.{packets_from}
 use Rattle.mctp_framing.specs.Cutting.{RouteFields, packets_of}

@@ -21,7 +21,7 @@ use Rattle.spdm_progress.proofs.PacketSteps.{Pair, server}
 use Rattle.spdm_progress.proofs.ResponderBegins.{SameClear, queued_same, ticked_same}
 use Rattle.spdm_progress.proofs.Told.{contained}
 
--- A session as it was, or a live one with seconds waited behind it.
+-- A session as it was, or a live one with seconds waited after it.
 abbrev pub IsSameSession : Events → Events → Type 0
 IsSameSession old new = (new ≡ old) ⊎ ((seconds : ℕ) × (is_live old ≡ true) × (new ≡ Waited seconds ∷ old))
 

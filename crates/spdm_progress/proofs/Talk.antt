@@ -196,7 +196,7 @@ module _ (limit : ℕ) (within : limit ≤ wear_limit) (p : Pair) (ends : AreEnd
   abbrev pub TalkGoes : WorldStep → Type 0
   TalkGoes s = Goes IsUnderWay IsDone done_line s
 
-  -- A further request is on its way behind an answer.
+  -- A further request is on its way after an answer.
   further : (s : WorldStep) (more tag : ℕ) (body : List ℕ) (sent : IsSendable tag body) (v : View) (done : ℕ) → length v.given + v.commands + 1 + sum_to round more ≤ limit → length v.received + sum_to there more ≤ limit
       → (x : IsHeard p ends Aside aside tag body sent.small sent.whole done v s) (next : Sent) (fewer : ℕ) → more ≡ suc fewer → shown.sent_by (requester_hears p.requester v.asked false tag body x.drawn) ≡ Some next
       → Asks fewer next.tag (body_of next.content) (heard_view p ends Aside aside tag body sent.small sent.whole done v x.drawn).log (heard_view p ends Aside aside tag body sent.small sent.whole done v x.drawn).asked v.served → Asking s.after

@@ -37,7 +37,7 @@ differ_all (q ∷ others) apart = (
   differ_all others apart.1,
 )
 
--- Two set-ups of one end point are one.
+-- Two set-ups of one endpoint are one.
 one_setup : (qs : List ReqSetup) → AreApart qs → (x y : ReqSetup) → IsIn qs x → IsIn qs y → x.eid ≡ y.eid → x ≡ y
 one_setup [] apart x y m k e = absurd m
 one_setup (q ∷ others) apart x y m k e = elim m [

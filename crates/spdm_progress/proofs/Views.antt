@@ -192,7 +192,7 @@ module _ (p : Pair) (ends : AreEnds p) (Aside : World → Type 0) (aside : IsAsi
       subst (λ (o : Option (List ℕ)). RequestComes (suc done) left (request_given done v) (delivers world (suc w.place) o).after) (sym w.is)
       (more_given done left v (without_waiting (suc w.place) world) x.sum life (stopped p Aside aside v _ _ w.place world w.behind x.shows) x.came)
 
-  -- The pair behind a request that was taken whole, by the draw that stood next.
+  -- The pair after a request that was taken whole, by the draw that stood next.
   abbrev pub served_view : ℕ → View → Draw → View
   served_view done v d = record v {
     served = after v.served (responder_does p.responder v.served tag body d);
@@ -316,7 +316,7 @@ module _ (p : Pair) (ends : AreEnds p) (Aside : World → Type 0) (aside : IsAsi
       subst (λ (o : Option (List ℕ)). AnswerComes (suc done) left (answer_given done v) (delivers world (suc w.place) o).after) (sym w.is)
       (awaits_given done left v (without_waiting (suc w.place) world) x.sum life (stopped p Aside aside v _ _ w.place world w.behind x.shows) x.came)
 
-  -- The pair behind an answer that was heard whole, by the draw that stood next.
+  -- The pair after an answer that was heard whole, by the draw that stood next.
   abbrev pub heard_view : ℕ → View → Draw → View
   heard_view done v d = record v {
     given = spelled_packet (answer_nth done) ∷ v.given;

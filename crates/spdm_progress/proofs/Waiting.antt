@@ -1,4 +1,4 @@
--- Packets that wait: one that is sent where none waits is the next that a pump gives, and none waits behind it.
+-- Packets that wait: one that is sent where none waits is the next that a pump gives, and none waits after it.
 use Rattle.std.proofs.Common.{◌≡◌, ◌∙◌, ℕ, suc, ◌+◌, List, [], ◌∷◌, Bool, true, false, Option, Some, None, refl, ap, arith}
 use Rattle.std.specs.Prelude.{if◌then◌else◌}
 use Rattle.world_machine.specs.World.{SentPacket, first_waiting, next_number, packet_at, stopped_at, with_sent}

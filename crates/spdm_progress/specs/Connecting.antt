@@ -36,10 +36,9 @@ use Rattle.spdm_progress.specs.Honest.{NothingWaits, AreHonest, HaveNoCommand}
 abbrev pub common_of_both : Requesting → Connection → Common
 common_of_both a c = shared (requester_caps a.setup) (responder_caps c.setup)
 
--- What a connect needs of the two set-ups: the requester has a hash to offer to a responder of this
--- transfer size, and the responder can choose of the offer. Of the messages only two may have more
--- than 42 bytes: NEGOTIATE_ALGORITHMS can go to the responder, and ALGORITHMS to the requester, by
--- chunks too.
+-- What a connect needs of the two set-ups: the requester has a hash to offer to a responder of this transfer size, and
+-- the responder can choose of the offer. Of the messages only two may have more than 42 bytes: NEGOTIATE_ALGORITHMS can
+-- go to the responder, and ALGORITHMS to the requester, in chunks too.
 pub record CanConnect (a : Requesting) (c : Connection) : Type 0 where
   pub offer : OfferMessage
   pub offered : offer_of a.setup.suites c.setup.transfer ≡ Some offer
@@ -50,16 +49,15 @@ pub record CanConnect (a : Requesting) (c : Connection) : Type 0 where
   pub answer_goes : CanGo (common_of_both a c) (common_of_both a c).to_requester
       (length (canonical_response (algorithms_answer c.setup offer)))
 
--- Neither end is worn out before a connect is over: the requester takes the command and three
--- packets, the responder three packets. An end takes 2^40.
+-- Neither end is worn out before a connect is over: the requester takes the command and three packets, the responder
+-- three packets. An end takes 2^40.
 pub record HasLife (a : Requesting) (r : Responding) : Type 0 where
   pub requester : length a.given + a.commands + 4 ≤ wear_limit
   pub responder : length r.given + 3 ≤ wear_limit
 
--- The connect of requester n is done: it is told so in these lines; nothing is outstanding; both
--- ends are set up as they were, are in phase Negotiated, and hold the same negotiation: the same
--- six messages, so the same choice and the same common capabilities. The choice is this one, and
--- the capabilities are what the two set-ups can do together.
+-- The connect of requester n is done: it is reported so in these lines; nothing is outstanding; both ends are set up as
+-- they were, are in phase Negotiated, and hold the same negotiation: the same six messages, so the same choice and the
+-- same common capabilities. The choice is this one, and the capabilities are what the two set-ups can do together.
 pub record IsConnected (n : ℕ) (q : ReqSetup) (r : RspSetup) (choice : Choice) (world : World)
     (lines : List Line) : Type 0 where
   pub told : Contains lines (Line.ToRequester n (event.Done finished.Connected))
@@ -83,9 +81,8 @@ abbrev pub connecting : World → (line n : ℕ) → World
 connecting world line n =
     (entry_step world (record { line = line; happening = Told n Connect })).after
 
--- A connect is told to requester n of a world that a set-up and any events lead to, where no packet
--- waits and nothing agrees by chance. The responder has this connection with it, and the two can
--- connect without chunks.
+-- A connect is told to requester n of a world that a set-up and any events lead to, where no packet waits and nothing
+-- agrees by chance. The responder has this connection with it, and the two can connect without chunks.
 pub record ConnectIsTold (w : WorldSetup) (before : List Entry) (n : ℕ) (a : Requesting)
     (c : Connection) : Type 0 where
   pub configured : IsConfigured w
@@ -100,8 +97,8 @@ pub record ConnectIsTold (w : WorldSetup) (before : List Entry) (n : ℕ) (a : R
       ≤ a.setup.transfer
   pub life : HasLife a (world_after w before).responder
 
--- Whatever stands between this command and the next one of an honest script: once no packet waits
--- any more, the connect is done.
+-- Whatever stands between this command and the next one of an honest script: once no packet waits any more, the connect
+-- is done.
 abbrev pub ConnectCompletes : Type 0
 ConnectCompletes =
     (w : WorldSetup) (before : List Entry) (n : ℕ) (a : Requesting) (c : Connection)

@@ -1,5 +1,5 @@
--- Honest scripts: each packet is given to its end once, in order, and no command comes while a
--- packet waits. This project's own.
+-- Honest scripts: each packet is given to its end once, in order, and no command comes while a packet waits. This
+-- project's own.
 use Rattle.std.specs.Prelude.{◌≡◌, ℕ, List, [], ◌∷◌, Bool, true, false, None, Contains}
 use Rattle.responder_machine.specs.Responding.{Connection}
 use Rattle.responder_machine.specs.Session.{session_of, is_live, after_tick}
@@ -18,9 +18,8 @@ EndsNone world seconds =
     → is_live (session_of id c.history) ≡ true
     → is_live (after_tick (session_of id c.history) seconds) ≡ true
 
--- What an honest script may say in a world: a command where no packet waits; queued data, pumps and
--- that the ends be shown at any time; and seconds that end no session. It gives, loses and injects
--- no packet by hand.
+-- What an honest script may say in a world: a command where no packet waits; queued data, pumps and that the ends be
+-- shown at any time; and seconds that end no session. It gives, loses and injects no packet by hand.
 abbrev pub IsHonest : World → Happening → Type 0
 IsHonest world (Told n command) = NothingWaits world
 IsHonest world (Reply n bytes) = Unit {0}

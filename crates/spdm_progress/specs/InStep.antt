@@ -1,5 +1,5 @@
--- A session that both ends hold alike, so that what one seals next the other opens; and two ends at
--- rest. This project's own.
+-- A session that both ends hold alike, so that what one seals next the other opens; and two ends at rest. This
+-- project's own.
 use Rattle.std.specs.Prelude.{◌≡◌, ◌≢◌, ◌<◌, ◌≤◌, ◌+◌, ◌^◌, ℕ, List, length, true, Some, None, Contains}
 use Rattle.key_schedule.specs.Purpose.{Purpose}
 use Rattle.requester_machine.specs.Does as asking_does
@@ -24,9 +24,9 @@ use Rattle.spdm_machine.specs.TagLog.{Log, record_input}
 use Rattle.spdm_machine.specs.Terms.{hash_len}
 use Rattle.spdm_machine.specs.TagLog.Act.{Made}
 
--- The own history of a session at the requester and that at the responder: each has begun; they
--- have the same negotiation, PSK_EXCHANGE with its answer and PSK_FINISH with its answer, so the
--- same hash, session id, T1 and T2; and the same stage, epochs and next numbers.
+-- The own history of a session at the requester and that at the responder: each has begun; they have the same
+-- negotiation, PSK_EXCHANGE with its answer and PSK_FINISH with its answer, so the same hash, session id, T1 and T2;
+-- and the same stage, epochs and next numbers.
 pub record AreInStep (s : Steps) (e : Events) : Type 0 where
   pub accepted : asking.is_accepted s ≡ true
   pub live : serving.is_live e ≡ true
@@ -45,32 +45,30 @@ pub record AreInStep (s : Steps) (e : Events) : Type 0 where
 abbrev pub rsp_id : Steps → ℕ
 rsp_id s = id_in_exchange (asking.exchange_answer s)
 
--- These bytes are a record that was sealed under another purpose or number than the next record of
--- the session: the log has its tag.
+-- These bytes are a record that was sealed under another purpose or number than the next record of the session: the log
+-- has its tag.
 pub record WasSealed (psk : List ℕ) (log : Log) (s : Steps) (sealed : List ℕ) : Type 0 where
   pub purpose : Purpose
   pub number : ℕ
   pub made : Contains log (Made purpose (record_input number sealed) (tag_part sealed))
   pub other : purpose ≡ request_purpose psk s → number ≡ asking.request_next s → ⊥
 
--- A session is open at both ends, in step, and at rest: its RspSessionID has two bytes, and the
--- record that the responder took last, which it answers again where it comes again, is not the next
--- one.
+-- A session is open at both ends, in step, and at rest: its RspSessionID has two bytes, and the record that the
+-- responder took last, which it answers again where it comes again, is not the next one.
 pub record AreResting (psk : List ℕ) (log : Log) (s : Steps) (e : Events) : Type 0 where
   pub in_step : AreInStep s e
   pub stage : asking.stage_of s ≡ Open
   pub two_bytes : rsp_id s < 65536
   pub last : (k : served.KeptRecord) → serving.last_of e ≡ Some k → WasSealed psk log s k.sealed
 
--- The session with this ReqSessionID rests at both ends: at the responder it is the one of its
--- RspSessionID.
+-- The session with this ReqSessionID rests at both ends: at the responder it is the one of its RspSessionID.
 abbrev pub IsResting : List ℕ → Log → asked.History → served.History → ℕ → Type 0
 IsResting psk log h g id = AreResting psk log (asking.session_of id h)
     (serving.session_of (rsp_id (asking.session_of id h)) g)
 
--- The last clear request that the responder took, which it answers from memory where it comes
--- again, is no PSK_EXCHANGE whose context holds the number of a draw that the requester is yet to
--- take. Its draws are numbered from this first one.
+-- The last clear request that the responder took, which it answers from memory where it comes again, is no PSK_EXCHANGE
+-- whose context holds the number of a draw that the requester is yet to take. Its draws are numbered from this first
+-- one.
 pub record TookEarlier (q : ReqSetup) (first : ℕ) (h : asked.History)
     (g : served.History) : Type 0 where
   pub kept : (k : served.Kept) → served.kept_of g ≡ Some k → (x : ExchangeMessage) (d : Draw)
@@ -80,10 +78,10 @@ pub record TookEarlier (q : ReqSetup) (first : ℕ) (h : asked.History)
       → first + asked.draws_of q h ≤ d.number → d.number < 2 ^ 64
       → k.message ≢ canonical_request (PskExchange x)
 
--- A requester and the responder's connection with it are quiet: nothing is outstanding; they are in
--- the same phase, with the same negotiation; each session of the requester rests at both ends, each
--- with a RspSessionID of its own; and the next PSK_EXCHANGE is none that the responder answers from
--- memory. Each of the two histories is one that its end made.
+-- A requester and the responder's connection with it are quiet: nothing is outstanding; they are in the same phase,
+-- with the same negotiation; each session of the requester rests at both ends, each with a RspSessionID of its own; and
+-- the next PSK_EXCHANGE is none that the responder answers from memory. Each of the two histories is one that its end
+-- made.
 pub record AreQuiet (q : ReqSetup) (r : RspSetup) (first : ℕ) (log : Log) (h : asked.History)
     (g : served.History) : Type 0 where
   pub made : asking_does.IsMade q h

@@ -28,21 +28,20 @@ use Rattle.spdm_progress.specs.Honest.{NothingWaits, AreHonest, HaveNoCommand}
 abbrev pub record_for : RspSetup → (op : ℕ) → List ℕ
 record_for r op = record_of (blocks_asked op (inventory_of r))
 
--- How many measurements are told: those that the responder has for operation 0, else those in the
--- record.
+-- How many measurements are told: those that the responder has for operation 0, else those in the record.
 abbrev pub number_for : RspSetup → (op : ℕ) → ℕ
 number_for r op =
     if op == 0 then length (inventory_of r) else length (blocks_asked op (inventory_of r))
 
--- MEASUREMENTS has 42 bytes beside the record: its fields before the record, the nonce and the
--- length of no opaque data.
+-- MEASUREMENTS has 42 bytes beside the record: its fields before the record, the nonce and the length of no opaque
+-- data.
 abbrev pub measurements_size : RspSetup → (op : ℕ) → ℕ
 measurements_size r op = MEASUREMENTS_FIELDS_LEN + length (record_for r op)
 
--- What a clear measure needs. Both ends are negotiated, with one negotiation, as a connect leaves
--- them, and it chose measurements. The operation is a byte, and a block that it names is
--- configured. The request, of 4 bytes, and the answer fit the transfer sizes of their receivers as
--- they were negotiated, and the answer that of the requester as it is set up.
+-- What a clear measure needs. Both ends are negotiated, with one negotiation, as a connect leaves them, and it chose
+-- measurements. The operation is a byte, and a block that it names is configured. The request, of 4 bytes, and the
+-- answer fit the transfer sizes of their receivers as they were negotiated, and the answer that of the requester as it
+-- is set up.
 pub record CanMeasure (a : Requesting) (c : Connection) (op : ℕ) : Type 0 where
   pub requester_phase : asked.phase_of a.history ≡ Negotiated
   pub responder_phase : served.phase_of (served.clear_turns c.history) ≡ Negotiated
@@ -63,8 +62,7 @@ pub record LivesToMeasure (a : Requesting) (r : Responding) : Type 0 where
   pub requester : length a.given + a.commands + 67 ≤ wear_limit
   pub responder : length r.given + 1 ≤ wear_limit
 
--- A clear measure is told to requester n, and answered `ok`, where no packet waits and nothing
--- agrees by chance.
+-- A clear measure is told to requester n, and answered `ok`, where no packet waits and nothing agrees by chance.
 pub record MeasureIsTold (w : WorldSetup) (before : List Entry) (n : ℕ) (a : Requesting)
     (c : Connection) (op : ℕ) : Type 0 where
   pub configured : IsConfigured w
@@ -77,8 +75,8 @@ pub record MeasureIsTold (w : WorldSetup) (before : List Entry) (n : ℕ) (a : R
   pub can : CanMeasure a c op
   pub life : LivesToMeasure a (world_after w before).responder
 
--- The measure of requester n is done: it is told how many measurements there are, nothing is
--- outstanding, and the record that it took last is the one that the responder is set up with.
+-- The measure of requester n is done: it is told how many measurements there are, nothing is outstanding, and the
+-- record that it took last is the one that the responder is set up with.
 pub record IsMeasured (n : ℕ) (r : RspSetup) (op : ℕ) (world : World)
     (lines : List Line) : Type 0 where
   pub told : Contains lines (Line.ToRequester n (event.Done (finished.Measured (number_for r op))))
@@ -92,8 +90,8 @@ abbrev pub measuring : World → (line n op : ℕ) → World
 measuring world line n op =
     (entry_step world (record { line = line; happening = Told n (Measure None op) })).after
 
--- Whatever stands between this command and the next one of an honest script: once no packet waits
--- any more, the measure is done.
+-- Whatever stands between this command and the next one of an honest script: once no packet waits any more, the measure
+-- is done.
 abbrev pub MeasureCompletes : Type 0
 MeasureCompletes =
     (w : WorldSetup) (before : List Entry) (n : ℕ) (a : Requesting) (c : Connection) (op : ℕ)

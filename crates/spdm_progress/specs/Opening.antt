@@ -20,17 +20,17 @@ use Rattle.spdm_progress.specs.SessionCommands.{CompletesQuietly, IsToldQuietly}
 abbrev pub terms_now : Requesting → Terms
 terms_now a = asked.connection_terms a.history
 
--- PSK_EXCHANGE_RSP has 12 bytes beside the summary, where one is asked for, the context, the opaque
--- data and the verify data; the summary, the context and the verify data are as long as the hash.
+-- PSK_EXCHANGE_RSP has 12 bytes beside the summary, where one is asked for, the context, the opaque data and the verify
+-- data; the summary, the context and the verify data are as long as the hash.
 abbrev pub exchange_rsp_size : RspSetup → Terms → (summary : ℕ) → ℕ
 exchange_rsp_size r terms summary =
     12 + (if summary == 0 then 0 else hash_size terms.choice.hash) + hash_size terms.choice.hash
     + length r.opaque + hash_size terms.choice.hash
 
--- What an open needs. The answer to PSK_EXCHANGE can go to the requester, by chunks too, and the
--- responder holds fewer sessions than four. Of the two requests nothing is asked: an open that is
--- answered `ok` sends a PSK_EXCHANGE that can go to the responder, by chunks too; and no hash is
--- chosen that leaves no room for PSK_FINISH, which does not go by chunks.
+-- What an open needs. The answer to PSK_EXCHANGE can go to the requester, in chunks too, and the responder holds fewer
+-- sessions than four. Of the two requests nothing is asked: an open that is answered `ok` sends a PSK_EXCHANGE that can
+-- go to the responder, in chunks too; and no hash is chosen that leaves no room for PSK_FINISH, which does not be sent
+-- in chunks.
 pub record CanOpen (a : Requesting) (c : Connection) (summary : ℕ) : Type 0 where
   pub answer_goes : CanGo (terms_now a).common (terms_now a).common.to_requester
       (exchange_rsp_size c.setup (terms_now a) summary)
@@ -40,8 +40,8 @@ pub record CanOpen (a : Requesting) (c : Connection) (summary : ℕ) : Type 0 wh
 abbrev pub opened_id : Requesting → Connection → SessionId
 opened_id a c = record { req = asking.free_id a.history; rsp = serving.free_id c.history }
 
--- Whatever stands between this command and the next one of an honest script: once no packet waits
--- any more, the session is open, with this id.
+-- Whatever stands between this command and the next one of an honest script: once no packet waits any more, the session
+-- is open, with this id.
 abbrev pub OpenCompletes : Type 0
 OpenCompletes =
     (w : WorldSetup) (before : List Entry) (n : ℕ) (a : Requesting) (c : Connection) (summary : ℕ)

@@ -32,9 +32,8 @@ use Rattle.spdm_progress.specs.SessionCommands.{CanAsk, CompletesQuietly, IsGone
 
 -- ---- Each command.
 
--- Whatever came before, a connect leaves two quiet ends, and no session at the requester; and both
--- hold one negotiation, with the choice of the responder and the common capabilities of the two
--- set-ups.
+-- Whatever came before, a connect leaves two quiet ends, and no session at the requester; and both hold one
+-- negotiation, with the choice of the responder and the common capabilities of the two set-ups.
 abbrev pub ConnectsQuietly : Type 0
 ConnectsQuietly =
     (w : WorldSetup) (before : List Entry) (n : ℕ) (a : Requesting) (c : Connection)
@@ -48,9 +47,9 @@ ConnectsQuietly =
     (world_from (commanding (world_after w before) line n Connect) behind)
     (lines_from (commanding (world_after w before) line n Connect) behind))
 
--- What a command needs beside that it is answered `ok`, so that none of its messages is refused:
--- what a connect and an open need; of measurements that a block which the operation, a byte, names
--- is configured, and that the answer can go to the requester, by chunks too.
+-- What a command needs beside that it is answered `ok`, so that none of its messages is refused: what a connect and an
+-- open need; of measurements that a block which the operation, a byte, names is configured, and that the answer can go
+-- to the requester, in chunks too.
 abbrev pub CanDo : Requesting → Connection → Command → Type 0
 CanDo a c Connect = CanConnect a c
 CanDo a c (Open summary) = CanOpen a c summary
@@ -63,10 +62,9 @@ CanDo a c (Measure (Some id) op) = CanAsk a c (Measure (Some id) op)
 CanDo a c (End id) = CanAsk a c (End id)
 CanDo a c Retry = Unit {0}
 
--- Right behind a connect that chose measurements, a clear measure needs no more than that a block
--- which it names is configured, and that the answer can go to the requester by what the two set-ups
--- have in common. Where the answer fits the transfer size with which the requester is set up, it
--- needs no chunks.
+-- Right after a connect that chose measurements, a clear measure needs no more than that a block which it names is
+-- configured, and that the answer can go to the requester by what the two set-ups have in common. Where the answer fits
+-- the transfer size with which the requester is set up, it needs no chunks.
 abbrev pub ConnectedCanMeasure : Type 0
 ConnectedCanMeasure =
     (q : ReqSetup) (r : RspSetup) → IsRequester q → IsResponder r
@@ -89,8 +87,8 @@ result_for a c (Measure id op) = result_of a c (Measure id op)
 result_for a c (End id) = result_of a c (End id)
 result_for a c Retry = finished.Connected
 
--- The command of requester n is done: it is told this result in these lines, and is quiet again
--- with the responder's connection.
+-- The command of requester n is done: it is told this result in these lines, and is quiet again with the responder's
+-- connection.
 pub record IsDone (n : ℕ) (q : ReqSetup) (r : RspSetup) (result : Finished) (world : World)
     (lines : List Line) : Type 0 where
   pub told : Contains lines (Line.ToRequester n (event.Done result))
@@ -108,11 +106,10 @@ pub record Holds (n id : ℕ) (live : Bool) (world : World) : Type 0 where
   pub is_requester : requester_of n world ≡ Some requester
   pub session : is_live (session_at requester id) ≡ live
 
--- What a result means, beside that the two ends are quiet, so that each session of the requester
--- is open at both ends and in step. After a connect both hold one negotiation; after an open the
--- requester holds the session, as it does after a heartbeat and an update; a send brought its bytes
--- and took what was first in the queue; the record that was taken is the one configured; and a
--- session that was ended is held by neither end.
+-- What a result means, beside that the two ends are quiet, so that each session of the requester is open at both ends
+-- and in step. After a connect both hold one negotiation; after an open the requester holds the session, as it does
+-- after a heartbeat and an update; a send brought its bytes and took what was first in the queue; the record that was
+-- taken is the one configured; and a session that was ended is held by neither end.
 abbrev pub Means : (n : ℕ) → Requesting → Connection → Command → World → List Line → Type 0
 Means n a c Connect world lines =
     (choice : Choice) × IsConnected n a.setup c.setup choice world lines
@@ -128,8 +125,8 @@ Means n a c (End id) world lines =
     Holds n id false world × IsGoneThere a.setup (rsp_id (session_at a id)) world
 Means n a c Retry world lines = Unit {0}
 
--- Each command that quiet ends answer `ok` comes to its result, with what it means. No retry is
--- among them, since nothing is outstanding.
+-- Each command that quiet ends answer `ok` comes to its result, with what it means. No retry is among them, since
+-- nothing is outstanding.
 abbrev pub QuietCommandsComplete : Type 0
 QuietCommandsComplete =
     (w : WorldSetup) (before : List Entry) (n : ℕ) (a : Requesting) (c : Connection)
@@ -144,8 +141,8 @@ QuietCommandsComplete =
     × Means n a c command (world_from (commanding (world_after w before) line n command) behind)
     (lines_from (commanding (world_after w before) line n command) behind)
 
--- Behind a measure among them, in the clear or in a session, by chunks too, the record that the
--- requester took last is the one that the responder is set up with.
+-- After a measure among them, in the clear or in a session, in chunks too, the record that the requester took last is
+-- the one that the responder is set up with.
 abbrev pub QuietMeasuresComplete : Type 0
 QuietMeasuresComplete =
     (w : WorldSetup) (before : List Entry) (n : ℕ) (a : Requesting) (c : Connection)
@@ -159,8 +156,7 @@ QuietMeasuresComplete =
     (world_from (commanding (world_after w before) line n (Measure id op)) behind)
     (lines_from (commanding (world_after w before) line n (Measure id op)) behind)
 
--- A pump of so many packets or more behind such a command leaves none that waits, so an honest
--- script can always go on.
+-- A pump of so many packets or more after such a command leaves none that waits, so an honest script can always go on.
 abbrev pub PumpsAreEnough : Type 0
 PumpsAreEnough =
     (w : WorldSetup) (before : List Entry) (n : ℕ) (a : Requesting) (c : Connection)
@@ -171,8 +167,7 @@ PumpsAreEnough =
 
 -- ---- Whole scripts.
 
--- A world is quiet: no packet waits, and each requester is quiet with the responder's connection
--- with it.
+-- A world is quiet: no packet waits, and each requester is quiet with the responder's connection with it.
 pub record IsQuietWorld (world : World) : Type 0 where
   pub idle : NothingWaits world
   pub quiet : (n : ℕ) (a : Requesting) (c : Connection) → requester_of n world ≡ Some a
@@ -185,7 +180,7 @@ up_to_command [] = []
 up_to_command (entry ∷ entries) =
     if is_command entry.happening then [] else entry ∷ up_to_command entries
 
--- What holds of each command in the world in which it stands, with what stands behind it.
+-- What holds of each command in the world in which it stands, with what follows it.
 abbrev pub OfEachCommand : (World → (line n : ℕ) → Command → (behind : List Entry) → Type 0) → World
     → List Entry → Type 0
 OfEachCommand Holds world [] = Unit {0}
@@ -225,9 +220,9 @@ pub record HaveTaken (most : ℕ) (world : World) : Type 0 where
       → length a.given + a.commands ≤ most
   pub responder : length world.responder.given ≤ most
 
--- From any quiet world on, whatever led to it: where nothing agrees by chance, each command that is
--- answered `ok` has what it needs, no packet waits at the end, and neither end can be worn out by
--- then, each of these commands is done before the next one, and the world is quiet.
+-- From any quiet world on, whatever led to it: where nothing agrees by chance, each command that is answered `ok` has
+-- what it needs, no packet waits at the end, and neither end can be worn out by then, each of these commands is done
+-- before the next one, and the world is quiet.
 abbrev pub QuietWorldsComplete : Type 0
 QuietWorldsComplete =
     (w : WorldSetup) → IsConfigured w → (before : List Entry) → IsQuietWorld (world_after w before)
@@ -251,23 +246,22 @@ HonestScriptsComplete =
 
 -- ---- Scripts that are honest by their form.
 
--- A command for requester n, and a pump behind it, each with the number of its line.
+-- A command for requester n, and a pump after it, each with the number of its line.
 pub record Order : Type 0 where
   pub line : ℕ
   pub n : ℕ
   pub command : Command
   pub pump_line : ℕ
 
--- Each command has a pump of so many packets behind it.
+-- Each command has a pump of so many packets after it.
 abbrev pub with_pumps : List Order → List Entry
 with_pumps [] = []
 with_pumps (o ∷ orders) =
     record { line = o.line; happening = Told o.n o.command }
     ∷ record { line = o.pump_line; happening = Pump most_packets } ∷ with_pumps orders
 
--- Such a script is honest, and no packet waits at its end, where nothing agrees by chance and each
--- command that is answered `ok` has what it needs. So there is an honest script for any such
--- commands.
+-- Such a script is honest, and no packet waits at its end, where nothing agrees by chance and each command that is
+-- answered `ok` has what it needs. So there is an honest script for any such commands.
 abbrev pub PumpedScriptsAreHonest : Type 0
 PumpedScriptsAreHonest =
     (w : WorldSetup) → IsConfigured w → (orders : List Order) → length orders ≤ 2 ^ 31

@@ -1,5 +1,5 @@
--- What is asked of an open session where its messages are delivered honestly: each command comes to
--- its result. This project's own.
+-- What is asked of an open session where its messages are delivered honestly: each command comes to its result. This
+-- project's own.
 use Rattle.std.specs.Prelude.{◌≡◌, ◌<◌, ◌≤◌, ◌+◌, ◌∷◌, ◌++◌, ℕ, List, [], length, Bool, true, false, Some, None, Contains}
 use Rattle.measurements.specs.Records.{is_missing}
 use Rattle.requester_machine.specs.Message.{Command}
@@ -39,9 +39,9 @@ use Rattle.spdm_progress.specs.Measuring.{measurements_size, number_for}
 abbrev pub session_at : Requesting → ℕ → Steps
 session_at a id = session_of id a.history
 
--- What a command asks of a session needs no more than that it is answered `ok`; but for
--- measurements a block that the operation, a byte, names has to be configured, and the answer has
--- to be one that can go to the requester, by chunks too.
+-- What a command asks of a session needs no more than that it is answered `ok`; but for measurements a block that the
+-- operation, a byte, names has to be configured, and the answer has to be one that can go to the requester, in chunks
+-- too.
 abbrev pub CanAsk : Requesting → Connection → Command → Type 0
 CanAsk a c (Send id bytes) = Unit {0}
 CanAsk a c (Beat id) = Unit {0}
@@ -56,8 +56,8 @@ CanAsk a c Connect = ⊥
 CanAsk a c (Open summary) = ⊥
 CanAsk a c Retry = ⊥
 
--- What it comes to: application data was answered, the session is alive, its keys are updated, so
--- many measurements came, or the session is ended.
+-- What it comes to: application data was answered, the session is alive, its keys are updated, so many measurements
+-- came, or the session is ended.
 abbrev pub result_of : Requesting → Connection → Command → Finished
 result_of a c (Send id bytes) = finished.Answered (session_id (session_at a id))
 result_of a c (Beat id) = finished.Alive (session_id (session_at a id))
@@ -68,8 +68,8 @@ result_of a c Connect = finished.Connected
 result_of a c (Open summary) = finished.Connected
 result_of a c Retry = finished.Connected
 
--- The most that a command leads to: the requester takes it and 276 packets, the responder takes 198
--- packets, and there are 414 packets in all.
+-- The most that a command leads to: the requester takes it and 276 packets, the responder takes 198 packets, and there
+-- are 414 packets in all.
 abbrev pub most_asked : ℕ
 most_asked = 277
 
@@ -84,8 +84,8 @@ pub record LivesToAnswer (a : Requesting) (r : Responding) : Type 0 where
   pub requester : length a.given + a.commands + most_asked ≤ wear_limit
   pub responder : length r.given + most_served ≤ wear_limit
 
--- Requester n, of a world that a set-up and any events lead to, is told a command where no packet
--- waits. The responder has this connection with it.
+-- Requester n, of a world that a set-up and any events lead to, is told a command where no packet waits. The responder
+-- has this connection with it.
 pub record IsTold (w : WorldSetup) (before : List Entry) (n : ℕ) (a : Requesting)
     (c : Connection) : Type 0 where
   pub configured : IsConfigured w
@@ -95,21 +95,20 @@ pub record IsTold (w : WorldSetup) (before : List Entry) (n : ℕ) (a : Requesti
       ≡ Some c
   pub life : LivesToAnswer a (world_after w before).responder
 
--- The command is answered `ok` where the requester and the responder's connection with it are
--- quiet.
+-- The command is answered `ok` where the requester and the responder's connection with it are quiet.
 pub record IsToldQuietly (w : WorldSetup) (before : List Entry) (n : ℕ) (a : Requesting)
     (c : Connection) (command : Command) : Type 0 where
   pub now : IsTold w before n a c
   pub quiet : AreQuiet a.setup c.setup a.first (world_after w before).log a.history c.history
   pub accepted : (requester_told a command).fault ≡ None
 
--- The session that a command names goes on behind it, unless it is ended.
+-- The session that a command names goes on after it, unless it is ended.
 abbrev pub goes_on : Command → Bool
 goes_on (End id) = false
 goes_on _ = true
 
--- The command of requester n is done: it is told this result in these lines; it is quiet again with
--- the responder's connection; and this session goes on, open at both ends, or is ended.
+-- The command of requester n is done: it is told this result in these lines; it is quiet again with the responder's
+-- connection; and this session goes on, open at both ends, or is ended.
 pub record IsDoneQuietly (n : ℕ) (q : ReqSetup) (r : RspSetup) (result : Finished) (id : ℕ)
     (open_still : Bool) (world : World) (lines : List Line) : Type 0 where
   pub told : Contains lines (Line.ToRequester n (event.Done result))
@@ -127,8 +126,8 @@ abbrev pub commanding : World → (line n : ℕ) → Command → World
 commanding world line n command =
     (entry_step world (record { line = line; happening = Told n command })).after
 
--- Whatever stands between this command and the next one of an honest script: once no packet waits
--- any more, and nothing agreed by chance until then, the command is done.
+-- Whatever stands between this command and the next one of an honest script: once no packet waits any more, and nothing
+-- agreed by chance until then, the command is done.
 abbrev pub CompletesQuietly : WorldSetup → List Entry → (n : ℕ) → Requesting → Connection → Command
     → Finished → (id : ℕ) → (open_still : Bool) → Type 0
 CompletesQuietly w before n a c command result id open_still =
@@ -154,7 +153,7 @@ pub record IsGoneThere (q : ReqSetup) (rsp : ℕ) (world : World) : Type 0 where
   pub is_connection : connection_of q.eid world.responder.connections ≡ Some connection
   pub gone : serving.is_live (serving.session_of rsp connection.history) ≡ false
 
--- Behind an end of a session among them, the responder does not hold it either.
+-- After an end of a session among them, the responder does not hold it either.
 abbrev pub EndedAtBothEnds : Type 0
 EndedAtBothEnds =
     (w : WorldSetup) (before : List Entry) (n : ℕ) (a : Requesting) (c : Connection) (id : ℕ)
@@ -178,9 +177,9 @@ abbrev pub OnlyWaited : (before now : served.History) → Type 0
 OnlyWaited before now =
     (entries : List served.Entry) × (now ≡ entries ++ before) × OnlyWaits entries
 
--- One record came to the connection of a requester since, and beside it nothing but queued data and
--- time. It brought these bytes, and took what was first in the queue before it: the first data that
--- waited, and no bytes where none did. This is what requester n took last.
+-- One record came to the connection of a requester since, and beside it nothing but queued data and time. It brought
+-- these bytes, and took what was first in the queue before it: the first data that waited, and empty where none did.
+-- This is what requester n took last.
 pub record TookQueued (n : ℕ) (q : ReqSetup) (c : Connection) (bytes : List ℕ)
     (world : World) : Type 0 where
   pub requester : Requesting
@@ -198,7 +197,7 @@ pub record TookQueued (n : ℕ) (q : ReqSetup) (c : Connection) (bytes : List �
   pub brought : turn.effect ≡ TookData bytes (first_queued (served.queue_of until))
   pub taken : last_data requester.history ≡ first_queued (served.queue_of until)
 
--- So it is behind a send among them.
+-- So it is after a send among them.
 abbrev pub AnswersAreQueued : Type 0
 AnswersAreQueued =
     (w : WorldSetup) (before : List Entry) (n : ℕ) (a : Requesting) (c : Connection) (id : ℕ)

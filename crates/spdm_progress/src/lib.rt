@@ -1,8 +1,8 @@
-//! Honest delivery completes what a requester is told to do. Nothing here runs: the definitions are
-//! in `specs/`, and each function below has a law about them as its contract.
+//! Honest delivery completes what a requester is told to do. Nothing here runs: the definitions are in `specs/`, and
+//! each function below has a law about them as its contract.
 //!
-//! Read first: `OpenCompletes` in `specs/Opening.antt`, what `open` comes to where all is
-//! delivered. The law to read first is `open_completes`.
+//! Read first: `OpenCompletes` in `specs/Opening.antt`, what `open` comes to where all is delivered. The law to read
+//! first is `open_completes`.
 #![tactic(auto)]
 
 mod laws;
