@@ -9,7 +9,7 @@ use Rattle.spdm_show.specs.Shown.{line_of, lines_of}
 abbrev pub lines_before : List Shown → ℕ → List ℕ
 lines_before shown i = lines_of (take i shown)
 
--- All lines are those before a message, its own and those behind.
+-- All lines are those before a message, its own and those after.
 pub lines_through : (shown : List Shown) (i : ℕ) (d : Shown) → i < length shown → lines_of shown ≡ lines_before shown i ++ (line_of (get_or shown i d) ++ lines_of (drop (i + 1) shown))
 lines_through [] i d h = absurd (omega (arith, h))
 lines_through (s ∷ others) zero d h = refl
@@ -32,7 +32,7 @@ lines_before_more (s ∷ others) (suc i) d h =
     ∙ ap (λ (t : List ℕ). line_of s ++ t) (lines_before_more others i d below)
     ∙ sym (append_assoc (line_of s) (lines_before others i) (line_of (get_or others i d)))
 
--- One text behind another.
+-- One text after another.
 pub takes_both : (old mid new : Option (List ℕ)) (a b : List ℕ) → Takes old a mid → Takes mid b new → Takes old (a ++ b) new
 takes_both old mid new a b first second = λ held e. second (held ++ a) (first held e) ∙ ap Some (append_assoc held a b)
 

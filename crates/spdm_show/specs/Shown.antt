@@ -51,7 +51,7 @@ shown_text text = shown_by (shown_in text)
 
 -- ---- Why a text is not shown.
 
--- The fault of a text, as it is told.
+-- The fault of a text, as it is reported.
 abbrev pub told_of : ScriptFault → ShowFault
 told_of (fault.Line line f) = told.Line line f
 told_of (fault.TooManyEvents line) = told.Line line TooManyEvents

@@ -1,8 +1,7 @@
-//! The command `show`: messages in hexadecimal, one a line, are shown by their names and lengths, or by their
-//! first faults.
+//! The command `show`: messages in hexadecimal, one a line, are shown by their names and lengths, or by their first
+//! faults.
 //!
-//! Read first: `shown_text` in `specs/Shown.antt`, what is written for a text of messages. The call
-//! is `show`.
+//! Read first: `shown_text` in `specs/Shown.antt`, what is written for a text of messages. The call is `show`.
 #![tactic(auto)]
 
 mod line;

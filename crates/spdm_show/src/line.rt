@@ -27,7 +27,7 @@ fn response_line(bytes: &[u8], hash_len: usize, summary: bool, out: &mut Line)
     }
 }
 
-/// Writes the line of a message, in place of what `out` holds.
+/// Overwrites `out` with the line of a message.
 pub fn line_of(shown: &Shown, out: &mut Line)
     ensures { out.new ≡ line_of shown.now }
 {

@@ -16,10 +16,10 @@ pub enum ShowFault {
     /// The first bad line, counted from 1, and its first fault. Nothing was written.
     #[error("line {0}: {1}")]
     Line(u32, LineFault),
-    /// Writing failed, behind a part of the lines.
+    /// Writing failed, after a part of the lines.
     #[error("writing failed")]
     WriteFault,
-    /// Memory ran out. Nothing was written.
+    /// Out of memory. Nothing was written.
     #[error("out of memory")]
     OutOfMemory,
 }
