@@ -40,7 +40,7 @@ of_driving c drive.OutOfMemory none refused = tt
 of_driving c (drive.Requester own) none refused =
     absurd (none-some own (sym (none.requester refused.has.config (record { q = refused.q; is = first_in c.requesters refused.q refused.first; sets_up = refused.has.sets_up })) ∙ refused.has.is))
 
--- Behind a beginning, where what is ahead is the stream of the input: all of it was followed.
+-- After a beginning, where what is ahead is the stream of the input: all of it was followed.
 pub all_driven : (before after : Outside) (begun : Begun) (rest ahead : Option (List ℕ)) (a : Requesting) → first_requester begun.config begun.seed ≡ Some a →
     IsBegun before.left before.seeds begun rest after.seeds → ((stream : List ℕ) → stream_in before.left ≡ Some stream → ahead ≡ Some stream) →
     IsDriven begun.config a ahead before.holds after.holds Done → ((left : List ℕ) → rest ≡ Some left → after.left ≡ Some []) → IsAnswered before after (Ok tt)

@@ -56,7 +56,7 @@ module _ (Streams : ScriptConfig → List ℕ → List GivenFrame → Ending →
     (whole_end : (before after : Outside) (input : List ℕ) (ending : Ending) → before.left ≡ Some input → Whole before after ending → HasEnd Streams input (InStream ending)) where
   module _ (before after : Outside) (input : List ℕ) (left : before.left ≡ Some input)
       (read : IsQuiet before.read_faults after.read_faults) (written : IsQuiet before.write_faults after.write_faults) (seeded : IsQuiet before.seed_faults after.seed_faults) where
-    -- what was answered is want of memory, or the answer to an end of the input
+    -- what was answered is allocation failure, or the answer to an end of the input
     answer_is : (result : Result (Unit {0}) StreamFault) → IsAnsweredBy Whole Part before after result →
         (result ≡ Err fault.OutOfMemory) ⊎ ((end : InputEnd) × HasEnd Streams input end × (result ≡ answer_for end))
     answer_is (Ok tt) is = inr (InStream Done, whole_end before after input Done left is.0, refl)

@@ -33,7 +33,7 @@ of_stream c serve.OutOfMemory none refused = tt
 of_stream c (serve.Responder own) none refused =
     absurd (none-some own (sym (none.responder refused.config refused.sets_up) ∙ refused.is))
 
--- Behind a beginning, where what is ahead is the stream of the input: all of it was served.
+-- After a beginning, where what is ahead is the stream of the input: all of it was served.
 pub all_served : (before after : Outside) (begun : Begun) (rest ahead : Option (List ℕ)) → IsBegun before.left before.seeds begun rest after.seeds →
     ((stream : List ℕ) → stream_in before.left ≡ Some stream → ahead ≡ Some stream) → IsServed (responder_of begun.config begun.seed) ahead before.holds after.holds Done →
     ((left : List ℕ) → rest ≡ Some left → after.left ≡ Some []) → IsAnswered before after (Ok tt)

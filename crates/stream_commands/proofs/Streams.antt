@@ -1,4 +1,4 @@
--- The stream of an input is what was read with its text and what is left behind it.
+-- The stream of an input is what was read with its text and what is left after it.
 use Rattle.std.proofs.Common.{◌≡◌, ◌∙◌, ℕ, List, [], refl, ap, sym, append-nil, Option, Some, None}
 use Rattle.std.proofs.lemmas.Option.{none-some}
 use Rattle.frame_stream.specs.Frames.{Ending}

@@ -1,4 +1,4 @@
--- The text that was read is the one in front of the stream.
+-- The text that was read is the one before the stream.
 use Rattle.std.proofs.Common.{◌≡◌, ◌≤◌, ℕ, List, length, subst, Option, Ok}
 use Rattle.frame_stream.specs.Parts.{IsTextOf}
 use Rattle.script_text.specs.ConfigText.{config_in}

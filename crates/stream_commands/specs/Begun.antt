@@ -1,5 +1,4 @@
--- What stands in front of a stream: a configuration up to `end`, and the seed of the end that it sets up. This
--- project's own.
+-- What precedes a stream: a configuration up to `end`, and the seed of the end that it sets up. This project's own.
 use Rattle.std.specs.Prelude.{◌≡◌, ◌<◌, ◌≤◌, ℕ, List, length, Option, Some, Result, Ok, Err}
 use Rattle.std.specs.Option.{option_map}
 use Rattle.frame_stream.specs.Parts.{IsTextOf}
@@ -75,7 +74,7 @@ IsParsed text (Err (fault.BadScript line f)) = bad_line_in (config_in text) ≡ 
 IsParsed text (Err fault.OutOfMemory) = Unit {0}
 IsParsed text (Err other) = ⊥
 
--- A fault of reading, as it is told.
+-- A fault of reading, as it is reported.
 abbrev pub told_of : InFault → StreamFault
 told_of reading.ReadFault = fault.ReadFault
 told_of reading.TooLong = fault.TooLong

@@ -38,9 +38,9 @@ abbrev pub IsUnwritten : (before after : Outside) → Type 0
 IsUnwritten before after = after.holds ≡ before.holds
 
 -- ---- What is answered. `Whole` says that what all whole frames of the stream led to was written, and no more, and that the
--- stream ends so behind them; `Part` that a prefix of what its first frames led to was written.
+-- stream ends so after them; `Part` that a prefix of what its first frames led to was written.
 
--- The cause of a fault, and what was written in front of it. Memory runs out only before the first frame.
+-- The cause of a fault, and what was written before it. Memory runs out only before the first frame.
 abbrev pub IsCauseBy : (Whole : (before after : Outside) → Ending → Type 0) → (Part : (before after : Outside) → Type 0) → (before after : Outside) → StreamFault → Type 0
 IsCauseBy Whole Part before after fault.ReadFault = HasFault before.read_faults after.read_faults × (IsUnwritten before after ⊎ Part before after)
 IsCauseBy Whole Part before after fault.WriteFault = HasFault before.write_faults after.write_faults × Part before after

@@ -1,4 +1,4 @@
--- What a responder answers to an input: a configuration and a stream of frames behind it. This project's own.
+-- What a responder answers to an input: a configuration and a stream of frames after it. This project's own.
 use Rattle.std.specs.Prelude.{ℕ, List, Result}
 use Rattle.frame_stream.specs.Frames.{Ending}
 use Rattle.responder_serve.specs.Served as serving
@@ -8,8 +8,8 @@ use Rattle.stream_commands.specs.Begun.{stream_in}
 use Rattle.stream_commands.specs.Outside.{IsAnsweredBy, IsCauseBy, IsSetUp, Outside}
 use Rattle.stream_commands.specs.declared.fault.StreamFault.{StreamFault}
 
--- The responder of the configuration with the seed answered all whole frames of the stream, and no more was written. The
--- stream ends so behind them.
+-- The responder of the configuration with the seed answered all whole frames of the stream, and no more was written.
+-- The stream ends so after them.
 pub record IsServed (before after : Outside) (ending : Ending) : Type 0 where
   pub config : ScriptConfig
   pub seed : List ℕ
@@ -23,7 +23,7 @@ pub record IsBegunToServe (before after : Outside) : Type 0 where
   pub set_up : IsSetUp config seed before after
   pub served : serving.IsServedInPart (responder_of config seed) (stream_in before.left) before.holds after.holds
 
--- The cause of a fault, and what was written in front of it.
+-- The cause of a fault, and what was written before it.
 abbrev pub IsCause : (before after : Outside) → StreamFault → Type 0
 IsCause before after fault = IsCauseBy IsServed IsBegunToServe before after fault
 

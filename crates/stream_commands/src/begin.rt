@@ -7,8 +7,8 @@ use script_text::{LineFault, ScriptConfig, ScriptFault, TEXT_LIMIT, parse_config
 use spdm_basis::{Buffer, InFault, Seeds, Source};
 use std::alloc::Global;
 
-/// What stands in front of a stream: the configuration, a seed for the end that it sets up, and the bytes of the
-/// stream that were read with the text.
+/// What precedes a stream: the configuration, a seed for the end that it sets up, and the bytes of the stream that were
+/// read with the text.
 #[derive(Drop)]
 pub(crate) struct Begun {
     pub(crate) config: ScriptConfig,
@@ -43,8 +43,8 @@ fn fault_of(fault: InFault) -> StreamFault
     }
 }
 
-/// Reads the text up to `end` or, where there is none, to the end of input, and takes one seed. After a fault no
-/// seed is gone.
+/// Reads the text up to `end` or, where there is none, to the end of input, and takes one seed. After a fault no seed
+/// is gone.
 pub(crate) fn begin<S: Source, E: Seeds>(
     alloc: Global,
     source: &mut S,

@@ -26,9 +26,9 @@ fn fault_of(fault: DriveFault) -> StreamFault
     }
 }
 
-/// Reads a configuration up to `end`, takes one seed, and drives the first requester that is configured, with the
-/// seed, by the stream of frames behind: packets are given to it, and lines tell it commands. Before the next read
-/// the lines of its trace and the packets that it sends are written.
+/// Reads a configuration up to `end`, takes one seed, and drives the first requester that is configured, with the seed,
+/// by the stream of frames after: packets are given to it, and lines tell it commands. Before the next read the lines
+/// of its trace and the packets that it sends are written.
 pub fn drive_input<S: Source, K: Sink, E: Seeds>(
     alloc: Global,
     source: &mut S,

@@ -7,10 +7,10 @@ pub enum StreamFault {
     /// This line of the configuration, counted from 1, is the first bad one. Nothing was written.
     #[error("line {line}: {fault}")]
     BadScript { line: u32, fault: LineFault },
-    /// Reading failed, behind a part of the output.
+    /// Reading failed, after a part of the output.
     #[error("reading failed")]
     ReadFault,
-    /// Writing failed, behind a part of the output.
+    /// Writing failed, possibly after part of the output.
     #[error("writing failed")]
     WriteFault,
     /// No seed was given. Nothing was written.
@@ -22,7 +22,7 @@ pub enum StreamFault {
     /// The frame that begins at this byte of the stream is bad. What the frames before it led to was written.
     #[error("bad frame at byte {at}")]
     BadFrame { at: u64 },
-    /// Memory ran out. Nothing was written.
+    /// Out of memory. Nothing was written.
     #[error("out of memory")]
     OutOfMemory,
 }

@@ -1,7 +1,7 @@
-//! The commands that answer a stream of frames behind a configuration.
+//! The commands that answer a stream of frames after a configuration.
 //!
-//! Read first: `IsServed` in `specs/Served.antt`, what `serve` comes to, with `IsDriven` for
-//! `drive`. Calls are `serve_input` and `drive_input`.
+//! Read first: `IsServed` in `specs/Served.antt`, what `serve` comes to, with `IsDriven` for `drive`. Calls are
+//! `serve_input` and `drive_input`.
 #![tactic(auto)]
 
 mod begin;

@@ -26,9 +26,9 @@ fn fault_of(fault: ServeFault) -> StreamFault
     }
 }
 
-/// Reads a configuration up to `end`, takes one seed, and serves the stream of frames behind: the responder that is
+/// Reads a configuration up to `end`, takes one seed, and serves the stream of frames after: the responder that is
 /// configured, with the seed, answers packets in order, and lets seconds pass. The answers to a frame are written
-/// before the next read. All memory is taken before the first frame.
+/// before the next read. Allocates only before the first frame.
 pub fn serve_input<S: Source, K: Sink, E: Seeds>(
     alloc: Global,
     source: &mut S,
