@@ -1,4 +1,4 @@
--- A responder keeps its end point, that of each of its connections too, and names it in each packet that it sends.
+-- A responder keeps its endpoint, that of each of its connections too, and names it in each packet that it sends.
 use Rattle.std.proofs.Common.{◌≡◌, ◌==◌, ◌||◌, ℕ, List, ◌∷◌, map, not, Bool, true, false, cond, Option, Some, None, Result, Ok, Err, refl, sym, subst}
 use Rattle.mctp_framing.specs.Cutting.{RouteFields}
 use Rattle.mctp_framing.specs.Gathering.{Gathered}
@@ -18,7 +18,7 @@ use Rattle.spdm_machine.specs.Keys.{Draw}
 use Rattle.spdm_machine.specs.Packets.{body_type, gathered_from}
 use Rattle.stream_laws.proofs.Bytes.{AreSent, packets_are_sent}
 
--- The responder's end point is this, and such a one is that of each connection.
+-- The responder's endpoint is this, and such a one is that of each connection.
 pub record HasEnds (P : ℕ → Type 0) (eid : ℕ) (r : Responding) : Type 0 where
   pub part : r.part.eid ≡ eid
   pub connections : (c : Connection) → IsIn r.connections c → P c.setup.eid

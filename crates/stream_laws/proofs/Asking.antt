@@ -1,4 +1,4 @@
--- A requester keeps its end point, and names it in each packet that it sends, whatever it is told or given.
+-- A requester keeps its endpoint, and names it in each packet that it sends, whatever it is told or given.
 use Rattle.std.proofs.Common.{ℕ, List, Bool, true, false, cond, Result, Ok, Err}
 use Rattle.mctp_framing.specs.Gathering.{Gathered}
 use Rattle.mctp_framing.specs.Gathering.Gathered.{Dropped, More, Whole}

@@ -8,7 +8,7 @@ use Rattle.requester_machine.specs.Requesting.{packets_of_sent}
 use Rattle.requester_machine.specs.Setup.{ReqSetup}
 use Rattle.spdm_machine.specs.Packets.{packets_to}
 
--- An end point is this one, or another.
+-- An endpoint is this one, or another.
 abbrev pub IsOwn : ℕ → ℕ → Type 0
 IsOwn eid own = own ≡ eid
 

@@ -27,7 +27,7 @@ use Rattle.stream_laws.specs.Traces.{first_frame}
 use Rattle.world_machine.specs.Happenings.{Happening}
 use Rattle.world_machine.specs.World.{SentPacket, World, given, given_to, given_to_requester, given_to_responder, id_in_event, is_at, number_at, number_from, packet_lines, replied, requester_at, requester_of, rests, told, told_by, with_requester, with_sent}
 
--- It stands in front, and no other end of the world has its end point.
+-- It stands in front, and no other end of the world has its endpoint.
 pub record IsFirst (eid : ℕ) (a : Requesting) (world : World) : Type 0 where
   pub others : List Requesting
   pub is : world.requesters ≡ a ∷ others

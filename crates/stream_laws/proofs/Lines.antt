@@ -70,7 +70,7 @@ own_packet eid packet e = ap (λ (b : Bool). cond b (spelled (PacketOf packet)) 
 other_packet : (eid : ℕ) (packet : List ℕ) → slice_index packet 2 ≢ eid → sent_by eid packet ≡ []
 other_packet eid packet e = ap (λ (b : Bool). cond b (spelled (PacketOf packet)) []) (ne_eqb (slice_index packet 2) eid e)
 
--- A line of which nothing is written, in front of others.
+-- A line of which nothing is written, before others.
 pub skipped : (own : Line → List ℕ) (line : Line) (rest : List Line) → own line ≡ [] → flat_map own (line ∷ rest) ≡ flat_map own rest
 skipped own line rest e = ap (λ (front : List ℕ). front ++ flat_map own rest) e
 
@@ -87,7 +87,7 @@ module _ (eid : ℕ) (own : Line → List ℕ) (shows : ShowsEnd eid own) where
       skipped own (Line.Packet (count + 1) packet) (packet_lines (count + 1) others) (shows.packet (count + 1) packet ∙ other_packet eid packet are.0)
       ∙ other_packets (count + 1) others are.1
 
-  -- The lines of what a packet told the responder, and of the data that it took, in front of others.
+  -- The lines of what a packet told the responder, and of the data that it took, before others.
   pub heard_lines : (heard : Heard) (n : ℕ) (taken : Option (SessionId × List ℕ)) (rest : List Line) → flat_map own (Line.ToResponder heard ∷ taken_lines n taken ++ rest) ≡ flat_map own rest
   heard_lines heard n None rest = skipped own (Line.ToResponder heard) rest (shows.heard heard)
   heard_lines heard n (Some taken) rest =

@@ -1,4 +1,4 @@
--- The requesters of a world, of which one goes on: no end point changes, and each requester but that one stays.
+-- The requesters of a world, of which one goes on: no endpoint changes, and each requester but that one stays.
 use Rattle.std.proofs.Common.{◌≡◌, ◌≢◌, ◌==◌, ◌∙◌, ◌+◌, ◌≤◌, ℕ, zero, suc, List, [], ◌∷◌, Bool, true, false, cond, Some, refl, sym, ap, subst, inl, inr, eq-eqb, arith}
 use Rattle.std.proofs.lemmas.Bool.{ne_eqb}
 use Rattle.requester_machine.specs.Requesting.{Requesting}
@@ -26,7 +26,7 @@ replaced_is : (P : ℕ → Type 0) (new old : Requesting) (b : Bool) → P new.s
 replaced_is P new old true p q = p
 replaced_is P new old false p q = q
 
--- Their end points are as they were.
+-- Their endpoints are as they were.
 pub ends_stay : (P : ℕ → Type 0) (new : Requesting) (all : List Requesting) → P new.setup.eid → ((b : Requesting) → IsIn all b → P b.setup.eid) → (b : Requesting) → IsIn (with_requester new all) b → P b.setup.eid
 ends_stay P new all is each b m =
     let o = in_map (replaced new) all b m in
@@ -49,7 +49,7 @@ number_by : (n eid : ℕ) (others : List Requesting) (b : Bool) → 2 ≤ n → 
 number_by n eid others true more next e = omega (arith, e, more)
 number_by n eid others false more next e = next e
 
--- A requester behind the first has not number 1.
+-- A requester after the first has not number 1.
 pub number_behind : (n eid : ℕ) (all : List Requesting) → 2 ≤ n → number_from n eid all ≢ 1
 number_behind n eid [] more = λ e. omega (arith, e)
 number_behind n eid (a ∷ others) more = number_by n eid others (a.setup.eid == eid) more (number_behind (n + 1) eid others (omega (arith, more)))

@@ -24,7 +24,7 @@ use Rattle.stream_laws.specs.Laws.{QueuesNothing}
 use Rattle.stream_laws.specs.Traces.{responder_frame}
 use Rattle.world_machine.specs.World.{SentPacket, World, given, given_to, given_to_requester, given_to_responder, id_in_event, is_at, number_at, packet_lines, requester_of, rests, told, told_by, with_requester, with_sent}
 
--- No requester of the world has its end point.
+-- No requester of the world has its endpoint.
 pub record IsServing (eid : ℕ) (r : Responding) (world : World) : Type 0 where
   pub is : world.responder ≡ r
   pub ends : HasEnds (IsOwn eid) eid r

@@ -30,13 +30,13 @@ setup_in es b m =
 told_in : (responder n : ℕ) (seeds : ℕ → List ℕ) (qs : List ReqPart) (b : Requesting) → IsIn (map new_requesting (ends_from responder n seeds qs)) b → IsIn (map (requester_in responder) qs) b.setup
 told_in responder n seeds qs b m = subst (λ (all : List ReqSetup). IsIn all b.setup) (setups_told responder n seeds qs) (setup_in (ends_from responder n seeds qs) b m)
 
--- Each of them has another end point than the responder.
+-- Each of them has another endpoint than the responder.
 differs_from : (c : ScriptConfig) → IsConfiguration (configuration_in c) → (q : ReqSetup) → IsIn (map (requester_in c.responder.eid.number) c.requesters) q → q.eid ≢ c.responder.eid.number
 differs_from c is q m e =
     let qs = map (requester_in c.responder.eid.number) c.requesters in
     (all_in IsRequester qs is.requesters q m).other (e ∙ sym (all_in (λ (x : ReqSetup). x.responder ≡ c.responder.eid.number) qs is.peers q m))
 
--- The connections of a responder have its end point.
+-- The connections of a responder have its endpoint.
 new_ends : (P : ℕ → Type 0) (e : RspEnd) → P e.part.eid → HasEnds P e.part.eid (new_responding e)
 new_ends P e is = record {
   part = refl;
@@ -65,7 +65,7 @@ front_in : (c : ScriptConfig) (seed : List ℕ) (a : Requesting) (qs : List ReqP
 front_in c seed a [] h = absurd (none_some a h)
 front_in c seed a (q ∷ others) h = record { q = q; others = others; parts = refl; is = some_same (requester_as c seed q) a h }
 
--- Its end point is not the responder's.
+-- Its endpoint is not the responder's.
 front_differs : (c : ScriptConfig) (seed : List ℕ) (a : Requesting) → IsConfiguration (configuration_in c) → Front c seed a c.requesters → a.setup.eid ≢ c.responder.eid.number
 front_differs c seed a is front e =
     let q = requester_in c.responder.eid.number front.q in

@@ -51,13 +51,13 @@ comes_from world (entry ∷ entries) = comes world entry.happening ++ comes_from
 abbrev pub is_packet_for : (eid : ℕ) → List ℕ → Bool
 is_packet_for eid packet = not (nat_lt (length packet) 2) && slice_index packet 1 == eid
 
--- It comes to requester 1, which has this end point.
+-- It comes to requester 1, which has this endpoint.
 abbrev pub is_for_first : (eid : ℕ) → Coming → Bool
 is_for_first eid (Tells n command) = n == 1
 is_for_first eid (Gives packet) = is_packet_for eid packet
 is_for_first eid (Passes seconds) = false
 
--- It comes to the responder, which has this end point.
+-- It comes to the responder, which has this endpoint.
 abbrev pub is_for_responder : (eid : ℕ) → Coming → Bool
 is_for_responder eid (Tells n command) = false
 is_for_responder eid (Gives packet) = is_packet_for eid packet

@@ -6,7 +6,7 @@ use Rattle.script_text.specs.declared.configuration.config.ReqPart.{ReqPart}
 use Rattle.script_text.specs.declared.configuration.config.ScriptConfig.{ScriptConfig}
 use Rattle.world_machine.specs.Setup.{WorldSetup, requester_seed, responder_seed}
 
--- Requesters beside a responder with this end point, in their first lives. The first of them has number n.
+-- Requesters beside a responder with this endpoint, in their first lives. The first of them has number n.
 abbrev pub ends_from : (responder n : ℕ) → (seeds : ℕ → List ℕ) → List ReqPart → List ReqEnd
 ends_from responder n seeds [] = []
 ends_from responder n seeds (q ∷ others) = requester_end responder q (seeds n) 0 ∷ ends_from responder (n + 1) seeds others

@@ -1,5 +1,5 @@
-//! What holds of a requester and a responder on streams of frames, each law as the contract of a
-//! function that does nothing.
+//! What holds of a requester and a responder on streams of frames, each law as the contract of a function that does
+//! nothing.
 
 ghost use Rattle.stream_laws.specs.Laws.{EveryCarriageIsAWorld, FirstIsDriven, ReadConfigurationKeepsLimits, ResponderIsServed, ScriptWorldsAreSuch, StreamsHold};
 
@@ -13,15 +13,14 @@ pub fn script_worlds_are_such()
     ensures { ScriptWorldsAreSuch }
 {}
 
-/// On frames that bring what comes to requester 1 of a world, a driven requester writes what is of
-/// requester 1 in the trace of that world, and stands at the end as requester 1 does.
+/// On frames that bring what comes to requester 1 of a world, a driven requester writes what is of requester 1 in the
+/// trace of that world, and stands at the end as requester 1 does.
 pub fn first_requester_is_driven()
     ensures { FirstIsDriven }
 {}
 
-/// On frames that bring what comes to the responder of a world, where no data are queued, a responder
-/// writes the packets that the responder sends in the trace of that world, and stands at the end as
-/// it does.
+/// On frames that bring what comes to the responder of a world, where no data are queued, a responder writes the
+/// packets that the responder sends in the trace of that world, and stands at the end as it does.
 pub fn responder_is_served()
     ensures { ResponderIsServed }
 {}
@@ -32,8 +31,8 @@ pub fn streams_hold()
     ensures { StreamsHold }
 {}
 
-/// Whatever is carried to a driven requester and a responder, in whatever order, the two do what the
-/// ends of one world do, and all of that holds of them where no two tags agree by chance.
+/// Whatever is carried to a driven requester and a responder, in whatever order, the two do what the ends of one world
+/// do, and all of that holds of them where no two tags agree by chance.
 pub fn every_carriage_is_a_world()
     ensures { EveryCarriageIsAWorld }
 {}

@@ -1,8 +1,8 @@
-//! A requester and a responder that answer streams of frames, as the ends of a world. Nothing here
-//! runs: each function has a law as its contract.
+//! A requester and a responder that answer streams of frames, as the ends of a world. Nothing here runs: each function
+//! has a law as its contract.
 //!
-//! Read first: `EveryCarriageIsAWorld` in `specs/Laws.antt`, that the ends are those of a world in
-//! whatever order frames are carried. The law to read first is `every_carriage_is_a_world`.
+//! Read first: `EveryCarriageIsAWorld` in `specs/Laws.antt`, that the ends are those of a world in whatever order
+//! frames are carried. The law to read first is `every_carriage_is_a_world`.
 #![tactic(auto)]
 
 mod laws;
