@@ -23,7 +23,7 @@ use Rattle.capture_machine.specs.Difference.{Why}
 use Rattle.capture_machine.specs.SessionTable.{Row}
 use Rattle.world_machine.specs.Setup.{Configuration}
 
--- What is kept of each other requester is kept behind a packet of this one.
+-- What is kept of each other requester is kept after a packet of this one.
 abbrev pub OthersStay : Configuration → ReqSetup → List (List ℕ) → List ℕ → (rows behind : List Row) → Type 0
 OthersStay w q older packet rows behind =
     (seen : JudgedPair) (other : ReqSetup) → other.eid ≢ q.eid → other.eid ≢ w.responder.eid → StandsFor seen w other older rows → StandsFor seen w other (packet ∷ older) behind
@@ -115,7 +115,7 @@ one_of w q eid end known = subst (λ (n : ℕ). find (λ (x : ReqSetup). x.eid =
 
 -- ---- What is told of a packet.
 
--- What is told of it by its requester.
+-- What is reported of it by its requester.
 pub told_by : (w : Configuration) (q : ReqSetup) (older : List (List ℕ)) (packet : List ℕ) (rows : List Row) (x : Result Unit declared.Why) (pair : JudgedPair) (new : Checker)
     → IsTaken w q older packet rows x pair new.table → new.own.number ≡ w.responder.eid → IsAnswering new.answering w.responder
     → ((behind : List Row) → StandsFor pair w q (packet ∷ older) behind → OthersStay w q older packet rows behind → AreKept new.pairs.items w (packet ∷ older) behind w.requesters) → IsTold w older packet x new

@@ -1,4 +1,4 @@
--- What a packet for a requester comes to: it goes on, it is a part of a large answer, or it is refused.
+-- What a packet for a requester comes to: it goes on, it is a part of a large response, or it is refused.
 use Rattle.std.proofs.Common.{◌≡◌, ◌==◌, ◌&&◌, ◌+◌, ◌∙◌, ℕ, List, ◌∷◌, length, refl, sym, ap, subst, Bool, true, false, Some, Result, Ok, Err, inl, inr, arith}
 use Rattle.std.specs.Prelude.{IfOk, OnOk}
 use Rattle.mctp_framing.specs.Cutting.{RouteFields}

@@ -8,7 +8,7 @@ use Rattle.trace_check.specs.Lines.{entries_text, entry_text}
 abbrev pub entries_before : List declared.Seen → ℕ → List ℕ
 entries_before table i = entries_text (take i table)
 
--- All lines are those before an entry, its own and those behind.
+-- All lines are those before an entry, its own and those after.
 pub entries_through : (table : List declared.Seen) (i : ℕ) (d : declared.Seen) → i < length table
     → entries_text table ≡ entries_before table i ++ (entry_text (seen_of (get_or table i d)) ++ entries_text (drop (i + 1) table))
 entries_through [] i d h = absurd (omega (arith, h))

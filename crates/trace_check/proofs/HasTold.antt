@@ -1,4 +1,4 @@
--- What a text was found to be, by what is told of it.
+-- What a text was found to be, by what is reported of it.
 use Rattle.std.proofs.Common.{◌≡◌, ◌≤◌, ℕ, List, length, subst, Option, Result, Ok}
 use Rattle.check_laws.specs.declared.verdict.Verdict.{Verdict}
 use Rattle.check_laws.specs.declared.verdict.Verdict.TheVariants as verdict

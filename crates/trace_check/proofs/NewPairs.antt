@@ -36,7 +36,7 @@ module _ (w : Configuration) (own i : ℕ) (parts : List ReqPart) (part : ReqPar
   pub is_sound : IsSound q
   is_sound = subst IsSound it_is (sound_at w.requesters i q sound.requesters few)
 
-  -- The requesters up to it, it, and those behind it.
+  -- The requesters up to it, it, and those after it.
   split : w.requesters ≡ take i w.requesters ++ q ∷ drop (suc i) w.requesters
   split =
       sym (take-append-drop i w.requesters)

@@ -90,7 +90,7 @@ one_answer text (Judged told) (Judged other) is its = same_answer told other (sa
 
 -- ---- What is answered where no call failed.
 
--- It is want of memory, or comes of a finding.
+-- It is allocation failure, or comes of a finding.
 abbrev IsTold : (text : List ℕ) → Result CheckAnswer CheckFault → Type 0
 IsTold text given =
     (given ≡ Err fault.OutOfMemory) ⊎ ((f : Finding) × HasFinding text f × (given ≡ answer_for f))

@@ -57,7 +57,7 @@ use Rattle.world_machine.specs.Setup.{Configuration}
 -- ---- Other requesters.
 
 module _ (w : Configuration) (q : ReqSetup) (older : List (List ℕ)) (rows : List Row) (packet : List ℕ) (p : PacketFields) (before : ComesBehind w q older rows packet p) (of : IsOfOne w.responder.eid p q.eid) where
-  -- What is kept of them is kept behind it, among the rows that it makes.
+  -- What is kept of them is kept after it, among the rows that it makes.
   pub others_stand : (d next : Dialogue) → next.setup ≡ q → (seen : JudgedPair) (other : ReqSetup) → other.eid ≢ q.eid → other.eid ≢ w.responder.eid → StandsFor seen w other older rows → StandsFor seen w other (packet ∷ older) (rows_between d next rows)
   others_stand d next its seen other apart away s =
       let none = of other.eid apart in
@@ -70,7 +70,7 @@ module _ (w : Configuration) (q : ReqSetup) (older : List (List ℕ)) (rows : Li
 
 -- ---- Nothing changes.
 
--- A walk behind packets, of which the rows are those that a packet makes that changes nothing.
+-- A walk after packets, of which the rows are those that a packet makes that changes nothing.
 pub record RestsAt (w : Configuration) (q : ReqSetup) (older : List (List ℕ)) (rows : List Row) (d : Dialogue) : Type 0 where
   pub walk : Walks w q older d
   pub same : rows_between d d rows ≡ rows

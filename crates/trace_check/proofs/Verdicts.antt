@@ -1,4 +1,4 @@
--- What is told of a whole capture, by what is kept of its first packets.
+-- What is reported of a whole capture, by what is kept of its first packets.
 use Rattle.std.proofs.Common.{◌≡◌, ◌<◌, ◌≤◌, ◌+◌, ◌-◌, ◌^◌, ◌∙◌, ℕ, zero, suc, refl, List, [], ◌∷◌, arith, ap, sym, subst, length, map, reverse, take, get_or}
 use Rattle.std.proofs.lemmas.List.{get_or_default, length-reverse, length-take-le, reverse-append, take_more}
 use Rattle.std.specs.Prelude.{slice_index_or}

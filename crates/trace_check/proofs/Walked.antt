@@ -59,7 +59,7 @@ apart_by : (own : ℕ) (o : ReqSetup) (qs : List ReqSetup) (eid : ℕ) (q : ReqS
 apart_by own o qs eid q true e apart next is = λ same. apart (eqb-true o.eid eid e ∙ same)
 apart_by own o qs eid q false e apart next is = next is
 
--- It has another end point than the responder.
+-- It has another endpoint than the responder.
 pub apart_is : (own : ℕ) (qs : List ReqSetup) (eid : ℕ) (q : ReqSetup) → AreApart own qs → find (λ (x : ReqSetup). x.eid == eid) qs ≡ Some q → eid ≢ own
 apart_is own [] eid q apart is = absurd (none-some q is)
 apart_is own (o ∷ qs) eid q apart is = apart_by own o qs eid q (o.eid == eid) refl apart.0 (apart_is own qs eid q apart.2) is

@@ -41,7 +41,7 @@ pub record IsWritten (text : List ℕ) (old now : Option (List ℕ)) (told : Ver
   pub wrote : Takes old (verdict_text told) now
 
 -- What is answered for a text, and what was written then. Nothing of the text is said by a call that failed, nor by
--- want of memory.
+-- allocation failure.
 abbrev pub IsAnswered : (text : List ℕ) → (old now : Option (List ℕ)) → Result CheckAnswer CheckFault → Type 0
 IsAnswered text old now (Ok answer.Conforms) = (table : List Seen) × IsWritten text old now (verdict.Conforms table)
 IsAnswered text old now (Ok (answer.Differs packet why)) = IsWritten text old now (verdict.Differs packet why)
@@ -58,12 +58,12 @@ writes_nothing (Ok (answer.Differs packet why)) = false
 writes_nothing (Err fault.WriteFault) = false
 writes_nothing (Err _) = true
 
--- What is told of a verdict.
+-- What is reported of a verdict.
 abbrev pub answer_of : Verdict → CheckAnswer
 answer_of (verdict.Conforms table) = answer.Conforms
 answer_of (verdict.Differs packet why) = answer.Differs packet why
 
--- The fault of a text that is no capture, as it is told.
+-- The fault of a text that is no capture, as it is reported.
 abbrev pub fault_of : ScriptFault → CheckFault
 fault_of (script.Line line f) = fault.Line line f
 fault_of (script.TooManyEvents line) = fault.Line line TooManyEvents

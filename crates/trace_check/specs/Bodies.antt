@@ -1,4 +1,4 @@
--- What is told of a body that came whole, by the walks of its requester. This project's own.
+-- What is reported of a body that came whole, by the walks of its requester. This project's own.
 use Rattle.std.specs.Prelude.{◌≡◌, ◌⊎◌, ℕ, List, Option, Some, None, Result, Ok, Err}
 use Rattle.mctp_framing.specs.Cutting.{RouteFields}
 use Rattle.mctp_framing.specs.Gathering.Gathered.{Whole}
@@ -34,7 +34,7 @@ IsRequestTold w q older rows packet route body (Ok u) new table = StandsBehind n
 IsRequestTold w q older rows packet route body (Err why) new table =
     NoneGoesOn w q older packet × IsAskedReason w q older (Whole route body) (why_of why)
 
--- It is told so, or it is out of order, and this is the reason.
+-- It is reported so, or it is out of order, and this is the reason.
 abbrev pub IsRequestJudged : Configuration → ReqSetup → List (List ℕ) → List Row → (packet : List ℕ) → RouteFields → (body : List ℕ)
     → Result Unit declared.Why → (new : MarkedEnds) → (table : List Seen) → Type 0
 IsRequestJudged w q older rows packet route body result new table =

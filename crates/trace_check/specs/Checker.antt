@@ -24,7 +24,7 @@ AreKept [] w older rows [] = Unit {0}
 AreKept (x ∷ xs) w older rows (q ∷ qs) = StandsFor x w q older rows × AreKept xs w older rows qs
 AreKept _ w older rows _ = ⊥
 
--- The requester has this end point.
+-- The requester has this endpoint.
 abbrev pub has_eid : ℕ → JudgedPair → Bool
 has_eid eid x = x.eid.number == eid
 
@@ -39,7 +39,7 @@ pub record IsChecker (seen : Checker) (w : Configuration) (older : List (List �
 
 -- ---- What is told of a packet.
 
--- It conforms behind those before it; or it does not conform, and then why.
+-- It conforms after those before it; or it does not conform, and then why.
 abbrev pub IsTold : Configuration → List (List ℕ) → (packet : List ℕ) → Result Unit declared.Why → (new : Checker) → Type 0
 IsTold w older packet (Ok u) new = IsChecker new w (packet ∷ older)
 IsTold w older packet (Err why) new = IsRefused w older packet (why_of why)

@@ -36,8 +36,8 @@ pub record StandsFor (seen : JudgedPair) (w : Configuration) (q : ReqSetup) (old
 
 -- ---- A packet.
 
--- A packet with these fields comes behind packets that conform and show these rows. The requester is one of those that are
--- set up.
+-- A packet with these fields comes after packets that conform and show these rows. The requester is one of those that
+-- are set up.
 pub record ComesBehind (w : Configuration) (q : ReqSetup) (older : List (List ℕ)) (rows : List Row) (packet : List ℕ) (p : PacketFields) : Type 0 where
   pub sound : AreSound w
   pub known : IsOneOf w q
@@ -45,8 +45,8 @@ pub record ComesBehind (w : Configuration) (q : ReqSetup) (older : List (List �
   pub shows : Show w older rows
   pub parses : parsed packet ≡ Ok p
 
--- It goes on: the packets with it conform and show these rows; the two ends are kept behind it among them, and so is what
--- is kept of each other requester; and the table stands for them.
+-- It goes on: the packets with it conform and show these rows; the two ends are kept after it among them, and so is
+-- what is kept of each other requester; and the table stands for them.
 pub record GoesOn (new : JudgedPair) (table : List Seen) (w : Configuration) (q : ReqSetup) (older : List (List ℕ)) (packet : List ℕ) (rows : List Row) : Type 0 where
   pub behind : List Row
   pub shows : Show w (packet ∷ older) behind
@@ -55,7 +55,7 @@ pub record GoesOn (new : JudgedPair) (table : List Seen) (w : Configuration) (q 
       → StandsFor seen w other older rows → StandsFor seen w other (packet ∷ older) behind
   pub entries : StandsForRows table w (length older + 1) behind
 
--- It does not conform behind those before it, for this reason.
+-- It does not conform after those before it, for this reason.
 abbrev pub IsRefused : Configuration → List (List ℕ) → (packet : List ℕ) → Why → Type 0
 IsRefused w older packet why = ((after : List Dialogue) → Leads w (packet ∷ older) after → ⊥) × IsReason w older packet why
 

@@ -26,7 +26,7 @@ pub record IsSound (q : ReqSetup) : Type 0 where
   pub sizes : HasSizes q
   pub limits : IsSetUp q
 
--- All ends are, their end points differ, and a byte counts the requesters.
+-- All ends are, their endpoints differ, and a byte counts the requesters.
 pub record AreSound (w : Configuration) : Type 0 where
   pub responder : HasLimits w.responder
   pub requesters : AllByRecursion IsSound w.requesters

@@ -17,7 +17,7 @@ entry_text s = seen_text s.requester s.id s.stage s.hash s.sent s.answered
 abbrev pub entries_text : List declared.Seen → List ℕ
 entries_text table = concat (map (λ (s : declared.Seen). entry_text (seen_of s)) table)
 
--- What conforms is told in a line, with its table behind it; what differs, in one line.
+-- What conforms is told in a line, with its table after it; what differs, in one line.
 abbrev pub verdict_text : Verdict → List ℕ
 verdict_text (verdict.Conforms table) = conforms_text ++ entries_text table
 verdict_text (verdict.Differs packet why) = differs_text packet why

@@ -8,7 +8,7 @@ use Rattle.script_text.specs.ScriptText.{capture_in}
 use Rattle.script_text.specs.declared.texts.faults.ScriptFault.{ScriptFault}
 use Rattle.script_text.specs.declared.texts.script.Capture.{Capture}
 
--- The text is a capture that has this verdict; or this is its first bad line. Want of memory says nothing.
+-- The text is a capture that has this verdict; or this is its first bad line. Allocation failure says nothing.
 abbrev pub IsCheckedText : (text : List ℕ) → Result Verdict ScriptFault → Type 0
 IsCheckedText text (Ok told) =
     (capture : Capture) × (capture_in text ≡ Ok capture) × IsVerdict (configuration_in capture.config) capture.packets told

@@ -23,10 +23,10 @@ pub enum CheckFault {
     /// Reading failed. Nothing was written.
     #[error("reading failed")]
     ReadFault,
-    /// Writing failed, behind a part of the lines.
+    /// Writing failed, after a part of the lines.
     #[error("writing failed")]
     WriteFault,
-    /// Memory ran out. Nothing was written.
+    /// Out of memory. Nothing was written.
     #[error("out of memory")]
     OutOfMemory,
 }

@@ -21,8 +21,7 @@ use mctp_framing::Route;
 use spdm_basis::OutOfMemory;
 use spdm_grammar::Why;
 
-// A request of at most 4,161 bytes came whole: it goes on, and so does the round, or it is refused and
-// then why.
+// A request of at most 4,161 bytes came whole: it goes on, and so does the round, or it is refused and then why.
 pub(crate) fn takes_request(
     round: &mut Round,
     ends: &mut MarkedEnds,
@@ -53,8 +52,8 @@ pub(crate) fn takes_request(
     }
 }
 
-// An answer of at most 4,161 bytes came whole: it goes on, and so does the round, or it is refused and
-// then why. An `Err` comes for want of memory.
+// An answer of at most 4,161 bytes came whole: it goes on, and so does the round, or it is refused and then why. An
+// `Err` comes for allocation failure.
 pub(crate) fn takes_answer(
     round: &mut Round,
     ends: &mut MarkedEnds,

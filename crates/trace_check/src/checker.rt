@@ -12,9 +12,8 @@ use spdm_basis::{Eid, OutOfMemory};
 use spdm_grammar::Why;
 use std::alloc::Global;
 
-/// The requesters of a capture and its responder after some packets that conform, and the sessions
-/// that these show. It takes one packet after another, and keeps a fixed amount for each requester
-/// and an entry for each session.
+/// The requesters of a capture and its responder after some packets that conform, and the sessions that these show. It
+/// takes one packet after another, and keeps a fixed amount for each requester and an entry for each session.
 #[derive(Drop)]
 pub struct Checker {
     pub(crate) own: Eid,
@@ -77,7 +76,7 @@ impl Checker {
         })
     }
 
-    // The place of the requester with this end point, if there is one.
+    // The place of the requester with this endpoint, if there is one.
     fn place_of(&self, eid: u8) -> Option<usize>
         ensures place { result ≡ position_from (has_eid eid) 0 self.now.pairs.items }
         ensures inside { IfSome result (λ place. place < length self.now.pairs.items) }
@@ -85,8 +84,8 @@ impl Checker {
         self.pairs.iter().position(|pair| pair.eid.number() == eid)
     }
 
-    /// The next packet of the capture: it conforms behind those before it, or it does not conform, and
-    /// then why. Nothing is said of what is kept then. An `Err` is want of memory.
+    /// The next packet of the capture: it conforms after those before it, or it does not conform, and then why. Nothing
+    /// is said of what is kept then. An `Err` is allocation failure.
     pub fn take(&mut self, packet: &[u8]) -> Result<Result<(), Why>, OutOfMemory>
         ensures { (w : Configuration) (older : List (List ℕ)) → AreSound w
             → IsChecker self.old w older → length older < 2 ^ 64 - 2
@@ -154,7 +153,7 @@ impl Checker {
         }
     }
 
-    // The sessions that the packets show, behind the last one.
+    // The sessions that the packets show, after the last one.
     pub(crate) fn into_table(self) -> SessionTable
         ensures { result ≡ self.table }
     {

@@ -10,9 +10,9 @@ use script_text::Capture;
 use spdm_basis::OutOfMemory;
 use std::alloc::Global;
 
-/// Whether a capture is one that its ends could have made: the sessions that it shows, or its first
-/// packet that does not conform, and why. The measurements of its configuration have no fault. It
-/// goes over the packets once. An `Err` is want of memory.
+/// Whether a capture is one that its ends could have made: the sessions that it shows, or its first packet that does
+/// not conform, and why. The measurements of its configuration have no fault. It goes over the packets once. An `Err`
+/// is allocation failure.
 pub fn check(alloc: Global, capture: &Capture) -> Result<Verdict, OutOfMemory>
     requires { inventory_fault capture.now.config.blocks ≡ None }
     ensures { AreSound (configuration_in capture.now.config)

@@ -11,7 +11,7 @@ use script_text::{LineFault, ScriptFault, TEXT_LIMIT};
 use spdm_basis::{InFault, OutFault, Sink, Source, read_all};
 use std::alloc::Global;
 
-// Why a text is no capture, as it is told.
+// Why a text is no capture, as it is reported.
 fn fault_of(fault: ScriptFault) -> CheckFault
     ensures { result ≡ fault_of fault }
 {
@@ -22,7 +22,7 @@ fn fault_of(fault: ScriptFault) -> CheckFault
     }
 }
 
-// What is told of a verdict.
+// What is reported of a verdict.
 fn answer_of(verdict: &Verdict) -> CheckAnswer
     ensures { result ≡ answer_of verdict.now }
 {
@@ -54,8 +54,8 @@ fn answer_text<K: Sink>(alloc: Global, text: &[u8], sink: &mut K) -> Result<Chec
     }
 }
 
-/// Reads a capture, up to the end of the source, and writes the lines of its verdict. An `Err` is told of
-/// the text that is no capture, of a call that failed, and of want of memory.
+/// Reads a capture, up to the end of the source, and writes the lines of its verdict. An `Err` is told of the text that
+/// is no capture, of a call that failed, and of allocation failure.
 pub fn check_input<S: Source, K: Sink>(
     alloc: Global,
     source: &mut S,

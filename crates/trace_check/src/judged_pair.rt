@@ -16,9 +16,9 @@ use spdm_grammar::Why;
 use std::alloc::Global;
 use spdm_grammar::names::MAX_BODY_SIZE;
 
-/// A requester of a capture and the responder: the bodies that are gathered in both directions, the
-/// round under way, what the two ends hold, and what the responder knows of the requester. It judges
-/// the packets between them. All its memory is taken when it is made.
+/// A requester of a capture and the responder: the bodies that are gathered in both directions, the round under way,
+/// what the two ends hold, and what the responder knows of the requester. It judges the packets between them. Allocates
+/// only when constructed.
 #[derive(Drop)]
 pub struct JudgedPair {
     pub(crate) eid: Eid,
@@ -64,8 +64,7 @@ impl JudgedPair {
     ghost use Rattle.capture_machine.specs.SessionTable.{Row, number_from};
     ghost use Rattle.world_machine.specs.Setup.{Configuration};
 
-    // A requester with this number, counted from 1, and the responder with this end point, where no
-    // packet came yet.
+    // A requester with this number, counted from 1, and the responder with this endpoint, where no packet came yet.
     pub(crate) fn new(
         alloc: Global,
         own: Eid,
@@ -117,8 +116,7 @@ impl JudgedPair {
         }
     }
 
-    // A packet came of the responder that is set up so, for this requester. An `Err` comes for want
-    // of memory.
+    // A packet came of the responder that is set up so, for this requester. An `Err` comes for allocation failure.
     pub(crate) fn take_answer(
         &mut self,
         table: &mut SessionTable,

@@ -20,7 +20,7 @@ fn is_other_type(body: &[u8]) -> bool
     }
 }
 
-// The reason that the order gives against a request that came whole; none where it is in order.
+// The reason that the order gives against a request that came whole; `None` where it is in order.
 pub(crate) fn asked_why(round: &Round, route: Route, body: &[u8]) -> Option<Why>
     ensures { told_of result ≡ asked_why round.now (Whole (route_of route) body.now) }
 {
@@ -33,7 +33,7 @@ pub(crate) fn asked_why(round: &Round, route: Route, body: &[u8]) -> Option<Why>
     None
 }
 
-// The reason that the order gives against an answer that came whole; none where it is in order.
+// The reason that the order gives against an answer that came whole; `None` where it is in order.
 pub(crate) fn answered_why(round: &Round, route: Route, answer: &[u8]) -> Option<Why>
     ensures { told_of result ≡ answered_why round.now (Whole (route_of route) answer.now) }
 {

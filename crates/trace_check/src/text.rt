@@ -6,8 +6,8 @@ use script_text::{ScriptFault, TEXT_LIMIT, parse_capture};
 use std::alloc::Global;
 use crate::check;
 
-/// The verdict on the capture that a text is. The fault is that of the first bad line, and the first
-/// that it has, or want of memory.
+/// The verdict on the capture that a text is. The fault is that of the first bad line, and the first that it has, or
+/// allocation failure.
 pub fn check_text(alloc: Global, text: &[u8]) -> Result<Verdict, ScriptFault>
     requires { length text.now ≤ TEXT_LIMIT }
     ensures { IsCheckedText text.now result }

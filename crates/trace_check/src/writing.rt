@@ -7,7 +7,7 @@ use check_laws::{Seen, SessionTable, Verdict, Why};
 use script_text::{line_conforms, line_differs, line_seen};
 use spdm_basis::{Line, OutFault, Sink, write_all};
 
-// Writes the line of an entry, in place of what `out` holds.
+// Overwrites `out` with the line of an entry.
 fn line_of(seen: &Seen, out: &mut Line)
     ensures { out.new ≡ entry_text (seen_of seen.now) }
 {
@@ -69,9 +69,8 @@ fn write_difference<K: Sink>(packet: u32, why: Why, sink: &mut K) -> Result<(), 
     Ok(())
 }
 
-/// Writes the lines of a verdict: `conforms` and an entry for each session, or `differs` with the
-/// number of the packet and the reason. It takes no memory. An `Err` comes only where the sink
-/// failed, behind a part of the lines.
+/// Writes the lines of a verdict: `conforms` and an entry for each session, or `differs` with the number of the packet
+/// and the reason. Never allocates. An `Err` comes only where the sink failed, after a part of the lines.
 pub fn write_verdict<K: Sink>(verdict: &Verdict, sink: &mut K) -> Result<(), OutFault>
     ensures whole { OnOk result (Takes (K.contents sink.old) (verdict_text verdict.now)
         (K.contents sink.new)) }
