@@ -1,4 +1,4 @@
--- Words behind words.
+-- Words after words.
 use Rattle.std.proofs.Common.{◌≡◌, ℕ, ◌++◌, List}
 use Rattle.std.proofs.lemmas.List.Sums.{fold-append}
 use Rattle.trace_text.specs.Spelling.{with_word, with_words}

@@ -98,7 +98,7 @@ part_word part.Field = codes "field"
 part_word part.Length = codes "length"
 part_word part.Rest = codes "rest"
 
--- Where bytes that spell no message are at fault.
+-- Where bytes that encode no message are at fault.
 unfoldable pub malformed_text : Malformed → List ℕ
 malformed_text m = spelled (codes "malformed" ∷ decimal m.at ∷ part_word m.what ∷ [])
 

@@ -5,11 +5,11 @@ use Rattle.hex.specs.Hex.{encode_lower}
 use Rattle.spdm_basis.specs.SessionIdBytes.{session_id_bytes}
 use Rattle.spdm_basis.specs.declared.values.session_id.SessionId.{SessionId}
 
--- A word behind a text, with a space between.
+-- A word after a text, with a space between.
 abbrev pub with_word : List ℕ → List ℕ → List ℕ
 with_word text word = text ++ 32 ∷ [] ++ word
 
--- Words behind a text.
+-- Words after a text.
 abbrev pub with_words : List ℕ → List (List ℕ) → List ℕ
 with_words text words = fold with_word text words
 

@@ -19,8 +19,8 @@ abbrev pub whose_words : Whose → List (List ℕ)
 whose_words (Requester n) = requester_word n ∷ []
 whose_words (Responder n) = codes "r" ∷ requester_word n ∷ []
 
--- A session: its id and stage, the epochs of requests and responses, their next numbers, how many messages were
--- taken, and the hash.
+-- A session: its id and stage, the epochs of requests and responses, their next numbers, how many messages were taken,
+-- and the hash.
 abbrev pub view_words : SessionView → List (List ℕ)
 view_words view =
     id_word view.id
@@ -33,7 +33,7 @@ view_words view =
     ∷ hex_word view.hash
     ∷ []
 
--- What a packet led to at the responder.
+-- The outcome of a packet at the responder.
 abbrev pub heard_words : Heard → List (List ℕ)
 heard_words (heard.Answered code) = codes "answered" ∷ code_word code ∷ []
 heard_words (heard.Taken id) = codes "taken" ∷ id_word id ∷ []
@@ -43,7 +43,7 @@ heard_words heard.Same = codes "same" ∷ []
 heard_words heard.More = codes "more" ∷ []
 heard_words (heard.Ignored why) = codes "ignored" ∷ responder_ignored_word why ∷ []
 
--- What a command came to.
+-- The outcome of a command.
 abbrev pub finished_words : Finished → List (List ℕ)
 finished_words finished.Connected = codes "connected" ∷ []
 finished_words (finished.Opened id) = codes "opened" ∷ id_word id ∷ []
@@ -53,7 +53,7 @@ finished_words (finished.Updated id) = codes "updated" ∷ id_word id ∷ []
 finished_words (finished.Measured count) = codes "measured" ∷ decimal count ∷ []
 finished_words (finished.Ended id) = codes "ended" ∷ id_word id ∷ []
 
--- What a packet led to at a requester.
+-- The outcome of a packet at a requester.
 abbrev pub event_words : Event → List (List ℕ)
 event_words event.Progress = codes "progress" ∷ []
 event_words event.More = codes "more" ∷ []

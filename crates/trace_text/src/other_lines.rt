@@ -161,7 +161,7 @@ fn part_word(part: Part) -> &'static [u8]
     }
 }
 
-/// Where bytes that spell no message are at fault.
+/// Where bytes that encode no message are at fault.
 #[tactic(auto, unfolding(crate::specs::OtherLines::malformed_text))]
 pub fn line_malformed(malformed: &Malformed, out: &mut Line)
     ensures { out.new ≡ malformed_text malformed.now }
@@ -172,8 +172,8 @@ pub fn line_malformed(malformed: &Malformed, out: &mut Line)
     end_line(out);
 }
 
-/// What a generated script came to: the packets that were sent, the application messages that were taken
-/// at both ends, and the sessions that are open.
+/// What a generated script came to: the packets that were sent, the application messages that were taken at both ends,
+/// and the sessions that are open.
 #[tactic(auto, unfolding(crate::specs::OtherLines::summary_text))]
 pub fn line_summary(seed: u64, count: u32, packets: u32, taken: u64, live: u32, out: &mut Line)
     ensures { out.new ≡ summary_text seed count packets taken live }

@@ -3,7 +3,7 @@ ghost use Rattle.std.specs.Prelude.{◌≡◌, ◌<◌, ◌*◌, length, slice_i
 ghost use Rattle.std.specs.List.{list_all};
 ghost use Rattle.hex.specs.Hex.{decode_of, encode_lower, hex_digit_value, is_hex_digit, lower_digits};
 
-// How far a small letter stands behind the place where the digits of the numbers end.
+// How far a small letter follows the place where the digits of the numbers end.
 const LETTERS: u8 = b'a' - b'9' - 1;
 
 // The digit of four bits.

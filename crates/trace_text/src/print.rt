@@ -9,7 +9,7 @@ use spdm_basis::{HashBytes, Line, SessionId};
 /// How many bytes a line has room for.
 pub const LINE_ROOM: usize = 8_400;
 
-/// How many bytes are spelled at once.
+/// How many bytes are encoded at once.
 pub const PIECE: usize = 64;
 
 /// How many digits a number of 64 bits has at most.
@@ -42,7 +42,7 @@ pub fn end_line(out: &mut Line)
     push(b"\n", out);
 }
 
-/// Puts a word behind those of a line.
+/// Puts a word after those of a line.
 pub fn push_word(word: &[u8], out: &mut Line)
     requires { length out.old + 1 + length word.now ≤ LINE_ROOM }
     ensures text { out.new ≡ with_word out.old word.now }
@@ -100,7 +100,7 @@ fn hex_digits(byte: u8) -> [u8; 2]
     digits
 }
 
-/// Puts a number behind the words of a line.
+/// Puts a number after the words of a line.
 #[tactic(auto, using(crate::proofs::Decimals::decimal_short))]
 pub fn push_number(number: u64, out: &mut Line)
     requires { length out.old + 1 + MOST_DIGITS ≤ LINE_ROOM }
@@ -111,7 +111,7 @@ pub fn push_number(number: u64, out: &mut Line)
     push_digits(number, out);
 }
 
-/// Puts bytes behind the words of a line.
+/// Puts bytes after the words of a line.
 #[tactic(auto, unfolding(crate::specs::Spelling::hex_word))]
 pub fn push_hex(bytes: &[u8], out: &mut Line)
     requires { length out.old + 2 + 2 * length bytes.now ≤ LINE_ROOM }
@@ -126,7 +126,7 @@ pub fn push_hex(bytes: &[u8], out: &mut Line)
     }
 }
 
-/// Puts a code behind the words of a line.
+/// Puts a code after the words of a line.
 pub fn push_code(code: u8, out: &mut Line)
     requires { length out.old + 3 ≤ LINE_ROOM }
     ensures text { out.new ≡ with_word out.old (code_word code) }
@@ -135,7 +135,7 @@ pub fn push_code(code: u8, out: &mut Line)
     push_word(&hex_digits(code), out);
 }
 
-/// Puts the id of a session behind the words of a line.
+/// Puts the id of a session after the words of a line.
 pub fn push_id(id: SessionId, out: &mut Line)
     requires { length out.old + 9 ≤ LINE_ROOM }
     ensures text { out.new ≡ with_word out.old (id_word id) }
@@ -155,7 +155,7 @@ pub fn begin_requester(q: u8, out: &mut Line)
     push_digits(u64::from(q), out);
 }
 
-/// Puts a requester behind the words of a line.
+/// Puts a requester after the words of a line.
 #[tactic(auto, using(crate::proofs::Decimals::decimal_short))]
 pub fn push_requester(q: u8, out: &mut Line)
     requires { length out.old + 2 + MOST_DIGITS ≤ LINE_ROOM }
@@ -166,7 +166,7 @@ pub fn push_requester(q: u8, out: &mut Line)
     push_digits(u64::from(q), out);
 }
 
-/// Begins a line with the sign in front of the number of a line.
+/// Begins a line with the sign before the number of a line.
 #[tactic(auto, using(crate::proofs::Decimals::decimal_short))]
 pub fn begin_at(number: u32, out: &mut Line)
     ensures text { out.new ≡ codes "@" ++ decimal number }
@@ -176,7 +176,7 @@ pub fn begin_at(number: u32, out: &mut Line)
     push_digits(u64::from(number), out);
 }
 
-/// Puts a hash behind the words of a line.
+/// Puts a hash after the words of a line.
 pub fn push_hash(hash: &HashBytes, out: &mut Line)
     requires { length out.old + 98 ≤ LINE_ROOM }
     ensures text { out.new ≡ with_word out.old (hex_word hash.now) }

@@ -14,7 +14,7 @@ pub fn end_text_line(text: &mut Bytes) -> Result<(), OutOfMemory>
     text.extend(b"\n")
 }
 
-/// Puts a word behind the words of the last line of a text.
+/// Puts a word after the words of the last line of a text.
 pub fn add_word(word: &[u8], text: &mut Bytes) -> Result<(), OutOfMemory>
     ensures { OnOk result (text.new ≡ with_word text.old word.now) }
 {
@@ -34,7 +34,7 @@ fn add_digits(number: u64, text: &mut Bytes) -> Result<(), OutOfMemory>
     text.extend(&[b'0' + (number % 10) as u8])
 }
 
-/// Puts a number behind the words of the last line of a text.
+/// Puts a number after the words of the last line of a text.
 pub fn add_number(number: u64, text: &mut Bytes) -> Result<(), OutOfMemory>
     ensures { OnOk result (text.new ≡ with_word text.old (decimal number)) }
 {
@@ -63,7 +63,7 @@ fn add_piece(piece: &[u8], text: &mut Bytes) -> Result<(), OutOfMemory>
     text.extend(digits)
 }
 
-/// Puts bytes behind the words of the last line of a text.
+/// Puts bytes after the words of the last line of a text.
 #[tactic(auto, unfolding(crate::specs::Spelling::hex_word))]
 pub fn add_hex(bytes: &[u8], text: &mut Bytes) -> Result<(), OutOfMemory>
     ensures { OnOk result (text.new ≡ with_word text.old (hex_word bytes.now)) }
@@ -84,7 +84,7 @@ pub fn begin_with_requester(q: u8, text: &mut Bytes) -> Result<(), OutOfMemory>
     add_digits(u64::from(q), text)
 }
 
-/// Puts a requester behind the words of the last line of a text.
+/// Puts a requester after the words of the last line of a text.
 pub fn add_requester(q: u8, text: &mut Bytes) -> Result<(), OutOfMemory>
     ensures { OnOk result (text.new ≡ with_word text.old (requester_word q)) }
 {

@@ -80,7 +80,7 @@ pub fn line_reply(answer: &Result<(), ReplyFault>, out: &mut Line)
     end_line(out);
 }
 
-// Puts what a packet led to at the responder behind the words of a line.
+// Puts what a packet led to at the responder after the words of a line.
 fn push_heard(heard: &Heard, out: &mut Line)
     requires { length out.old ≤ 100 }
     ensures text { out.new ≡ with_words out.old (heard_words heard.now) }
@@ -120,7 +120,7 @@ pub fn line_heard(heard: &Heard, out: &mut Line)
     end_line(out);
 }
 
-// Puts what a command came to behind the words of a line.
+// Puts what a command came to after the words of a line.
 fn push_finished(finished: &Finished, out: &mut Line)
     requires { length out.old ≤ 200 }
     ensures text { out.new ≡ with_words out.old (finished_words finished.now) }
@@ -155,7 +155,7 @@ fn push_finished(finished: &Finished, out: &mut Line)
     }
 }
 
-// Puts what a packet led to at a requester behind the words of a line.
+// Puts what a packet led to at a requester after the words of a line.
 fn push_event(event: &Event, out: &mut Line)
     requires { length out.old ≤ 100 }
     ensures text { out.new ≡ with_words out.old (event_words event.now) }
@@ -258,7 +258,7 @@ pub fn line_no_packet(number: u32, out: &mut Line)
     end_line(out);
 }
 
-// Puts a session behind the words of a line.
+// Puts a session after the words of a line.
 fn push_view(view: &SessionView, out: &mut Line)
     requires { length out.old ≤ 44 }
     ensures text { out.new ≡ with_words out.old (view_words view.now) }
