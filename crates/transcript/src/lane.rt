@@ -1,8 +1,8 @@
 use running_hash::RunningHash;
 use spdm_basis::{HashAlg, HashBytes};
 
-/// The hash of a transcript, taken message by message (DSP0274, "Transcript hash"). A lane does not keep
-/// what was pushed: contracts relate it to the list of all pushed bytes, for which it stands.
+/// The hash of a transcript, taken message by message (DSP0274, "Transcript hash"). A lane does not keep what was
+/// pushed: contracts relate it to the list of all pushed bytes, for which it stands.
 #[derive(Clone, Drop)]
 pub struct Lane {
     running: RunningHash,
@@ -24,7 +24,7 @@ impl Lane {
         }
     }
 
-    /// Adds bytes at the end of what was pushed.
+    /// Appends bytes of what was pushed.
     pub fn push(&mut self, bytes: &[u8])
         ensures hash { lane_hash self.new ≡ lane_hash self.old }
         ensures pushed { (pushed : List ℕ) → StandsFor self.old pushed
