@@ -1,6 +1,5 @@
--- What has to hold between the ends of a world in which nothing agrees by chance: one transcript, data that was
--- sent, sessions that match, and each number used once. This project's own notions; agreement itself is proved
--- elsewhere.
+-- What has to hold between the ends of a world in which nothing agrees by chance: one transcript, data that was sent,
+-- sessions that match, and each number used once. This project's own notions; agreement itself is proved elsewhere.
 use Rattle.std.specs.Prelude.{◌≡◌, ◌&&◌, ◌⊎◌, ℕ, List, [], ◌∷◌, ◌++◌, if◌then◌else◌, Bool, true, false, Option, Some, None, Contains, bytes_eq}
 use Rattle.key_schedule.specs.Purpose.{Purpose, is_record}
 use Rattle.requester_machine.specs.History as asked
@@ -34,8 +33,8 @@ pub record ArePair (world : World) (a : Requesting) (c : Connection) : Type 0 wh
   pub connection : Contains world.responder.connections c
   pub peer : c.setup.peer ≡ a.setup.eid
 
--- A requester holds the session of a ReqSessionID open: it is live, in stage Open or Verifying. `is_held` says
--- the same of the responder and a RspSessionID.
+-- A requester holds the session of a ReqSessionID open: it is live, in stage Open or Verifying. `is_held` says the same
+-- of the responder and a RspSessionID.
 abbrev pub holds : asked.History → ℕ → Bool
 holds h id = requester.is_live (requester.session_of id h) && is_past_handshake (requester.stage_of (requester.session_of id h))
 
@@ -119,8 +118,8 @@ responses_sealed t2 [] = []
 responses_sealed t2 (Sealed tag sealed t reply d ∷ older) = responses_sealed t2 older ++ some_under t2 (transcript_for sealed older) (data_answered t.effect)
 responses_sealed t2 (_ ∷ older) = responses_sealed t2 older
 
--- For each T2 and each direction, what one end took is the beginning of what the other end sealed, in live
--- sessions and in ended ones.
+-- For each T2 and each direction, what one end took is the beginning of what the other end sealed, in live sessions and
+-- in ended ones.
 abbrev pub DataPrefix : World → Type 0
 DataPrefix world =
     (a : Requesting) (c : Connection) → ArePair world a c → (t2 : List ℕ)

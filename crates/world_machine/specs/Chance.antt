@@ -16,8 +16,8 @@ IsValueMade v [] = ⊥
 IsValueMade v (Made q j u ∷ older) = (u ≡ v) ⊎ IsValueMade v older
 IsValueMade v (Checked q j u r ∷ older) = IsValueMade v older
 
--- Nothing agrees by chance: no two acts have equal computed values and different purposes or inputs, and no
--- value is received that equals the computed one, unless it was made before.
+-- Nothing agrees by chance: no two acts have equal computed values and different purposes or inputs, and no value is
+-- received that equals the computed one, unless it was made before.
 abbrev pub NoChance : Log → Type 0
 NoChance [] = Unit {0}
 NoChance (Made p i v ∷ older) = AreAlike p i v older × NoChance older

@@ -23,8 +23,8 @@ pub record Configuration : Type 0 where
 abbrev pub known_of : ReqSetup → Known
 known_of q = record { eid = q.eid; hint = q.hint; psk = q.psk }
 
--- The seed of the responder: HMAC over SHA-256 of the common seed and the byte 72, and for requester n of the
--- bytes 71 and n (hexadecimal). This project's own.
+-- The seed of the responder: HMAC over SHA-256 of the common seed and the byte 72, and for requester n of the bytes 71
+-- and n (hexadecimal). This project's own.
 abbrev pub responder_seed : List ℕ → List ℕ
 responder_seed seed = hmac (hash_of Sha256) seed (0x72 ∷ [])
 

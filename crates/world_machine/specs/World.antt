@@ -1,5 +1,5 @@
--- A responder, its requesters and the packets between them; and what one event of a script does: the lines that
--- it writes, and the world after it. This project's own.
+-- A responder, its requesters and the packets between them; and what one event of a script does: the lines that it
+-- writes, and the world after it. This project's own.
 use Rattle.std.specs.Prelude.{◌+◌, ◌==◌, nat_lt, ℕ, zero, suc, List, [], ◌∷◌, ◌++◌, length, map, find, slice_index, if◌then◌else◌, Bool, true, false, Option, Some, None}
 use Rattle.requester_machine.specs.Message.{Command}
 use Rattle.requester_machine.specs.Shown as requester_shown
@@ -20,14 +20,14 @@ use Rattle.requester_machine.specs.Requesting.{Requesting, CommandStep, PacketSt
 use Rattle.responder_machine.specs.Responding.{Responding, Connection, RspStep, new_responding, connection_of, responder_hears, reply_fault_of, queues, ticks}
 use Rattle.world_machine.specs.Setup.{WorldSetup}
 
--- A packet that was sent, and whether it waits to be given to its end. Its number is its place among all packets
--- sent, counted from 1.
+-- A packet that was sent, and whether it waits to be given to its end. Its number is its place among all packets sent,
+-- counted from 1.
 pub record SentPacket : Type 0 where
   pub bytes : List ℕ
   pub waits : Bool
 
--- The requesters in order, the responder, the packets sent, in order, and the tags that all ends computed and
--- compared, the newest first.
+-- The requesters in order, the responder, the packets sent, in order, and the tags that all ends computed and compared,
+-- the newest first.
 pub record World : Type 0 where
   pub requesters : List Requesting
   pub responder : Responding
@@ -47,7 +47,7 @@ pub record WorldStep : Type 0 where
 abbrev pub rests : World → WorldStep
 rests world = record { lines = []; after = world }
 
--- One step behind another.
+-- One step after another.
 abbrev pub behind : WorldStep → (World → WorldStep) → WorldStep
 behind first second = record { lines = first.lines ++ (second first.after).lines; after = (second first.after).after }
 
@@ -57,11 +57,11 @@ behind first second = record { lines = first.lines ++ (second first.after).lines
 abbrev pub waiting : List ℕ → SentPacket
 waiting bytes = record { bytes = bytes; waits = true }
 
--- The packets sent, with new ones behind them that wait.
+-- The packets sent, with new ones after them that wait.
 abbrev pub with_sent : List SentPacket → List (List ℕ) → List SentPacket
 with_sent sent packets = sent ++ map waiting packets
 
--- Their lines, behind so many that were sent before.
+-- Their lines, after so many that were sent before.
 abbrev pub packet_lines : ℕ → List (List ℕ) → List Line
 packet_lines count [] = []
 packet_lines count (bytes ∷ others) = Line.Packet (count + 1) bytes ∷ packet_lines (count + 1) others
@@ -79,20 +79,20 @@ abbrev pub requester_of : ℕ → World → Option Requesting
 requester_of zero world = None
 requester_of (suc place) world = requester_at place world.requesters
 
--- The number of the requester with this end point, where the first of these has number n; 0 where none has it.
+-- The number of the requester with this endpoint, where the first of these has number n; 0 where none has it.
 abbrev pub number_from : ℕ → ℕ → List Requesting → ℕ
 number_from n eid [] = 0
 number_from n eid (a ∷ others) = if a.setup.eid == eid then n else number_from (n + 1) eid others
 
--- The number of the requester with this end point, and 0 where there is none.
+-- The number of the requester with this endpoint, and 0 where there is none.
 abbrev pub number_at : ℕ → World → ℕ
 number_at eid world = number_from 1 eid world.requesters
 
--- The new requester in place of the old one, where they have one end point.
+-- The new requester in place of the old one, where they have one endpoint.
 abbrev pub replaced : Requesting → Requesting → Requesting
 replaced new old = if old.setup.eid == new.setup.eid then new else old
 
--- The requesters with the new one in place of the one with its end point.
+-- The requesters with the new one in place of the one with its endpoint.
 abbrev pub with_requester : Requesting → List Requesting → List Requesting
 with_requester new requesters = map (replaced new) requesters
 
@@ -130,8 +130,8 @@ abbrev pub record_lines : ℕ → Option (List ℕ) → List Line
 record_lines n None = []
 record_lines n (Some bytes) = Line.Record n bytes ∷ []
 
--- What comes of it: lines of what is told, of data, of measurements and of the packets sent; and the
--- requester as it is after it.
+-- What comes of it: lines of what is told, of data, of measurements and of the packets sent; and the requester as it is
+-- after it.
 abbrev pub given_to_requester : World → ℕ → PacketStep → WorldStep
 given_to_requester world n step = record {
   lines = Line.ToRequester n step.event
@@ -143,7 +143,7 @@ given_to_requester world n step = record {
 
 -- ---- A packet is given to the responder.
 
--- The requester with an end point.
+-- The requester with an endpoint.
 abbrev pub is_at : ℕ → Requesting → Bool
 is_at eid a = a.setup.eid == eid
 
@@ -236,7 +236,7 @@ pumps (suc count) world = turn world (pumps count) (first_waiting world.sent)
 
 -- ---- Queued data.
 
--- Application data is queued for an end point, or its fault stands in the line.
+-- Application data is queued for an endpoint, or its fault stands in the line.
 abbrev pub replied_by : World → ℕ → List ℕ → Option Connection → WorldStep
 replied_by world eid bytes connection = record {
   lines = Line.Reply (reply_fault_of connection bytes) ∷ [];

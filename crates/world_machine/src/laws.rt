@@ -1,5 +1,4 @@
-//! What holds of the definitions at every world, each law as the contract of a function that does
-//! nothing.
+//! What holds of the definitions at every world, each law as the contract of a function that does nothing.
 
 ghost use Rattle.world_machine.specs.Laws.{ChanceStays};
 
