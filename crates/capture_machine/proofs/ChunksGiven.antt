@@ -1,5 +1,5 @@
--- The chunks that were given of the large response under way, as they stand in a history: what is pending at its place
--- goes by them.
+-- The chunks that were given of the large response in progress, as they stand in a history: what is pending at its
+-- place goes by them.
 use Rattle.std.proofs.Common.{◌≡◌, ◌+◌, ◌==◌, ◌&&◌, ◌||◌, ℕ, suc, List, [], ◌∷◌, ◌++◌, refl, sym, ap, ◌∙◌, drop, Bool, true, false, Option, Some, None, is_some, cond, length, arith, eqb-true}
 use Rattle.std.specs.Prelude.{not, slice_index}
 use Rattle.std.proofs.lemmas.Bool.{false≢true}

@@ -1,4 +1,4 @@
--- A large response under way at the responder: how it begins, and what each answer leaves of it.
+-- A large response in progress at the responder: how it begins, and what each answer leaves of it.
 use Rattle.std.proofs.Common.{◌≡◌, ◌==◌, ℕ, List, [], ◌∷◌, refl, sym, ap, ◌∙◌, subst, drop, Bool, true, false, Option, Some, None, cond, inl, inr, arith}
 use Rattle.std.specs.Prelude.{not, slice_index}
 use Rattle.std.proofs.lemmas.Bool.{false_from_ne_true, false≢true, not-true}

@@ -90,7 +90,7 @@ same_kept r g tag m f o is repeats =
     ap (λ x. cond (is_repeat x tag m) (Same (clear_body (kept_reply x))) (Adds (Clear tag (turn_of r (clear_place g) m f) no_draw))) is
     ∙ ap (λ (b : Bool). cond b (Same (clear_body (kept_reply o))) (Adds (Clear tag (turn_of r (clear_place g) m f) no_draw))) repeats
 
--- To a repeat: the kept reply.
+-- To a repeat: the stored reply.
 pub repeat_same : (r : RspSetup) (h : History) (place : Option ℕ) (w : List ℕ) (ids : List ℕ) (tag : ℕ) (m : List ℕ) (f : Free) → is_repeat (kept_of h) tag m ≡ true
     → on_clear r (with_dropped (with_large place w h) ids) tag m f no_draw ≡ Same (clear_body (kept_reply (kept_of h)))
 repeat_same r h place w ids tag m f repeats = same_kept r (with_dropped (with_large place w h) ids) tag m f (kept_of h) (kept_same ids (with_large place w h) ∙ kept_large place w h) repeats

@@ -74,8 +74,8 @@ while_alike : (b : Bool) (x y : Option (List ℕ)) → FetchesAlike x y → Fetc
 while_alike true x y alike = alike
 while_alike false x y alike = NoneFetched
 
--- What an answer leads to is told: the history, and, where the requester asks for a chunk upon it, whether a large
--- response is fetched from then on.
+-- What an answer leads to is told: the history, and, where the requester asks for a chunk in response to it, whether a
+-- large response is fetched from then on.
 pub record Told (b : Bool) (next other : History) (fetching fetches : Option (List ℕ)) : Type 0 where
   pub history : next ≡ other
   pub fetched : FetchesAlike (cond b fetching None) (cond b fetches None)

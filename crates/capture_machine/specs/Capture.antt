@@ -43,8 +43,8 @@ Begins d tag body next =
 -- ---- An answer.
 
 -- An answer has the tag of the last round, in which a request has none yet. The responder takes the oldest such request
--- and may answer it so, and the requester hears the answer. Where it asks for a chunk upon it, a large response is
--- under way.
+-- and may answer it so, and the requester hears the answer. Where it asks for a chunk in response to it, a large
+-- response is in progress.
 abbrev pub Replies : Configuration → Dialogue → ℕ → List ℕ → Dialogue → Type 0
 Replies w d tag answer next =
     (round : Round) × (d.round ≡ Some round) × (round.tag ≡ tag) × (0 < round.waiting)

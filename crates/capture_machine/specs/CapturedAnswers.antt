@@ -159,8 +159,8 @@ Completes r d round answer next =
     × (next ≡ entry ∷ with_large (place_named round.body) whole (dropped_before_large (place_named round.body) dropped d.responder))
     × (is_untouched (place_named round.body) (begun_with (place_named round.body) whole d.responder) d.responder ≡ true)
 
--- What an answer may lead to: the responder's history after it, and the bytes that stand for the large response under
--- way. Of LargeResponse again it is the requester that tells whether it begins a fetch.
+-- What an answer may lead to: the responder's history after it, and the bytes that stand for the large response in
+-- progress. Of LargeResponse again it is the requester that tells whether it begins a fetch.
 unfoldable pub Answers : RspSetup → Dialogue → Round → List ℕ → History → Option (List ℕ) → Type 0
 Answers r d round answer next fetching =
     (AnswersPlainly r d round answer next × (fetching ≡ d.fetching))

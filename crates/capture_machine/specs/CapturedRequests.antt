@@ -15,7 +15,7 @@ use Rattle.capture_machine.specs.Rounds.{Dialogue, Round, no_draw}
 
 -- ---- The message that is owed.
 
--- The requester's messages stand in the capture, all but the last one at most: one that it sends by itself upon an
+-- The requester's messages stand in the capture, all but the last one at most: one that it sends by itself on an
 -- answer, and that did not come yet. It has another tag than the last round.
 abbrev pub is_later : Option Round → Option Sent → Bool
 is_later (Some round) (Some sent) = not (sent.tag == round.tag)
@@ -83,12 +83,12 @@ BeginsOwed d body after whole =
     × (body_of (first_piece (without_owed d) asked whole).content ≡ body)
     × (after ≡ with_next (Some (first_piece (without_owed d) asked whole)) d.requester)
 
--- The first chunk of a large request, by a command or owed; the bytes that stand for it are under way from then on.
+-- The first chunk of a large request, by a command or owed; the bytes that stand for it are in progress from then on.
 abbrev pub BeginsByChunks : Dialogue → List ℕ → History → Option (List ℕ) → Type 0
 BeginsByChunks d body after sending =
     (whole : List ℕ) × (BeginsLarge d body after whole ⊎ BeginsOwed d body after whole) × (sending ≡ Some whole)
 
--- What a body that begins a round leads to: the requester's history after it, and the large request under way.
+-- What a body that begins a round leads to: the requester's history after it, and the large request in progress.
 unfoldable pub Sends : Dialogue → List ℕ → History → Option (List ℕ) → Type 0
 Sends d body after sending =
     ((Connects d body after ⊎ Commands d body after) × (sending ≡ None))

@@ -173,7 +173,7 @@ is_fetching (Some sent) = is_for_chunk sent.aim
 abbrev pub while_fetched : requester_history.History → Option (List ℕ) → Option (List ℕ)
 while_fetched h whole = if is_fetching (requester_history.outstanding h) then whole else None
 
--- What the requester asks a chunk of is under way.
+-- What the requester asks a chunk of is in progress.
 abbrev pub asks_known : requester_history.History → Option (List ℕ) → Bool
 asks_known h whole = not (is_fetching (requester_history.outstanding h)) || is_some whole
 

@@ -82,12 +82,12 @@ MayHaveBegun q (TookRecord tag id sealed inner led d ∷ older) = MayHaveBegun q
 abbrev pub IsJudgedAtLast : ReqSetup → History → List ℕ → Aim → Type 0
 IsJudgedAtLast q h whole aim = OnTrue (is_last_piece h whole aim) (AreAsked whole aim × MayHaveBegun q h)
 
--- A large request under way is judged so; where there is none, nothing is to be judged.
+-- A large request in progress is judged so; where there is none, nothing is to be judged.
 abbrev pub IsJudged : ReqSetup → History → Option (List ℕ) → Aim → Type 0
 IsJudged q h None aim = ⊤
 IsJudged q h (Some whole) aim = IsJudgedAtLast q h whole aim
 
--- With its last chunk a large request is no longer under way.
+-- With its last chunk a large request is no longer in progress.
 abbrev pub still_sending : History → Option (List ℕ) → Aim → Option (List ℕ)
 still_sending h None aim = None
 still_sending h (Some whole) aim = if is_last_piece h whole aim then None else Some whole

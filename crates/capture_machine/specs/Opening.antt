@@ -61,8 +61,8 @@ any_free = record { id = 1; context = []; exchange_opaque = []; nonce = []; meas
 abbrev pub turn_in : RspSetup → Events → List ℕ → Turn
 turn_in r s request = session_turn r s (opened r.psk s request) any_free
 
--- An answer with the id of the session that the request names: as the kept reply of a repeat, or for a live session as
--- its next answer; as the answer to a request that opens; and as the next one where the request does not.
+-- An answer with the id of the session that the request names: as the stored reply of a repeat, or for a live session
+-- as its next answer; as the answer to a request that opens; and as the next one where the request does not.
 abbrev pub opens_in_session : RspSetup → History → Events → (request sealed : List ℕ) → Bool
 opens_in_session r h s request sealed =
     if repeats (ended_of h) request then opens_ended r h sealed

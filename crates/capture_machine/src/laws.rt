@@ -1,4 +1,4 @@
-//! What holds of captures, each law as the contract of a function that does nothing.
+//! What holds of captures, each law stated as the contract of an empty function.
 
 ghost use Rattle.capture_machine.specs.Capture.{BeginningConforms, OneIsFirst};
 ghost use Rattle.capture_machine.specs.Difference.{FirstHasReason, OneReason};
