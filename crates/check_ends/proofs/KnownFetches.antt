@@ -1,4 +1,4 @@
--- While no large response is under way the requester has no CHUNK_GET outstanding.
+-- While no large response is in progress the requester has no CHUNK_GET outstanding.
 use Rattle.std.proofs.Common.{◌≡◌, ◌∙◌, ◌⊎◌, ◌||◌, ℕ, List, [], ◌∷◌, refl, sym, ap, subst, Bool, true, false, Option, Some, None, is_some, cond, inl, inr}
 use Rattle.std.specs.Prelude.{not}
 use Rattle.std.proofs.lemmas.Bool.{false≢true}

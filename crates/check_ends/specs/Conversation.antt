@@ -37,8 +37,8 @@ use Rattle.world_machine.specs.Setup.{Configuration}
 abbrev pub meanwhile : Sending → Kept
 meanwhile s = record s.before { responder = s.responder; round = Some s.round }
 
--- A large request is under way after the packets, and this is kept of it, and of the two ends. What was kept before its
--- first chunk was so of fewer packets.
+-- A large request is in progress after the packets, and this is kept of it, and of the two ends. What was kept before
+-- its first chunk was so of fewer packets.
 pub record IsUnderWay (seen : Party) (large : LargeRequest) (w : Configuration) (q : ReqSetup) (older : List (List ℕ)) (rows : List Row) (s : Sending) : Type 0 where
   pub sending : IsSendingOf w q older s
   pub chunks : large_requests.StandsFor large s
@@ -47,7 +47,7 @@ pub record IsUnderWay (seen : Party) (large : LargeRequest) (w : Configuration) 
   pub before : Keeps w q earlier s.before
   pub fewer : length earlier < length older
 
--- It is kept of the packets, among the rows that they show: no large request is under way after them, or this one is.
+-- It is kept of the packets, among the rows that they show: no large request is in progress after them, or this one is.
 abbrev pub StandsAs : Party → Option LargeRequest → Configuration → ReqSetup → (older : List (List ℕ)) → List Row → Type 0
 StandsAs party None w q older rows = (k : Kept) × Keeps w q older k × IsParty party w q k rows
 StandsAs party (Some large) w q older rows = (s : Sending) × IsUnderWay party large w q older rows s
@@ -134,12 +134,12 @@ IsAskedOf w q older rows packet g (Err why) new table = NoneGoesOn w q older pac
 abbrev pub IsPart : Configuration → ReqSetup → List (List ℕ) → ℕ → (answer : List ℕ) → Type 0
 IsPart w q older tag answer = (k : Kept) × Keeps w q older k × IsPartOfLarge w k tag answer
 
--- The requester asks for a chunk upon an answer that goes whole, by what is kept of the packets.
+-- The requester asks for a chunk on an answer that goes whole, by what is kept of the packets.
 abbrev pub IsAsked : Configuration → ReqSetup → List (List ℕ) → ℕ → (answer : List ℕ) → Type 0
 IsAsked w q older tag answer = (k : Kept) × Keeps w q older k × IsAskedUpon w k tag answer
 
--- Of an answer: it goes on, or it is a part of a large one, of which nothing more is said; or the requester asks for a chunk
--- upon it, and why it is refused where no walk goes on with it; or no walk does, and then why.
+-- Of an answer: it goes on, or it is a part of a large one, of which nothing more is said; or the requester asks for a
+-- chunk in response to it, and why it is refused where no walk goes on with it; or no walk does, and then why.
 abbrev pub IsJudgedAnswer : Configuration → ReqSetup → List (List ℕ) → List Row → (packet : List ℕ) → RouteFields → (answer : List ℕ)
     → Result Onward declared.Why → (party : Party) → (large : Option LargeRequest) → (table : List Seen) → Type 0
 IsJudgedAnswer w q older rows packet route answer (Ok onward.Kept) party large table = StandsBehind party large table w q older rows packet

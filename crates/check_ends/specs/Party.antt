@@ -1,5 +1,5 @@
--- One requester of a capture and the responder, as the program keeps and judges them while no large message is under way.
--- This project's own.
+-- One requester of a capture and the responder, as the program keeps and judges them while no large message is in
+-- progress. This project's own.
 use Rattle.std.specs.Prelude.{◌≡◌, ◌≢◌, ◌+◌, ℕ, List, length, Some, Result, Ok, Err, false, true}
 use Rattle.mctp_framing.specs.Cutting.{RouteFields}
 use Rattle.mctp_framing.specs.Gathering.{Gathered}
@@ -67,7 +67,7 @@ IsComingWhy k g why = (ComesApart (restored k) g → ⊥) × (comes_why (restore
 -- ---- What is told.
 
 -- Of a request that goes on: what is kept is that after it, and so is the table. Nothing is said of what is kept where
--- it may begin a large one: it is a first chunk. None goes on as answers do upon which a chunk is asked for.
+-- it may begin a large one: it is a first chunk. None goes on as answers do in response to which a chunk is asked for.
 abbrev pub AsksOnward : Configuration → ReqSetup → List (List ℕ) → List Row → Kept → RouteFields → (body : List ℕ) → Onward
     → (new : Party) → (table : List Seen) → Type 0
 AsksOnward w q older rows k route body onward.Kept new table =

@@ -39,16 +39,16 @@ IsPartOfLarge w k tag answer =
     × (IsShownLarge (responder_for w k) k.responder round.tag round.body answer
     ⊎ EndsLarge (responder_for w k) k.responder round.tag round.body answer)
 
--- It goes whole by what it shows, and the requester asks for a chunk upon it. So it is LargeResponse again, by which a fetch
--- begins, or it does not go on.
+-- It goes whole by what it shows, and the requester asks for a chunk in response to it. So it is LargeResponse again,
+-- by which a fetch begins, or it does not go on.
 abbrev pub IsAskedUpon : Configuration → Kept → ℕ → (answer : List ℕ) → Type 0
 IsAskedUpon w k tag answer =
     (round : Round) × AnswersRound k tag round
     × IsShownAnswer (responder_for w k) k.responder round.tag round.body answer
     × (asks_upon k tag answer ≡ true)
 
--- Of an answer that goes on, likewise. Where the requester asks for a chunk upon it, the reason is that for which it is
--- refused where it does not go on.
+-- Of an answer that goes on, likewise. Where the requester asks for a chunk in response to it, the reason is that for
+-- which it is refused where it does not go on.
 abbrev pub RepliesOnward : Configuration → ReqSetup → List (List ℕ) → List Row → Kept → RouteFields → (answer : List ℕ) → Onward
     → (new : Party) → (table : List Seen) → Type 0
 RepliesOnward w q older rows k route answer onward.Kept new table =

@@ -23,7 +23,7 @@ impl Party {
     ghost use Rattle.capture_machine.specs.SessionTable.{Row};
     ghost use Rattle.world_machine.specs.Setup.{Configuration};
 
-    // An answer came while a large request is under way: it goes on, and is taken for the acknowledgement of the last
+    // An answer came while a large request is in progress: it goes on, and is taken for the acknowledgement of the last
     // chunk, unless the next one is owed; or why it is refused. No large response begins or ends by it.
     pub(crate) fn replies_meanwhile(
         &mut self,
@@ -87,7 +87,7 @@ impl Conversation {
     ghost use Rattle.capture_machine.specs.SessionTable.{Row};
     ghost use Rattle.world_machine.specs.Setup.{Configuration, known_of};
 
-    // The same where a large request is under way. It stands apart, since a function clears the places of its values
+    // The same where a large request is in progress. It stands apart, since a function clears the places of its values
     // when it is entered, and a large request is large.
     fn replies_largely(
         &mut self,
@@ -121,10 +121,10 @@ impl Conversation {
         }
     }
 
-    /// An answer of at most 4,161 bytes came whole, in order after this round: it goes on, and the table of sessions
-    /// with it; or it is a part of a large response, where no large request is sent; or no walk goes on with it, and
-    /// then why. But for the first, the table stays, and nothing is said of what is kept then. An `Err` comes only
-    /// where PSK_EXCHANGE_RSP began a session and there is no memory for its entry, and says nothing of what is kept.
+    /// Handles a complete response of at most 4,161 bytes, next in order after this round: it is accepted and the
+    /// session table updated; or it is a part of a large response, where no large request is sent; or no walk accepts
+    /// it, with a reason. But for the first, the table stays, and the state is then unspecified. An `Err` means that
+    /// memory ran out for the table entry of a session that PSK_EXCHANGE_RSP began; the state is then unspecified.
     pub fn replies(
         &mut self,
         table: &mut SessionTable,

@@ -42,7 +42,7 @@ impl Party {
         self.asker.begins_large(body)
     }
 
-    // A request came where no large one is under way: it goes on, and begins one or none; or why it is refused.
+    // A request came where no large one is in progress: it goes on, and begins one or none; or why it is refused.
     fn asks_at_rest(
         &mut self,
         table: &mut SessionTable,
@@ -72,7 +72,7 @@ impl Party {
         }
     }
 
-    // A request that is no copy came while a large one is under way, and a round may begin with it: it is the next
+    // A request that is no copy came while a large one is in progress, and a round may begin with it: it is the next
     // chunk, or the last one, or GET_VERSION; or why it is refused.
     fn asks_onward(
         &mut self,
@@ -117,7 +117,7 @@ impl Party {
         }
     }
 
-    // A request came while a large one is under way: it goes on, and the large one with it; or why it is refused.
+    // A request came while a large one is in progress: it goes on, and the large one with it; or why it is refused.
     fn asks_meanwhile(
         &mut self,
         large: LargeRequest,
@@ -149,8 +149,8 @@ impl Party {
         self.asks_onward(large, table, body)
     }
 
-    // A request came while this large one is under way, or none: it goes on, and what is under way then; or why it is
-    // refused.
+    // A request came while this large one is in progress, or none: it goes on, and what is in progress then; or why it
+    // is refused.
     pub(crate) fn asks_at(
         &mut self,
         large: Option<LargeRequest>,
@@ -188,7 +188,7 @@ impl Conversation {
     ghost use Rattle.capture_machine.specs.SessionTable.{Row};
     ghost use Rattle.world_machine.specs.Setup.{Configuration};
 
-    // The same where none is under way, and none begins by this body.
+    // The same where none is in progress, and none begins by this body.
     fn asks_plainly(
         &mut self,
         table: &mut SessionTable,
@@ -209,8 +209,8 @@ impl Conversation {
         self.party.asks_whole(table, round, tag, body)
     }
 
-    // The same where a large request is under way, or may begin. It stands apart, since a function clears the places of
-    // its values when it is entered, and a large request is large.
+    // The same where a large request is in progress, or may begin. It stands apart, since a function clears the places
+    // of its values when it is entered, and a large request is large.
     fn asks_largely(
         &mut self,
         table: &mut SessionTable,
@@ -237,9 +237,9 @@ impl Conversation {
         }
     }
 
-    /// A request of at most 4,161 bytes came whole under a tag, in order after this round: it goes on, and the table of
-    /// sessions with it; or no walk goes on with it, and then why, and the table stays. Nothing is said of what is kept
-    /// then.
+    /// Handles a complete request of at most 4,161 bytes with its tag, next in order after this round: it is accepted
+    /// and the session table updated; or no walk accepts it, with a reason, and the table is unchanged. The state is
+    /// then unspecified.
     pub fn asks(
         &mut self,
         table: &mut SessionTable,

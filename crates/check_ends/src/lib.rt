@@ -2,7 +2,7 @@
 //! requester, while no large response is fetched.
 //!
 //! Read first: `StandsFor` in `specs/Conversation.antt`, what is kept of a requester and the responder at any such
-//! place, and `IsParty` in `specs/Party.antt`, what is kept while no large message is under way. The calls are
+//! place, and `IsParty` in `specs/Party.antt`, what is kept while no large message is in progress. The calls are
 //! `Conversation::asks` and `Conversation::replies`, and `Party::asks` and `Party::replies`.
 #![tactic(auto)]
 

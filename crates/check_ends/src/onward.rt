@@ -5,9 +5,9 @@ use spdm_grammar::Why;
 pub enum Onward {
     /// To what is kept after it.
     Kept,
-    /// Into a large message: nothing is said of what is kept then.
+    /// Into a large message: the state is then unspecified.
     Large,
-    /// An answer may be given by what it shows, and the requester asks for a chunk upon it: a fetch begins by it where
-    /// it is LargeResponse again, and else it is refused, and this is why. Nothing is said of what is kept then.
+    /// An answer may be given by what it shows, and the requester requests a chunk in response: a fetch begins by it
+    /// where it is LargeResponse again, and else it is refused, and this is why. The state is then unspecified.
     Asked(Why),
 }

@@ -12,9 +12,10 @@ use responder_core::Setup;
 use spdm_basis::RecordFrame;
 use spdm_grammar::Why;
 
-/// A requester of a capture and the responder towards it, while no large message is under way: what the two ends hold,
-/// and the keys of answers that were given; its number, and where its entries stand in the table of sessions. It judges
-/// requests and answers whose order is right, and tells the table of those that go on. Allocates only when constructed.
+/// A requester of a capture and the responder towards it, while no large message is in progress: what the two ends
+/// hold, and the keys of answers that were given; its number, and where its entries stand in the table of sessions. It
+/// judges requests and answers whose order is right, and tells the table of those that go on. Allocates only when
+/// constructed.
 #[derive(Drop)]
 pub struct Party {
     /// The requester.
@@ -78,9 +79,9 @@ impl Party {
         }
     }
 
-    /// A request of at most 4,161 bytes came whole under a tag, in order after this round: it goes on, and the table of
-    /// sessions with it; or it is refused, and then why, and the table stays. Nothing is said of what is kept then, and
-    /// where it may begin a large request.
+    /// Handles a complete request of at most 4,161 bytes with its tag, next in order after this round: it is accepted
+    /// and the session table updated; or it is refused with a reason, and the table is unchanged. The state is then
+    /// unspecified, and where it may begin a large request.
     pub fn asks(
         &mut self,
         table: &mut SessionTable,

@@ -42,8 +42,8 @@ impl Party {
     ghost use Rattle.capture_machine.specs.SessionTable.{Row};
     ghost use Rattle.world_machine.specs.Setup.{Configuration};
 
-    /// Prepares for a body, before an answer to it is judged: what is had of it is kept, and all else stays.
-    /// Fewer than 2^64 - 1 messages came.
+    /// Prepares for a body, before an answer to it is judged: what is had of it is kept, and all else stays. Requires
+    /// fewer than 2^64 - 1 received messages.
     pub fn prepare(&mut self, body: &[u8])
         ensures coming { (r : RspSetup) (h : History) → IsAnswerer self.old.answerer r h
             → messages_of h < 2 ^ 64 - 1 → IsComing self.new.coming r h body.now }
@@ -52,10 +52,11 @@ impl Party {
         self.answerer.prepare(body, &mut self.coming);
     }
 
-    /// An answer of at most 4,161 bytes came whole, in order after this round: it goes on, and the table of sessions
-    /// with it; or it is refused, and then why, and the table stays. Nothing is said of what is kept then, and where it
-    /// is a part of a large response, or the requester asks for a chunk upon it. An `Err` comes only where
-    /// PSK_EXCHANGE_RSP began a session and there is no memory for its entry, and says nothing of what is kept.
+    /// Handles a complete response of at most 4,161 bytes, next in order after this round: it is accepted and the
+    /// session table updated; or it is refused with a reason, and the table is unchanged. The state is then
+    /// unspecified, and where it is a part of a large response, or the requester requests a chunk in response. An `Err`
+    /// means that memory ran out for the table entry of a session that PSK_EXCHANGE_RSP began; the state is then
+    /// unspecified.
     pub fn replies(
         &mut self,
         table: &mut SessionTable,
@@ -151,8 +152,8 @@ impl Party {
     }
 
     /// An answer was given, with the key of the answer to its request, while the requester awaits a chunk of a large
-    /// response or not: both ends go on. What the requester does upon it is told. A large response is fetched from then
-    /// on where it asks for a chunk.
+    /// response or not: both ends go on. The requester's reaction is told. A large response is fetched from then on
+    /// where it asks for a chunk.
     pub fn go_on(
         &mut self,
         round: &Round,
