@@ -1,4 +1,5 @@
--- LargeResponse again in a session: what is kept after it, whether the requester asks for a chunk upon it or not.
+-- LargeResponse again in a session: what is kept after it, whether the requester asks for a chunk in response to it or
+-- not.
 use Rattle.std.proofs.Common.{◌≡◌, ◌≤◌, ◌<◌, ◌+◌, ◌==◌, ◌&&◌, ◌||◌, ◌∙◌, ℕ, List, [], ◌∷◌, refl, sym, ap, subst, drop, take, length, arith, Bool, true, false, Option, Some, None, is_some, is_none, cond, inl, inr}
 use Rattle.std.specs.Int.{div_ceil}
 use Rattle.std.specs.Prelude.{nat_lt, not, slice_index, bytes_eq}

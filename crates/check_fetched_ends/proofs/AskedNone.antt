@@ -1,5 +1,5 @@
--- An answer to a record that goes whole, upon which the requester asks for a chunk: where it is no LargeResponse again, no walk
--- goes on with it.
+-- An answer to a record that goes whole, in response to which the requester asks for a chunk: where it is no
+-- LargeResponse again, no walk goes on with it.
 use Rattle.std.proofs.Common.{◌≡◌, ◌<◌, ◌==◌, ◌&&◌, ◌||◌, ◌∙◌, ℕ, List, [], ◌∷◌, refl, sym, ap, subst, drop, Bool, true, false, Option, Some, None, Ok, Err, is_some, cond, inl, inr}
 use Rattle.std.specs.Prelude.{not, slice_index}
 use Rattle.std.proofs.lemmas.Bool.{false≢true}
@@ -165,7 +165,7 @@ module _ (w : Configuration) (q : ReqSetup) (older : List (List ℕ)) (k other :
   part_none packet route answer at byte sealed none left =
       asked_none w q older packet route answer at other own byte left (sealed left.0 (sym both.round ∙ left.1.0)) (λ again. none (again_alike route.tag answer again))
 
--- So where it is told that the requester asks for a chunk upon it, it is refused, and why.
+-- So where it is told that the requester asks for a chunk in response to it, it is refused, and why.
 pub asked_refused : (w : Configuration) (q : ReqSetup) (older : List (List ℕ)) (rows : List Row) (packet : List ℕ) (route : RouteFields) (answer : List ℕ) (k : Kept) → IsAnswer w q older packet route answer → w.responder.beat < 256 → Keeps w q older k
     → ((round : Round) → k.round ≡ Some round → (slice_index round.body 0 == 5) ≡ false) → (IsAgainInRecord w k route.tag answer → ⊥) → (why : declared.Why) (told new : JudgedEnds) (before after : List Seen)
     → IsJudgedAnswer w q older rows packet route answer (Ok (onward.Asked why)) told before → IsJudgedAnswer w q older rows packet route answer (Err why) new after

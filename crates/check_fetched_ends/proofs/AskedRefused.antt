@@ -1,4 +1,5 @@
--- An answer that goes whole, upon which the requester asks for a chunk: where it is no LargeResponse again, no walk goes on with it.
+-- An answer that goes whole, in response to which the requester asks for a chunk: where it is no LargeResponse again,
+-- no walk goes on with it.
 use Rattle.std.proofs.Common.{◌≡◌, ◌==◌, ◌&&◌, ◌<◌, ◌∙◌, ℕ, List, refl, sym, ap, subst, drop, Bool, true, false, Option, None, Some}
 use Rattle.std.specs.Prelude.{slice_index}
 use Rattle.std.proofs.lemmas.Bool.{false≢true}

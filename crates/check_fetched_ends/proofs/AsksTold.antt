@@ -1,4 +1,4 @@
--- Whether the requester asks for a chunk upon an answer tells whether a large response is fetched after it.
+-- Whether the requester asks for a chunk on an answer tells whether a large response is fetched after it.
 use Rattle.std.proofs.Common.{◌≡◌, ◌∙◌, ◌||◌, ℕ, List, refl, sym, ap, Bool, true, false, Option, Some, None, is_some, cond, inl}
 use Rattle.std.specs.Prelude.{not}
 use Rattle.std.proofs.lemmas.Bool.{false≢true}

@@ -1,5 +1,5 @@
--- LargeResponse in the clear to GET_MEASUREMENTS or PSK_EXCHANGE, each whole in one message, upon which the requester
--- asks for no chunk: what is kept after it.
+-- LargeResponse in the clear to GET_MEASUREMENTS or PSK_EXCHANGE, each whole in one message, in response to which the
+-- requester asks for no chunk: what is kept after it.
 use Rattle.std.proofs.Common.{◌≡◌, ◌≢◌, ◌≤◌, ◌<◌, ◌+◌, ◌==◌, ◌||◌, ◌⊎◌, ◌∙◌, ℕ, List, [], ◌∷◌, refl, sym, ap, subst, drop, length, Bool, true, false, Option, Some, None, is_some, cond, inl, inr, arith, eqb-true}
 use Rattle.std.specs.Prelude.{slice_index}
 use Rattle.std.proofs.lemmas.Bool.{false≢true}

@@ -1,4 +1,4 @@
--- LargeResponse in answer to a record, upon which the requester asks for no chunk: what is kept after it.
+-- LargeResponse in answer to a record, in response to which the requester asks for no chunk: what is kept after it.
 use Rattle.std.proofs.Common.{◌≡◌, ◌<◌, ◌+◌, ◌==◌, ◌&&◌, ℕ, List, [], ◌∷◌, refl, sym, ap, ◌∙◌, subst, drop, length, Bool, true, false, Ok, Some, None, cond, eq-eqb, is_some, not, inr}
 use Rattle.std.specs.Prelude.{is_none, slice_index}
 use Rattle.std.proofs.lemmas.Bool.{false≢true}

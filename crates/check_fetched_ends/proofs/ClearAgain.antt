@@ -1,6 +1,6 @@
--- While nothing is fetched, an answer in the clear that brings no new LargeResponse, and upon which the requester asks
--- for a chunk, is the same LargeResponse again, plain or in an acknowledgement, to a repeat of a request whose large
--- response passed unseen.
+-- While nothing is fetched, an answer in the clear that brings no new LargeResponse, and in response to which the
+-- requester asks for a chunk, is the same LargeResponse again, plain or in an acknowledgement, to a repeat of a request
+-- whose large response passed unseen.
 use Rattle.std.proofs.Common.{◌≡◌, ◌<◌, ◌≤◌, ◌==◌, ◌&&◌, ◌⊎◌, ◌∙◌, ℕ, List, [], refl, sym, ap, subst, drop, length, arith, Bool, true, false, Option, Some, None, Result, Ok, Err, is_some, cond, inl, inr}
 use Rattle.std.specs.Prelude.{not, slice_index}
 use Rattle.std.proofs.lemmas.Bool.{false≢true, not-false}
@@ -105,7 +105,7 @@ module _ (w : Configuration) (q : ReqSetup) (older : List (List ℕ)) (k : Kept)
 
   -- ---- The requester.
 
-  -- What it awaits while it asks for a chunk upon the answer.
+  -- What it awaits while it asks for a chunk on the answer.
   pub record IsAsked : Type 0 where
     pub sent : Sent
     pub waits : outstanding (restored k).requester ≡ Some sent

@@ -1,5 +1,5 @@
--- No answer to a request in the clear is left upon which the requester asks for a chunk, but LargeResponse again to GET_MEASUREMENTS
--- or PSK_EXCHANGE.
+-- No answer to a request in the clear is left in response to which the requester asks for a chunk, but LargeResponse
+-- again to GET_MEASUREMENTS or PSK_EXCHANGE.
 use Rattle.std.proofs.Common.{◌≡◌, ◌==◌, ◌<◌, ◌∙◌, ℕ, List, refl, sym, ap, Bool, true, false, Some}
 use Rattle.std.specs.Prelude.{slice_index}
 use Rattle.std.proofs.lemmas.Bool.{false≢true}

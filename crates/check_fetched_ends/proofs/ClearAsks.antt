@@ -1,4 +1,4 @@
--- Upon which answers in the clear the requester asks for a chunk while a large response is fetched there.
+-- On which answers in the clear the requester asks for a chunk while a large response is fetched there.
 use Rattle.std.proofs.Common.{◌≡◌, ◌≢◌, ◌∙◌, ◌<◌, ◌≤◌, ◌+◌, ◌^◌, ◌==◌, ℕ, List, refl, sym, ap, subst, drop, length, arith, Bool, true, false, Option, Some, None, cond, inl, inr}
 use Rattle.std.specs.Prelude.{IfSome, nat_lt, slice_index}
 use Rattle.std.proofs.lemmas.Bool.{false≢true, not-true, ne_eqb}
@@ -90,7 +90,7 @@ module _ (w : Configuration) (q : ReqSetup) (older : List (List ℕ)) (f : Fetch
   walk : Walks w q older d
   walk = own.all whole stand
 
-  -- Upon this chunk, which is not the last one.
+  -- On this chunk, which is not the last one.
   given_on : (handle number : ℕ) → handle < 256 → number < 2 ^ 16 → (place_terms (clear_with k whole)).common.chunk ≡ true
       → nat_lt (number + 1) (chunk_count (place_terms (clear_with k whole)).common.to_requester.transfer whole) ≡ true
       → answer ≡ clear_body (get_response k whole handle number) → AsksOn asker (hears f.kept.setup asker false round.tag answer no_values no_draw)

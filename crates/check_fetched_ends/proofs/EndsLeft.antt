@@ -133,7 +133,7 @@ module _ (w : Configuration) (q : ReqSetup) (older : List (List ℕ)) (k : Kept)
           entries = c.entries;
         })
 
-    -- The requester asks for a chunk upon it.
+    -- The requester asks for a chunk in response to it.
     asked_rest : (why : declared.Why) → IsReplied w q older rows k route answer (Ok (onward.Asked why)) new table → IsJudgedAnswer w q older rows packet route answer (Ok (onward.Asked why)) (record { talk = record talk { party = new }; fetched = o }) table
     asked_rest why is = told_on w q older rows packet route answer is_answer k keeps (Ok (onward.Asked why)) new table is
 

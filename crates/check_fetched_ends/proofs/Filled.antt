@@ -1,4 +1,4 @@
--- The bytes so far, those of one more chunk, and zeros up to the told length.
+-- The bytes so far, those of one more chunk, and zeros up to the announced length.
 use Rattle.std.proofs.Common.{◌≡◌, ◌≤◌, ◌-◌, ◌==◌, ℕ, zero, suc, List, sym, ap, ◌∙◌, subst, take, length, arith, Bool, false, Option, Some, cond, length-append}
 use Rattle.std.proofs.lemmas.List.{length-replicate}
 use Rattle.std.proofs.Math.Seq.{take-append_seam}

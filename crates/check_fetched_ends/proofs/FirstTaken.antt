@@ -62,7 +62,7 @@ no_rule None c x whole b e = refl
 no_rule (Some fault) c x whole true e = absurd (cc)
 no_rule (Some fault) c x whole false e = absurd (cc)
 
--- The first chunk breaks none, whatever is under way.
+-- The first chunk breaks none, whatever is in progress.
 breaks_none : (max transfer handle : ℕ) (whole : List ℕ) (before : List ChunkMessage) → IsCollectable max transfer whole → 0 < chunk_count transfer whole → broken_rule max before (nth_chunk transfer handle whole 0) ≡ None
 breaks_none max transfer handle whole before sound within =
     let c : ChunkMessage = nth_chunk transfer handle whole 0 in

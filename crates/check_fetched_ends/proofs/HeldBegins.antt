@@ -1,5 +1,5 @@
--- LargeResponse in the clear, upon which the requester asks for a chunk: what is kept of the large response that is
--- fetched from then on.
+-- LargeResponse in the clear, in response to which the requester asks for a chunk: what is kept of the large response
+-- that is fetched from then on.
 use Rattle.std.proofs.Common.{◌≡◌, ◌≤◌, ◌<◌, ◌+◌, ◌==◌, ◌&&◌, ◌↔◌, ℕ, List, [], ◌∷◌, ◌++◌, refl, sym, ap, ◌∙◌, subst, drop, take, length, arith, Bool, true, false, Option, Some, None, is_some, cond, inl, inr}
 use Rattle.std.specs.Prelude.{nat_lt, slice_index}
 use Rattle.std.proofs.lemmas.Slice.Eq.{bytes_eq-Decides}

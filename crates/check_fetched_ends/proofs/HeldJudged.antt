@@ -59,7 +59,7 @@ module _ (w : Configuration) (q : ReqSetup) (older : List (List ℕ)) (rows : Li
       let P : ℕ → List ℕ → Type 0 = λ n l. (repeats_held held n l ≡ false → AreHeldFitting held (drop 1 answer) → CanBeCut held (filled_with held answer)) → IsShownHeld held n l answer told in
       subst (P turn.round.tag) two (subst (λ (n : ℕ). P n body) one tells) (λ anew fits. filled_cut w q older rows f own party held kept turn.round turn.answers.0 other anew answer fits)
 
-  -- Upon an answer that goes whole the requester asks for a chunk, and takes it for no PSK_EXCHANGE_RSP.
+  -- On an answer that goes whole the requester asks for a chunk, and takes it for no PSK_EXCHANGE_RSP.
   abbrev pub IsAskedOn : Type 0
   IsAskedOn = (asks_upon f.kept route.tag answer ≡ true) × (accepted_from f.kept route.tag answer ≡ None)
 

@@ -1,5 +1,5 @@
--- LargeResponse again to GET_MEASUREMENTS or PSK_EXCHANGE in the clear: it goes on, and where the requester asks for a chunk upon
--- it, a fetch begins late.
+-- LargeResponse again to GET_MEASUREMENTS or PSK_EXCHANGE in the clear: it goes on, and where the requester asks for a
+-- chunk in response to it, a fetch begins late.
 use Rattle.std.proofs.Common.{◌≡◌, ◌≢◌, ◌⊎◌, ◌≤◌, ◌<◌, ◌+◌, ◌==◌, ◌&&◌, ◌||◌, ◌++◌, ◌∙◌, ℕ, List, [], ◌∷◌, refl, sym, ap, subst, drop, length, arith, Bool, true, false, Option, Some, None, is_some, cond, inl, inr, eqb-true}
 use Rattle.std.specs.Prelude.{MatchBool, is_none, nat_lt, not, slice_index}
 use Rattle.std.proofs.lemmas.Bool.{false≢true}
@@ -201,7 +201,7 @@ module _ (w : Configuration) (q : ReqSetup) (older : List (List ℕ)) (k : Kept)
   plainly : AnswersPlainly r (restored k) turn.round answer h
   plainly = ([], Same answer, (tt, may_here), tt, refl, refl, refl)
 
-  -- It goes on where the requester asks for no chunk upon it.
+  -- It goes on where the requester asks for no chunk in response to it.
   pub passes : asks_upon k route.tag answer ≡ false → RepliesKept w k (Whole route answer) stays
   unfolding Answers
   passes idle =

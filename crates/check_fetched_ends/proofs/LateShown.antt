@@ -1,5 +1,5 @@
--- While nothing is fetched, an answer to GET_MEASUREMENTS or PSK_EXCHANGE in the clear that brings no new LargeResponse, and upon
--- which the requester asks for a chunk, is the same LargeResponse again, to a repeat.
+-- While nothing is fetched, an answer to GET_MEASUREMENTS or PSK_EXCHANGE in the clear that brings no new
+-- LargeResponse, and in response to which the requester asks for a chunk, is the same LargeResponse again, to a repeat.
 use Rattle.std.proofs.Common.{◌≡◌, ◌<◌, ◌≤◌, ◌==◌, ◌&&◌, ◌∙◌, ℕ, List, [], refl, sym, ap, subst, drop, length, arith, Bool, true, false, Option, Some, None, is_some, cond, inl, inr, eqb-true}
 use Rattle.std.specs.Prelude.{not, slice_index}
 use Rattle.std.proofs.lemmas.Bool.{false≢true}

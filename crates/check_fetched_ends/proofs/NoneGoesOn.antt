@@ -51,7 +51,8 @@ module _ (w : Configuration) (q : ReqSetup) (older : List (List ℕ)) (rows : Li
 
   -- ---- No walk goes on.
 
-  -- With none of the bytes that may stand it is an answer, but for a last chunk upon which the requester asks for another.
+  -- With none of the bytes that may stand it is an answer, but for a last chunk in response to which the requester asks
+  -- for another.
   pub record IsNone : Type 0 where
     pub plain : (v : List ℕ) → MayStand f v → (next : History) → AnswersPlainly (responder_for w f.kept) (dialogue_of f v) turn.round answer next → ⊥
     pub large : (v : List ℕ) → MayStand f v → (next : History) (whole : List ℕ) → AnswersLarge (responder_for w f.kept) (dialogue_of f v) turn.round answer next whole → ⊥
@@ -78,7 +79,7 @@ module _ (w : Configuration) (q : ReqSetup) (older : List (List ℕ)) (rows : Li
           | inr again ↦ none-some it.0 (sym again.0.1.0)
         ]
 
-    -- Upon an answer after which nothing is fetched it asks for no chunk.
+    -- On an answer after which nothing is fetched it asks for no chunk.
     pub ends_none : IsSetUp f.kept.setup → IsFetchingOf w q older f → (next : Kept) → EndsFetching w f (Whole route answer) next → ⊥
     ends_none limits own next c =
         let it = c.3.2 in

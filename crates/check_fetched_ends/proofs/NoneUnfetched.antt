@@ -1,4 +1,5 @@
--- LargeResponse in the clear upon which the requester asks for no chunk comes to GET_MEASUREMENTS and PSK_EXCHANGE alone.
+-- LargeResponse in the clear in response to which the requester asks for no chunk comes to GET_MEASUREMENTS and
+-- PSK_EXCHANGE alone.
 use Rattle.std.proofs.Common.{◌≡◌, ◌≢◌, ◌<◌, ◌+◌, ◌==◌, ◌&&◌, ◌||◌, ◌∙◌, ℕ, List, [], ◌∷◌, refl, sym, ap, subst, drop, length, Bool, true, false, Option, Some, None, is_some, cond, inl, inr, arith, eq-eqb}
 use Rattle.std.specs.Prelude.{nat_lt, not, slice_index}
 use Rattle.std.proofs.lemmas.Bool.{false≢true}

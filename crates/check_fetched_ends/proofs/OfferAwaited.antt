@@ -94,12 +94,12 @@ abbrev pub IsOffer : Aim → Type 0
 IsOffer (Plain (NegotiateAlgorithms offer)) = Unit {0}
 IsOffer _ = ⊥
 
--- The requester asks for a chunk upon this reply, under this tag.
+-- The requester asks for a chunk in response to this reply, under this tag.
 abbrev pub Asks : ReqSetup → History → ℕ → List ℕ → Type 0
 Asks q h tag reply = is_fetching (outstanding (after h (hears q h false tag (clear_body reply) no_values no_draw))) ≡ true
 
--- While it is owed, nothing under its tag is a repeat at the responder; and once it was sent, where a repeat of it gets LargeResponse
--- for an answer that was not seen, the requester asks for no chunk upon that.
+-- While it is owed, nothing under its tag is a repeat at the responder; and once it was sent, where a repeat of it gets
+-- LargeResponse for an answer that was not seen, the requester asks for no chunk in response to that.
 pub record OfferStands (d : Dialogue) : Type 0 where
   pub later : (s : Sent) → outstanding d.requester ≡ Some s → IsOffer s.aim → (rd : Round) → d.round ≡ Some rd → (s.tag == rd.tag) ≡ false → NoneUnder d.responder s.tag
   pub sent : (s : Sent) → outstanding d.requester ≡ Some s → IsOffer s.aim → (rd : Round) → d.round ≡ Some rd → (s.tag == rd.tag) ≡ true
@@ -210,7 +210,7 @@ own_agree round _ _ _ _ (Owing e f h g s t agree alike out sent like tagged else
 own_agree round _ _ _ _ (Shown h g w v a b handle number s t u waits wait aims aim tags not at) rests none = absurd (none-some w (sym none))
 own_agree round _ _ _ _ (Due tag m h g w v a b handle number u still at) rests none = absurd (none-some w (sym none))
 
--- What is sent upon an acknowledgement is another chunk.
+-- What is sent on an acknowledgement is another chunk.
 acked_by : (whole : List ℕ) (tag : ℕ) (m : List ℕ) (h : History) (aim : Aim) (s : Sent) → outstanding (with_next_piece whole tag m h aim) ≡ Some s → IsOffer s.aim → outstanding h ≡ Some s
 acked_by whole tag m h (ByChunks a handle number) s waits is = absurd (subst (λ (y : Sent). IsOffer y.aim) (same_Some s (piece_with h a whole handle (number + 1)) (sym waits)) is)
 acked_by whole tag m h (Plain a) s waits is = waits
@@ -225,7 +225,7 @@ acked_if : (whole : List ℕ) (tag : ℕ) (m : List ℕ) (h : History) (b : Bool
 acked_if whole tag m h true s waits is = acked_to whole tag m h (outstanding h) s waits is
 acked_if whole tag m h false s waits is = waits
 
--- It is sent upon CAPABILITIES.
+-- It is sent on CAPABILITIES.
 pub record IsTold (h : History) (tag : ℕ) (answer : List ℕ) : Type 0 where
   pub sent : Sent
   pub waits : outstanding h ≡ Some sent

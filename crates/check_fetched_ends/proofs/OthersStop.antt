@@ -1,5 +1,5 @@
--- An answer in a session that gives no chunk of the large one, and upon which the requester asks for none: the
--- connection stands for the history in which the large response was not seen.
+-- An answer in a session that gives no chunk of the large one, and in response to which the requester asks for none:
+-- the connection stands for the history in which the large response was not seen.
 use Rattle.std.proofs.Common.{◌≡◌, ◌≢◌, ◌<◌, ◌&&◌, ℕ, List, [], ◌∷◌, refl, sym, ap, ◌∙◌, subst, drop, Bool, true, false, Option, Some, None, is_none, is_some}
 use Rattle.std.proofs.lemmas.Bool.{false≢true}
 use Rattle.mctp_framing.specs.Cutting.{RouteFields}

@@ -230,9 +230,9 @@ pub record IsFirst (h : History) (whole : List ℕ) (s : Sent) : Type 0 where
 abbrev responder_of : Configuration → Dialogue → RspSetup
 responder_of w d = towards w.responder (known_of d.setup)
 
--- Where no large request is sent, the first chunk is owed, and of the later ones the last one was sent; a repeat of it gets no
--- LargeResponse upon which the requester asks for a chunk. While one is sent, the message that a repeat is compared with has a
--- lower number than the next chunk.
+-- Where no large request is sent, the first chunk is owed, and of the later ones the last one was sent; a repeat of it
+-- gets no LargeResponse in response to which the requester asks for a chunk. While one is sent, the message that a
+-- repeat is compared with has a lower number than the next chunk.
 pub record PiecesStand (w : Configuration) (d : Dialogue) : Type 0 where
   pub early : (s : Sent) (a : RequestMessage) (handle : ℕ) → d.sending ≡ None → outstanding d.requester ≡ Some s → s.aim ≡ ByChunks a handle 0 → (rd : Round) → d.round ≡ Some rd → (s.tag == rd.tag) ≡ false
   pub last : (s : Sent) (a : RequestMessage) (handle number : ℕ) → d.sending ≡ None → outstanding d.requester ≡ Some s → s.aim ≡ ByChunks a handle number → 0 < number → (piece_of (common_of d.requester) a handle number).last ≡ true
@@ -473,7 +473,7 @@ record_later q h f came ask led (ByUpdate all asks is) s here above = subst (λ 
 record_later q h f came ask led (ByFirst op handle follows is) s here above = subst (λ (x : Sent). IsLaterAim x.aim) (same_Some s _ (sym here ∙ ap (λ (l : Led). l.next) is)) above
 record_later q h f came ask led (ByChunk op handle number before c asks none last is) s here above = subst (λ (x : Sent). IsLaterAim x.aim) (same_Some s _ (sym here ∙ ap (λ (l : Led). l.next) is)) above
 
--- No later chunk is sent upon an answer that is heard, where the one that is outstanding is the last one.
+-- No later chunk is sent on an answer that is heard, where the one that is outstanding is the last one.
 heard_later : (q : ReqSetup) (h : History) (f : Free) (tag : ℕ) (answer : List ℕ) (entry : Entry)
     → ((x : Sent) (a : RequestMessage) (handle : ℕ) → outstanding h ≡ Some x → (x.tag == tag) ≡ true → x.aim ≡ ByChunks a handle 0 → ⊥)
     → ((x : Sent) (a : RequestMessage) (handle number : ℕ) → outstanding h ≡ Some x → x.aim ≡ ByChunks a handle number → 0 < number → (piece_of (common_of h) a handle number).last ≡ true)

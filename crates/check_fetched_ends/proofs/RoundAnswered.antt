@@ -179,7 +179,7 @@ IsWaiting r d round =
     IsTagged d.requester round.tag
     ⊎ ((slice_index round.body 0 == 5) ≡ true → IsSteady (drop 1 round.body) → NoneLarge r d.responder round.tag (drop 1 round.body))
 
--- So it is where no large request is under way.
+-- So it is where no large request is in progress.
 pub record Waits (w : Configuration) (d : Dialogue) : Type 0 where
   pub waits : d.sending ≡ None → (round : Round) → d.round ≡ Some round → IsWaiting (towards w.responder (known_of d.setup)) d round
 

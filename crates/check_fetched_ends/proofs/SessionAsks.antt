@@ -1,4 +1,4 @@
--- Upon what comes in the clear the requester asks for a chunk, while a large response is fetched in a session.
+-- On what comes in the clear the requester asks for a chunk, while a large response is fetched in a session.
 use Rattle.std.proofs.Common.{◌≡◌, ◌≢◌, ◌∙◌, ◌==◌, ℕ, List, refl, sym, ap, Bool, true, false, Option, Some, None, cond}
 use Rattle.std.specs.Prelude.{slice_index}
 use Rattle.std.proofs.lemmas.Bool.{false≢true}

@@ -1,5 +1,5 @@
--- A chunk of a large response in a session upon which the requester asks for none: nothing is fetched after it, and the
--- answer stays unseen.
+-- A chunk of a large response in a session in response to which the requester asks for none: nothing is fetched after
+-- it, and the answer stays unseen.
 use Rattle.std.proofs.Common.{◌≡◌, ◌≢◌, ◌<◌, ◌≤◌, ◌+◌, ◌-◌, ◌*◌, ℕ, zero, suc, List, [], ◌∷◌, sym, ap, ◌∙◌, subst, drop, take, length, arith, Bool, true, false, Option, Some, Ok, cond, eq-eqb}
 use Rattle.std.proofs.lemmas.Bool.{false≢true}
 use Rattle.std.proofs.lemmas.Bool.Decides.{nat_tests}

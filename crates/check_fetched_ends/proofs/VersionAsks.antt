@@ -1,4 +1,4 @@
--- Where GET_VERSION was asked for in place of a chunk, the requester asks for none upon what comes.
+-- Where GET_VERSION was asked for in place of a chunk, the requester asks for none on what comes.
 use Rattle.std.proofs.Common.{◌≡◌, ◌∙◌, ◌==◌, ℕ, List, [], ◌∷◌, refl, sym, ap, drop, true, false, Option, Some, None, arith, inl, inr}
 use Rattle.std.specs.Prelude.{slice_index}
 use Rattle.std.proofs.lemmas.Bool.{false≢true, false_from_ne_true}

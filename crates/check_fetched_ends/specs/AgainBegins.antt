@@ -30,8 +30,8 @@ pub record IsAgainInRecord (w : Configuration) (k : Kept) (tag : ℕ) (answer : 
   pub behind : History
   pub again : AnswersAgain (responder_for w k) (restored k) round answer behind whole
 
--- It is no such answer, and nothing was done; or the requester asks for no chunk upon it, and it goes on; or a fetch begins, and
--- this stands for what is kept from then on, and so does the table. The responder's history stays.
+-- It is no such answer, and nothing was done; or the requester asks for no chunk in response to it, and it goes on; or
+-- a fetch begins, and this stands for what is kept from then on, and so does the table. The responder's history stays.
 abbrev pub IsBegunAgain : Configuration → ReqSetup → List (List ℕ) → List Row → Kept → RouteFields → (answer : List ℕ)
     → BegunAgain → (new : Party) → (before after : List Seen) → Type 0
 IsBegunAgain w q older rows k route answer begun.Not new before after =

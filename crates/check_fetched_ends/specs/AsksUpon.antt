@@ -1,4 +1,4 @@
--- Upon which answers the requester asks for a chunk while a large response is fetched. This project's own.
+-- On which answers the requester asks for a chunk while a large response is fetched. This project's own.
 use Rattle.std.specs.Prelude.{◌≡◌, ◌≢◌, ◌==◌, ℕ, List, slice_index, true, false, Some, None}
 use Rattle.check_requester.specs.HeardKept.{asks_upon, heard_kept}
 use Rattle.check_laws.specs.KeptChanges.{accepted_from}
@@ -22,17 +22,17 @@ use Rattle.world_machine.specs.Setup.{Configuration}
 
 -- ---- In the clear.
 
--- While one is fetched in the clear, an answer that goes whole is a chunk but for the last one, or the same again to a repeat;
--- but for the answer to GET_VERSION. Upon each of them the requester asks for a chunk, whether it takes it or not, and it is no
--- PSK_EXCHANGE_RSP.
+-- While one is fetched in the clear, an answer that goes whole is a chunk but for the last one, or the same again to a
+-- repeat; but for the answer to GET_VERSION. On each of them the requester asks for a chunk, whether it takes it or
+-- not, and it is no PSK_EXCHANGE_RSP.
 abbrev pub ClearAsksOn : Type 0
 ClearAsksOn = (w : Configuration) (q : ReqSetup) (older : List (List ℕ)) (f : Fetching) (round : Round) (answer whole : List ℕ) (h : History)
     → IsFetchingOf w q older f → f.at ≡ None → f.kept.round ≡ Some round → round.body ≢ clear_body (canonical_request GetVersion)
     → MayStand f whole → AnswersPlainly (responder_for w f.kept) (dialogue_of f whole) round answer h
     → (asks_upon f.kept round.tag answer ≡ true) × (accepted_from f.kept round.tag answer ≡ None)
 
--- GET_VERSION in place of a chunk: the requester asks for none upon what comes, and it is no PSK_EXCHANGE_RSP. In the clear it is
--- no repeat.
+-- GET_VERSION in place of a chunk: the requester asks for none on what comes, and it is no PSK_EXCHANGE_RSP. In the
+-- clear it is no repeat.
 abbrev pub VersionAsksNone : Type 0
 VersionAsksNone = (w : Configuration) (q : ReqSetup) (older : List (List ℕ)) (f : Fetching) (round : Round) (answer : List ℕ)
     → IsSetUp f.kept.setup → IsFetchingOf w q older f → f.kept.round ≡ Some round → round.body ≡ clear_body (canonical_request GetVersion)
@@ -41,7 +41,8 @@ VersionAsksNone = (w : Configuration) (q : ReqSetup) (older : List (List ℕ)) (
 
 -- ---- In a session.
 
--- While one is fetched in a session, the requester takes nothing that comes in the clear, and asks for a chunk upon it.
+-- While one is fetched in a session, the requester takes nothing that comes in the clear, and asks for a chunk in
+-- response to it.
 abbrev pub SessionAsksOn : Type 0
 SessionAsksOn = (w : Configuration) (q : ReqSetup) (older : List (List ℕ)) (f : Fetching) (round : Round) (answer : List ℕ) (id : ℕ)
     → IsFetchingOf w q older f → f.at ≡ Some id → f.kept.round ≡ Some round → round.body ≢ clear_body (canonical_request GetVersion)
@@ -50,9 +51,9 @@ SessionAsksOn = (w : Configuration) (q : ReqSetup) (older : List (List ℕ)) (f 
 
 -- ---- Wherever it is fetched.
 
--- Upon an answer with which it is fetched on, or another one begins, the requester asks for a chunk; upon an answer
--- after which nothing is fetched it asks for none. So no answer ends it upon which the requester asks for a chunk, and
--- with none does it go on upon which it asks for none.
+-- On an answer with which it is fetched on, or another one begins, the requester asks for a chunk; on an answer after
+-- which nothing is fetched it asks for none. So no answer ends it in response to which the requester asks for a chunk,
+-- and with none does it go on in response to which it asks for none.
 pub record IsAskedUpon (w : Configuration) (f : Fetching) (route : RouteFields) (answer : List ℕ) : Type 0 where
   pub goes : (next : Fetching) → GoesFetching w f (Whole route answer) next → asks_upon f.kept route.tag answer ≡ true
   pub turns : (next : Fetching) → TurnsFetching w f (Whole route answer) next → asks_upon f.kept route.tag answer ≡ true
@@ -62,8 +63,8 @@ abbrev pub AnswersTellAsking : Type 0
 AnswersTellAsking = (w : Configuration) (q : ReqSetup) (older : List (List ℕ)) (f : Fetching) (route : RouteFields) (answer : List ℕ)
     → IsSetUp f.kept.setup → IsFetchingOf w q older f → IsAskedUpon w f route answer
 
--- Upon an answer that goes whole, and upon which the requester asks for no chunk, nothing is fetched any more: the answer stays
--- unseen in what is kept then.
+-- On an answer that goes whole, and in response to which the requester asks for no chunk, nothing is fetched any more:
+-- the answer stays unseen in what is kept then.
 abbrev pub PlainEndsFetching : Type 0
 PlainEndsFetching = (w : Configuration) (q : ReqSetup) (older : List (List ℕ)) (f : Fetching) (route : RouteFields) (answer : List ℕ) (round : Round) (whole : List ℕ) (h : History)
     → IsSetUp f.kept.setup → IsFetchingOf w q older f → IsBody answer → route.owner ≡ false → AnswersRound f.kept route.tag round

@@ -34,9 +34,9 @@ abbrev pub has_free_length : (code : ℕ) → Bool
 has_free_length code = code == GET_MEASUREMENTS || code == PSK_EXCHANGE
 
 -- It is no LargeResponse to a request in the clear by what it shows, and nothing changes; or it is LargeResponse, and
--- the requester asks for no chunk upon it: then the request is one of these, it goes on, its answer is never seen, and
--- this is what is kept after it; or a fetch begins, and this stands for what is kept from then on, and so does the
--- table.
+-- the requester asks for no chunk in response to it: then the request is one of these, it goes on, its answer is never
+-- seen, and this is what is kept after it; or a fetch begins, and this stands for what is kept from then on, and so
+-- does the table.
 abbrev pub IsBegunHeld : Configuration → ReqSetup → List (List ℕ) → List Row → Kept → RouteFields → (answer : List ℕ) → BegunHeld
     → (new : Party) → (before after : List Seen) → Type 0
 IsBegunHeld w q older rows k route answer begun.Not new before after =

@@ -21,8 +21,8 @@ use Rattle.capture_machine.specs.Rounds.{Round}
 use Rattle.capture_machine.specs.SessionTable.{Row}
 use Rattle.world_machine.specs.Setup.{Configuration}
 
--- It is not right by what it shows: not the next chunk of these bytes, and where it is the last one of MEASUREMENTS, the
--- requester asks for a chunk upon it.
+-- It is not right by what it shows: not the next chunk of these bytes, and where it is the last one of MEASUREMENTS,
+-- the requester asks for a chunk in response to it.
 pub record IsNoChunk (r : RspSetup) (h : History) (k : Kept) (op : ℕ) (round : Round) (answer whole : List ℕ) : Type 0 where
   pub next : IsShownAnswer r h round.tag round.body answer → ⊥
   pub last : EndsLarge r h round.tag round.body answer → IsMeasuredBy r op whole → asks_upon k round.tag answer ≡ true

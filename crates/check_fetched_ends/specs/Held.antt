@@ -112,7 +112,7 @@ pub record AreHeldFitting (held : Held) (message : List ℕ) : Type 0 where
   pub few : size_with held.answer.number held.answer.size message ≤ MAX_MESSAGE_SIZE
   pub within : length (bytes_with held.answer.number held.answer.bytes message) ≤ size_with held.answer.number held.answer.size message
 
--- The bytes so far, those of the chunk in an answer, and zeros up to the told length.
+-- The bytes so far, those of the chunk in an answer, and zeros up to the announced length.
 abbrev pub filled_with : Held → (answer : List ℕ) → List ℕ
 filled_with held answer = filled held.answer.number held.answer.size held.answer.bytes (drop 1 answer)
 

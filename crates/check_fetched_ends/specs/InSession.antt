@@ -51,7 +51,7 @@ pub record IsTextOf (r : RspSetup) (h : History) (body answer text : List ℕ) :
 abbrev pub AreLengths : Place → (least most : ℕ) → Type 0
 AreLengths p least most = (whole : List ℕ) → IsLargeAnswer p whole ↔ ((least ≤ length whole) × (length whole ≤ most))
 
--- The told length with one more CHUNK_RESPONSE: the first one tells it.
+-- The announced length with one more CHUNK_RESPONSE: the first one tells it.
 abbrev pub size_with : (number : ℕ) → Option ℕ → (message : List ℕ) → ℕ
 size_with number told message = if number == 0 then size_in message else unwrap_or told 0
 
@@ -59,7 +59,7 @@ size_with number told message = if number == 0 then size_in message else unwrap_
 abbrev pub bytes_with : (number : ℕ) → (bytes message : List ℕ) → List ℕ
 bytes_with number bytes message = bytes ++ bytes_in number message
 
--- These, and zeros up to the told length.
+-- These, and zeros up to the announced length.
 abbrev pub filled : (number : ℕ) → Option ℕ → (bytes message : List ℕ) → List ℕ
 filled number told bytes message =
     bytes_with number bytes message ++ zeros (size_with number told message - length (bytes_with number bytes message))

@@ -86,8 +86,8 @@ abbrev pub IsAskedOf : Configuration → ReqSetup → List (List ℕ) → List R
 IsAskedOf w q older rows packet g (Ok u) new table = StandsBehind new table w q older rows packet
 IsAskedOf w q older rows packet g (Err why) new table = NoneGoesOn w q older packet × IsAskedReason w q older g (why_of why)
 
--- While nothing is fetched, what is left unjudged: an answer that goes whole by what it shows, upon which the requester asks for
--- a chunk. A fetch begins by it where it is LargeResponse again.
+-- While nothing is fetched, what is left unjudged: an answer that goes whole by what it shows, in response to which the
+-- requester asks for a chunk. A fetch begins by it where it is LargeResponse again.
 abbrev pub IsLeft : Configuration → Kept → ℕ → (answer : List ℕ) → Type 0
 IsLeft w k tag answer =
     (round : Round) × AnswersRound k tag round

@@ -38,17 +38,17 @@ is_large_body answer = slice_index answer 0 == 5 && shows_large (drop 1 answer)
 abbrev pub gets_again : History → (tag : ℕ) → (message reply : List ℕ) → Bool
 gets_again h tag message reply = is_repeat (kept_of h) tag message && bytes_eq (kept_reply (kept_of h)) reply
 
--- To such a request an answer may be given by what it shows that brings no new LargeResponse, and the requester asks for a chunk
--- upon it.
+-- To such a request an answer may be given by what it shows that brings no new LargeResponse, and the requester asks
+-- for a chunk in response to it.
 abbrev pub IsLeftFree : Configuration → Kept → ℕ → (answer : List ℕ) → Type 0
 IsLeftFree w k tag answer =
     (round : Round) × AnswersRound k tag round × (is_free_body round.body ≡ true)
     × IsShownAnswer (responder_for w k) k.responder round.tag round.body answer
     × (asks_upon k tag answer ≡ true)
 
--- No such answer, and nothing changes; or it is LargeResponse again to such a request, and the requester asks for no chunk upon
--- it: it goes on; or a fetch begins, and this stands for what is kept from then on, and so does the table. The responder's history
--- stays.
+-- No such answer, and nothing changes; or it is LargeResponse again to such a request, and the requester asks for no
+-- chunk in response to it: it goes on; or a fetch begins, and this stands for what is kept from then on, and so does
+-- the table. The responder's history stays.
 abbrev pub IsBegunLate : Configuration → ReqSetup → List (List ℕ) → List Row → Kept → RouteFields → (answer : List ℕ) → BegunHeld
     → (old new : Party) → (before after : List Seen) → Type 0
 IsBegunLate w q older rows k route answer begun.Not old new before after =

@@ -11,7 +11,7 @@ use Rattle.spdm_machine.specs.Terms.{terms_of}
 use Rattle.capture_machine.specs.Rounds.{Dialogue}
 use Rattle.world_machine.specs.Setup.{Configuration}
 
--- A responder told these capabilities last, upon this request, and its negotiation still counts.
+-- A responder told these capabilities last, in response to this request, and its negotiation still counts.
 pub record IsTold (h : History) (request answer : List ℕ) : Type 0 where
   pub known : sizes_are_known (phase_of (clear_turns h)) ≡ true
   pub asked : (negotiation_of (clear_turns h)).get_capabilities ≡ request

@@ -44,7 +44,7 @@ pub record IsOtherAnswer (r : RspSetup) (fetched : InSession) (f : Fetching) (ro
   pub none : (v : List ℕ) (e : Entry) → LeadsWith r fetched.id f round answer v e → takes_get e ≡ false
   pub refused : fetched.left ≡ true → (v : List ℕ) (e : Entry) → LeadsWith r fetched.id f round answer v e → is_large e ≡ false → is_refused e ≡ refuses
 
--- So it is of the round under way.
+-- So it is of the round in progress.
 abbrev pub IsOtherRound : RspSetup → InSession → Fetching → (answer : List ℕ) → (refuses : Bool) → Type 0
 IsOtherRound r fetched f answer refuses = (round : Round) × (f.kept.round ≡ Some round) × IsOtherAnswer r fetched f round answer refuses
 

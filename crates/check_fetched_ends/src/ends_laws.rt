@@ -1,4 +1,4 @@
-//! What leaves what is kept of a requester, each law as the contract of a function that does nothing.
+//! What leaves what is kept of a requester, each law stated as the contract of an empty function.
 
 ghost use Rattle.check_fetched_ends.specs.JudgedEnds.{AwaitingEndsStay, OtherEndsStay};
 

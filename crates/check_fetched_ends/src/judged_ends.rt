@@ -8,7 +8,7 @@ use check_ends::{Conversation, Party};
 pub struct JudgedEnds {
     /// What is kept of both.
     pub talk: Conversation,
-    /// The large response that is fetched. No large request is under way then.
+    /// The large response that is fetched. No large request is in progress then.
     pub fetched: Option<Fetch>,
 }
 

@@ -124,7 +124,7 @@ impl JudgedEnds {
         }
     }
 
-    // An answer came where no large message is under way: it may begin a large one in the clear.
+    // An answer came where no large message is in progress: it may begin a large one in the clear.
     fn begins_clear(
         &mut self,
         table: &mut SessionTable,
@@ -158,7 +158,7 @@ impl JudgedEnds {
         }
     }
 
-    // An answer came where no large message is under way, and it begins no large one in a session: it may begin one
+    // An answer came where no large message is in progress, and it begins no large one in a session: it may begin one
     // where its request is in the clear. Any other is told before places are made for a large response. The request was
     // prepared for.
     fn begins_other(
@@ -194,7 +194,7 @@ impl JudgedEnds {
         self.begins_clear(table, setup, round, answer)
     }
 
-    // An answer came where no large message is under way: it may begin a large one in a session.
+    // An answer came where no large message is in progress: it may begin a large one in a session.
     fn begins_session(
         &mut self,
         table: &mut SessionTable,
@@ -291,11 +291,11 @@ impl JudgedEnds {
         }
     }
 
-    /// An answer of at most 4,161 bytes came whole, in order after this round: it goes on, and the table of sessions
-    /// with it; or the requester asks for a chunk upon it where nothing is fetched, which is left unjudged, and why it
-    /// is refused where no walk goes on with it; or no walk does, and then why. But for the first, nothing is said of
-    /// what is kept then, and of the table. An `Err` comes only where PSK_EXCHANGE_RSP began a session, whole or with
-    /// its last chunk, and there is no memory for its entry, and says nothing of what is kept.
+    /// Handles a complete response of at most 4,161 bytes, next in order after this round: it is accepted and the
+    /// session table updated; or the requester requests a chunk in response where nothing is fetched, which is left
+    /// unjudged, and why it is refused where no walk goes on with it; or no walk accepts it, with a reason. But for the
+    /// first, the state and the table are then unspecified. An `Err` means that memory ran out for the table entry of a
+    /// session that PSK_EXCHANGE_RSP began; the state is then unspecified.
     pub fn replies(
         &mut self,
         table: &mut SessionTable,

@@ -15,10 +15,10 @@ impl JudgedEnds {
     ghost use Rattle.capture_machine.specs.SessionTable.{Row};
     ghost use Rattle.world_machine.specs.Setup.{Configuration};
 
-    /// A request of at most 4,161 bytes came whole under a tag, in order after this round: it goes on, and the table of
-    /// sessions with it; or no walk goes on with it, and then why, and the table stays. Nothing is said of what is kept
-    /// then. While a large response is fetched it goes on where it does without that, and changes nothing of the
-    /// answer.
+    /// Handles a complete request of at most 4,161 bytes with its tag, next in order after this round: it is accepted
+    /// and the session table updated; or no walk accepts it, with a reason, and the table is unchanged. The state is
+    /// then unspecified. While a large response is fetched it goes on where it does without that, and changes nothing
+    /// of the answer.
     pub fn asks(
         &mut self,
         table: &mut SessionTable,

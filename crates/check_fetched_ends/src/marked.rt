@@ -52,8 +52,8 @@ impl MarkedEnds {
         }
     }
 
-    /// A request of at most 4,161 bytes came whole under a tag, in order after this round: as `JudgedEnds::asks` tells.
-    /// It leaves the marks.
+    /// Handles a complete request of at most 4,161 bytes with its tag, next in order after this round: as
+    /// `JudgedEnds::asks` tells. It leaves the marks.
     pub fn asks(
         &mut self,
         table: &mut SessionTable,
@@ -112,7 +112,7 @@ impl MarkedEnds {
         }
     }
 
-    // An answer came: it goes on, or why it is refused. Where the requester asks for a chunk upon an answer that goes
+    // An answer came: it goes on, or why it is refused. Where the requester asks for a chunk on an answer that goes
     // whole, no walk goes on with it; and none is a part of a large response that is left.
     fn judges(
         &mut self,
@@ -142,9 +142,8 @@ impl MarkedEnds {
         }
     }
 
-    // An answer to a message in the clear came where no large message is under way: a fetch may begin late by it. It
-    // stands apart, since a function clears the places of its values when it is entered, and what is held of a large
-    // response is large.
+    // An answer to a message in the clear came where no large message is in progress: a fetch may begin late by it. A
+    // function of its own, since a function zeroes its locals on entry, and the state of a large response is large.
     fn begins_in_clear(
         &mut self,
         table: &mut SessionTable,
@@ -210,7 +209,7 @@ impl MarkedEnds {
         }
     }
 
-    // Whether an answer may be LargeResponse again, where no large message is under way: to GET_MEASUREMENTS or
+    // Whether an answer may be LargeResponse again, where no large message is in progress: to GET_MEASUREMENTS or
     // PSK_EXCHANGE in the clear, or to the last record that its session took.
     fn may_come_again(&self, body: &[u8], answer: &[u8]) -> bool
         ensures { (r : RspSetup) (h : History)
@@ -224,10 +223,10 @@ impl MarkedEnds {
         connection.repeats_last(behind_type(body))
     }
 
-    /// An answer of at most 4,161 bytes came whole, in order after this round: it goes on, and the table of sessions
-    /// with it; or no walk goes on with it, and then why, and nothing is said of what is kept then, and of the table.
-    /// An `Err` comes only where PSK_EXCHANGE_RSP began a session, whole or with its last chunk, and there is no memory
-    /// for its entry, and says nothing of what is kept.
+    /// Handles a complete response of at most 4,161 bytes, next in order after this round: it is accepted and the
+    /// session table updated; or no walk accepts it, with a reason, and state and table are then unspecified. An `Err`
+    /// means that memory ran out for the table entry of a session that PSK_EXCHANGE_RSP began; the state is then
+    /// unspecified.
     pub fn replies(
         &mut self,
         table: &mut SessionTable,

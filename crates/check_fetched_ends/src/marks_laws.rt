@@ -1,5 +1,5 @@
-//! What packets make of the marks of touched sessions, and what leaves them, each law as the contract of a function
-//! that does nothing.
+//! What packets make of the marks of touched sessions, and what leaves them, each law stated as the contract of an
+//! empty function.
 
 ghost use Rattle.check_fetched_ends.specs.Marked.{AnswerMovesMarks};
 ghost use Rattle.check_fetched_ends.specs.MarkedEnds.{AwaitingMarkedStay, OtherMarkedStay};

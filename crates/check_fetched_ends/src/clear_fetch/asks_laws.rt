@@ -1,19 +1,19 @@
-//! Upon which answers the requester asks for a chunk while a large response is fetched, each law as the contract of a
-//! function that does nothing.
+//! On which answers the requester asks for a chunk while a large response is fetched, each law stated as the contract
+//! of an empty function.
 
 ghost use Rattle.check_fetched_ends.specs.AsksUpon.{AnswersTellAsking, ClearAsksOn, PlainEndsFetching, SessionAsksOn, VersionAsksNone};
 
-/// In the clear upon each answer that goes whole, but for VERSION.
+/// In the clear on each answer that goes whole, but for VERSION.
 pub fn clear_asks_on()
     ensures { ClearAsksOn }
 {}
 
-/// Upon the answer to GET_VERSION it asks for none.
+/// On the answer to GET_VERSION it asks for none.
 pub fn version_asks_none()
     ensures { VersionAsksNone }
 {}
 
-/// Where it is fetched in a session, upon what comes in the clear.
+/// Where it is fetched in a session, on what comes in the clear.
 pub fn session_asks_on()
     ensures { SessionAsksOn }
 {}
@@ -23,7 +23,7 @@ pub fn answers_tell_asking()
     ensures { AnswersTellAsking }
 {}
 
-/// An answer that goes whole, upon which it asks for none, leaves the large one unseen.
+/// An answer that goes whole, in response to which it asks for none, leaves the large one unseen.
 pub fn plain_ends_fetching()
     ensures { PlainEndsFetching }
 {}

@@ -22,7 +22,7 @@ fn is_beginning(view: Option<SessionView>) -> bool
     }
 }
 
-// Whether the session with this RspSessionID is in its handshake. Fewer than 2^64 messages came.
+// Whether the session with this RspSessionID is in its handshake. Requires fewer than 2^64 received messages.
 fn is_begun(connection: &Connection, id: u16) -> bool
     ensures { (r : RspSetup) (h : History) → StandsFor connection.now r h → messages_of h < 2 ^ 64
         → result ≡ is_in_handshake (session_of id h) }
@@ -62,7 +62,7 @@ fn end_handshake(connection: &mut Connection)
 }
 
 /// A request in the clear came whose large response was not seen: PSK_EXCHANGE ends the handshake of the session that
-/// is in it, and any other leaves the sessions. Fewer than 2^64 messages came.
+/// is in it, and any other leaves the sessions. Requires fewer than 2^64 received messages.
 pub(crate) fn leave_handshake(connection: &mut Connection, exchange: bool)
     ensures { (r : RspSetup) (h : History) → StandsFor connection.old r h → messages_of h < 2 ^ 64
         → (left : History) × IsLeftIf exchange h left × StandsFor connection.new r left }

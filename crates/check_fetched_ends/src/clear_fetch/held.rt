@@ -70,8 +70,8 @@ impl Held {
     ghost use Rattle.check_fetched_ends.specs.Held.{AreHeldFitting, CanBeCut, IsShownChunk, IsShownHeld, filled_with, repeats_held};
     ghost use Rattle.check_fetched_ends.specs.InSession.{filled};
 
-    // The bytes so far, those of the CHUNK_RESPONSE that comes next, and zeros up to the told length; `None` where that
-    // is no length that is sent in chunks, and where they are longer.
+    // The bytes so far, those of the CHUNK_RESPONSE that comes next, and zeros up to the announced length; `None` where
+    // that is no length that is sent in chunks, and where they are longer.
     pub(crate) fn filled(&self, message: &[u8]) -> Option<Frame>
         ensures { MatchOption result (AreHeldFitting self.now message.now → ⊥)
             (λ whole. AreHeldFitting self.now message.now × (whole ≡ filled self.now.answer.number

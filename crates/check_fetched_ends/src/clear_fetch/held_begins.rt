@@ -37,7 +37,7 @@ use spdm_grammar::names::message_type::SPDM;
 pub enum BegunHeld {
     /// It is no LargeResponse to a request in the clear by what it shows: nothing was done.
     Not,
-    /// It is LargeResponse, and the requester asks for no chunk upon it: it goes on, and its answer is never seen.
+    /// It is LargeResponse, and the requester requests no chunk in response: it goes on, and its answer is never seen.
     /// The request is GET_MEASUREMENTS or PSK_EXCHANGE, whole in one message.
     Passed,
     /// A large response is fetched from then on.
@@ -89,8 +89,9 @@ fn held_from(connection: &Connection, tag: u8, message: &[u8], reply: &[u8]) -> 
     }
 }
 
-/// An answer of at most 4,161 bytes came whole, in order after this round, while nothing is fetched and no large
-/// request is under way: it is told whether it is LargeResponse in the clear, by which a fetch begins or does not.
+/// Handles a complete response of at most 4,161 bytes, next in order after this round, while nothing is fetched and no
+/// large request is in progress: it is told whether it is LargeResponse in the clear, by which a fetch begins or does
+/// not.
 pub fn begins_held(
     party: &mut Party,
     table: &mut SessionTable,

@@ -20,8 +20,8 @@ use check_ends::Party;
 use check_laws::{Round, SessionTable, answer_accepts};
 use spdm_basis::OutOfMemory;
 
-// An answer goes on in the clear, by which no session begins and none takes a record, while a chunk is awaited, and
-// upon which the requester asks for one still: it hears it, and the table is told of it.
+// An answer goes on in the clear, by which no session begins and none takes a record, while a chunk is awaited, and in
+// response to which the requester asks for one still: it hears it, and the table is told of it.
 pub(crate) fn hears_on(
     party: &mut Party,
     table: &mut SessionTable,

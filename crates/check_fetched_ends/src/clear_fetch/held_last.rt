@@ -87,8 +87,8 @@ fn begins_touched(held: &Held, exchange: bool, whole: &[u8]) -> bool
     is_touched_at(marks, rsp_id_in(whole))
 }
 
-/// An answer of at most 4,161 bytes came whole, in order after this round, which is the last chunk of a large response
-/// that is held: it ends the fetch; or why it is refused.
+/// Handles a complete response of at most 4,161 bytes, next in order after this round, which is the last chunk of a
+/// large response that is held: it ends the fetch; or why it is refused.
 pub(crate) fn ends_by_chunk(
     party: &mut Party,
     held: &Held,

@@ -40,8 +40,8 @@ fn asks_version(body: &[u8]) -> bool
     VERSION_BODY.as_slice() == body
 }
 
-/// An answer of at most 4,161 bytes came whole, in order after this round, while a large response is fetched in the
-/// clear: it goes on, and the table of sessions with it; or why it is refused.
+/// Handles a complete response of at most 4,161 bytes, next in order after this round, while a large response is
+/// fetched in the clear: it is accepted and the session table updated; or the reason why it is refused.
 pub fn replies_held(
     party: &mut Party,
     held: &mut Held,

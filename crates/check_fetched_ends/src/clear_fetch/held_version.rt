@@ -76,8 +76,8 @@ fn take_version(connection: &mut Connection, setup: &Setup<'_>, tag: u8, message
     let _ = connection.on_clear(setup, tag, message, &values, &mut Frame::new());
 }
 
-/// An answer of at most 4,161 bytes came whole, in order after this round, which is GET_VERSION, while a large response
-/// is fetched in the clear: it is VERSION, after which nothing is fetched; or why it is refused.
+/// Handles a complete response of at most 4,161 bytes, next in order after this round, which is GET_VERSION, while a
+/// large response is fetched in the clear: it is VERSION, after which nothing is fetched; or why it is refused.
 pub(crate) fn ends_by_version(
     party: &mut Party,
     table: &mut SessionTable,

@@ -121,10 +121,10 @@ fn held_again(connection: &Connection, marks: &Marks, tag: u8, message: &[u8], r
     }
 }
 
-/// An answer of at most 4,161 bytes came whole, in order after this round, while nothing is fetched and no large
-/// request is under way: it is told whether it is LargeResponse again to GET_MEASUREMENTS or PSK_EXCHANGE in the clear,
-/// by which a fetch begins late or does not. These are the marks of the sessions that were touched since. Any other
-/// answer is left as it is: then nothing was done.
+/// Handles a complete response of at most 4,161 bytes, next in order after this round, while nothing is fetched and no
+/// large request is in progress: it is told whether it is LargeResponse again to GET_MEASUREMENTS or PSK_EXCHANGE in
+/// the clear, by which a fetch begins late or does not. These are the marks of the sessions that were touched since.
+/// Any other answer is left as it is: then nothing was done.
 pub fn begins_late(
     party: &mut Party,
     table: &mut SessionTable,

@@ -1,4 +1,4 @@
-//! A fetch in the clear that begins late, each law as the contract of a function that does nothing.
+//! A fetch in the clear that begins late, each law stated as the contract of an empty function.
 
 ghost use Rattle.check_fetched_ends.specs.LateApart.{LateApart};
 ghost use Rattle.check_fetched_ends.specs.LateBefore.{LateBefore};

@@ -1,5 +1,5 @@
-//! What comes of a request in the clear that was refused, and comes again, each law as the contract of a function that
-//! does nothing.
+//! What comes of a request in the clear that was refused, and comes again, each law stated as the contract of an empty
+//! function.
 
 ghost use Rattle.check_fetched_ends.specs.RefusedAgain.{NoneLargeAgain, RefusedAgain};
 

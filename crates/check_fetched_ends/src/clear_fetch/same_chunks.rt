@@ -1,4 +1,4 @@
-//! What both ends know of one another, each law as the contract of a function that does nothing.
+//! What both ends know of one another, each law stated as the contract of an empty function.
 
 ghost use Rattle.check_fetched_ends.specs.SameChunks.{SameCapabilities, SameCommon};
 

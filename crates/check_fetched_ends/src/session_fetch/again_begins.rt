@@ -27,15 +27,15 @@ use spdm_grammar::names::message_type::SPDM;
 pub enum BegunAgain {
     /// It is not LargeResponse again: nothing was done.
     Not,
-    /// It is, and the requester asks for no chunk upon it: it goes on.
+    /// It is, and the requester requests no chunk in response: it goes on.
     Passed,
-    /// It is, and the requester asks for a chunk upon it.
+    /// It is, and the requester requests a chunk in response.
     Fetching(InSession),
 }
 
-/// An answer of at most 4,161 bytes came whole, in order after this round, while nothing is fetched and no large
-/// request is under way: it is told whether it is LargeResponse that comes again in a session, by which a fetch begins
-/// or does not.
+/// Handles a complete response of at most 4,161 bytes, next in order after this round, while nothing is fetched and no
+/// large request is in progress: it is told whether it is LargeResponse that comes again in a session, by which a fetch
+/// begins or does not.
 pub fn begins_again(
     party: &mut Party,
     table: &mut SessionTable,

@@ -60,7 +60,7 @@ pub(crate) fn bytes_in(number: u16, message: &[u8]) -> &[u8]
     bytes_from(message, 12)
 }
 
-// The told length with the CHUNK_RESPONSE of this number.
+// The announced length with the CHUNK_RESPONSE of this number.
 pub(crate) fn size_with(number: u16, told: Option<usize>, message: &[u8]) -> usize
     ensures { result ≡ size_with number told message.now }
 {
@@ -74,8 +74,8 @@ impl InSession {
     ghost use Rattle.std.specs.Prelude.{◌≡◌, MatchOption};
     ghost use Rattle.check_fetched_ends.specs.InSession.{AreFitting, filled};
 
-    /// The bytes so far, those of the CHUNK_RESPONSE that comes next, and zeros up to the told length; `None` where
-    /// that is no length that is sent in chunks, and where they are longer.
+    /// The bytes so far, those of the CHUNK_RESPONSE that comes next, and zeros up to the announced length; `None`
+    /// where that is no length that is sent in chunks, and where they are longer.
     pub fn filled(&self, message: &[u8]) -> Option<Frame>
         ensures { MatchOption result (AreFitting self.now message.now → ⊥)
             (λ whole. AreFitting self.now message.now × (whole ≡ filled self.now.answer.number

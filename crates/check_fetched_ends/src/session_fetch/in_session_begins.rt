@@ -30,18 +30,18 @@ pub enum BegunIn {
     /// The request or the answer is in the clear, or the request asks for no large response in a session: what is kept
     /// stays.
     Not,
-    /// It is LargeResponse in a session, and the requester asks for a chunk upon it.
+    /// It is LargeResponse in a session, and the requester requests a chunk in response.
     Fetching(InSession),
     /// It goes on otherwise, or why it is refused.
     Told(Result<Onward, Why>),
 }
 
-/// An answer of at most 4,161 bytes came whole, in order after this round, while nothing is fetched: a fetch begins by
-/// it in a session, and the table of sessions goes on; or it is told how it goes on otherwise, or why it is refused.
-/// Where the request is none of a session whose answer may be sent in chunks, or the answer is in the clear, nothing is
-/// told. LargeResponse upon which the requester asks for no chunk goes on, and its answer is never seen. Nothing is
-/// said of what is kept where the answer is refused, where the requester asks for a chunk upon one that goes whole, and
-/// where it is a last chunk.
+/// Handles a complete response of at most 4,161 bytes, next in order after this round, while nothing is fetched: a
+/// fetch begins by it in a session, and the table of sessions goes on; or it is told how it goes on otherwise, or why
+/// it is refused. Where the request is none of a session whose answer may be sent in chunks, or the answer is in the
+/// clear, nothing is told. LargeResponse in response to which the requester asks for no chunk goes on, and its answer
+/// is never seen. Nothing is said of what is kept where the answer is refused, where the requester asks for a chunk on
+/// one that goes whole, and where it is a last chunk.
 pub fn begins_in_session(
     party: &mut Party,
     table: &mut SessionTable,

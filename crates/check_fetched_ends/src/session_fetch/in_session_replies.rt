@@ -29,8 +29,8 @@ use spdm_basis::{OutOfMemory, RecordFrame};
 use spdm_grammar::Why;
 use spdm_grammar::names::message_type::SPDM;
 
-/// An answer of at most 4,161 bytes came whole, in order after this round, while a large response is fetched in a
-/// session: it goes on, and the table of sessions with it; or why it is refused.
+/// Handles a complete response of at most 4,161 bytes, next in order after this round, while a large response is
+/// fetched in a session: it is accepted and the session table updated; or the reason why it is refused.
 pub fn replies_in_session(
     party: &mut Party,
     fetched: &mut InSession,

@@ -54,12 +54,12 @@ fn forgets(connection: &mut Connection, id: u16, left: bool, live: bool)
     }
 }
 
-/// An answer of at most 4,161 bytes came whole, in order after a record, while a large response is fetched in its
-/// session, and gives no chunk of it, whatever its bytes are: the connection judges it as it stands. A request that a
-/// right answer refuses in the session, or takes there, is determined by `refuses`. Where the requester asks for no
-/// chunk upon it, nothing is fetched after it, and the large response stays unseen. After LargeResponse that stays
-/// unseen anyway; where the requester asks for a chunk upon it, the new large response is fetched from then on, and
-/// else it stays unseen too.
+/// Handles a complete response of at most 4,161 bytes, next in order after a record, while a large response is fetched
+/// in its session, and gives no chunk of it, whatever its bytes are: the connection judges it as it stands. A request
+/// that a right answer refuses in the session, or takes there, is determined by `refuses`. Where the requester requests
+/// no chunk in response, nothing is fetched after it, and the large response stays unseen. After LargeResponse that
+/// stays unseen anyway; where the requester requests a chunk in response, the new large response is fetched from then
+/// on, and else it stays unseen too.
 pub(crate) fn judges_other(
     party: &mut Party,
     fetched: &mut InSession,

@@ -24,7 +24,7 @@ const LEAST_RECORD: usize = 26;
 const MOST_TEXT: usize = 65535;
 
 /// What a record holds as the answer to one that its session takes, overwriting `text`. False where the session does
-/// not take that one. Fewer than 2^64 - 1 messages came.
+/// not take that one. Requires fewer than 2^64 - 1 received messages.
 pub(crate) fn reads_text(
     answerer: &mut Answerer,
     body: &[u8],

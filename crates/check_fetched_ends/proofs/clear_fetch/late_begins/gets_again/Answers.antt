@@ -19,7 +19,7 @@ use Rattle.spdm_machine.specs.Bodies.{clear_body}
 use Rattle.capture_machine.specs.Rounds.{no_draw}
 use Rattle.check_fetched_ends.proofs.clear_fetch.late_begins.gets_again.Goals as goal
 
--- A repeat gets the kept reply.
+-- A repeat gets the stored reply.
 same_body : (r : RspSetup) (h : History) (tag : ℕ) (m : List ℕ) (f : Free) → is_repeat (kept_of h) tag m ≡ true → body_of (on_clear r h tag m f no_draw) ≡ clear_body (kept_reply (kept_of h))
 unfolding on_clear
 same_body r h tag m f again = ap (λ (b : Bool). body_of (cond b (Same (clear_body (kept_reply (kept_of h)))) (Adds (Clear tag (turn_of r (clear_place h) m f) no_draw)))) again
