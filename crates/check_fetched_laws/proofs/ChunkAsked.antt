@@ -1,5 +1,5 @@
 -- A requester that awaits the answer to a request in the clear, whole or in chunks, and no chunk of an answer, asks for
--- a chunk upon LargeResponse alone, plain or in the acknowledgement of its last chunk; its request is one to which the
+-- a chunk on LargeResponse alone, plain or in the acknowledgement of its last chunk; its request is one to which the
 -- answer may be large.
 use Rattle.std.proofs.Common.{◌≡◌, ◌==◌, ◌+◌, ◌∙◌, ℕ, List, refl, sym, ap, subst, drop, Bool, true, false, Option, Some, None, Result, Ok, Err, cond, eq-eqb, eqb-true}
 use Rattle.std.specs.Prelude.{not, slice_index}

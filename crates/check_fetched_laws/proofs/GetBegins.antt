@@ -92,7 +92,7 @@ ack_none whole tag m h true gets = by_waits (outstanding h) gets
     by_waits None here = here
     by_waits (Some s) here = piece_none whole tag m h s.aim here
 
--- A chunk is asked for upon an answer where none was, while no large request is sent.
+-- A chunk is asked for on an answer where none was, while no large request is sent.
 none_sent : (d : Dialogue) (tag : ℕ) (answer : List ℕ) (g : asker.History) → is_fetching (outstanding d.requester) ≡ false → is_fetching (outstanding g) ≡ true → Hears d tag answer g → d.sending ≡ None
 unfolding Hears
 none_sent d tag answer g none goes heard = by_sending d.sending heard

@@ -51,7 +51,7 @@ module _ (w : Configuration) (q : ReqSetup) (older : List (List ℕ)) (k : Kept)
         kept = heard_same k.setup behind (answered round) None None h h None None tag answer f (same_round round (answered round) h h None None refl askers) refl one;
       }
 
-  -- Whatever was chosen for what it sends upon it.
+  -- Whatever was chosen for what it sends in response to it.
   pub asks_on : (fetching : Option (List ℕ)) (l : requester_history.History) → Hears (record (restored k) { fetching = fetching }) tag answer l → is_fetching (outstanding l) ≡ asks_upon k tag answer
   unfolding Hears heard_from
   asks_on fetching l heard =

@@ -1,5 +1,5 @@
--- A requester that awaits the answer to a whole request, and no chunk, asks for a chunk upon LargeResponse alone, where chunks are
--- in common.
+-- A requester that awaits the answer to a whole request, and no chunk, asks for a chunk on LargeResponse alone, where
+-- chunks are in common.
 use Rattle.std.proofs.Common.{◌≡◌, ◌==◌, ◌&&◌, ◌∙◌, ℕ, List, [], ◌∷◌, refl, sym, ap, subst, drop, length, Bool, true, false, Option, Some, None, Result, Ok, Err, cond, eq-eqb, eqb-true}
 use Rattle.std.specs.Prelude.{bytes_eq, nat_lt, not, slice_index}
 use Rattle.std.proofs.lemmas.Bool.{false≢true, not-false}
@@ -57,7 +57,7 @@ module _ (q : ReqSetup) (h : History) (f : Free) (m : List ℕ) where
   abbrev pub IsLarge : Type 0
   IsLarge = (shows_large m ≡ true) × ((connection_terms h).common.chunk ≡ true)
 
-  -- Where it asks for a chunk upon this message, that is LargeResponse.
+  -- Where it asks for a chunk in response to this message, that is LargeResponse.
   abbrev pub Shows : Led → Type 0
   Shows led = is_fetching led.next ≡ true → IsLarge
 

@@ -1,5 +1,5 @@
--- Upon LargeResponse in the clear, plain or in the acknowledgement of its last chunk, a requester that awaits the answer and has
--- chunks in common asks for the first chunk.
+-- On LargeResponse in the clear, plain or in the acknowledgement of its last chunk, a requester that awaits the answer
+-- and has chunks in common asks for the first chunk.
 use Rattle.std.proofs.Common.{◌≡◌, ◌≢◌, ◌≤◌, ◌<◌, ◌+◌, ◌^◌, ◌==◌, ◌&&◌, ◌∙◌, ℕ, List, [], ◌∷◌, refl, sym, ap, subst, drop, length, Bool, true, false, Option, Some, None, Result, Ok, Err, cond, inr, arith, eq-eqb, le-ltb}
 use Rattle.std.specs.Result.{result_ok}
 use Rattle.std.specs.Prelude.{IfSome, not, nat_lt, slice_index}

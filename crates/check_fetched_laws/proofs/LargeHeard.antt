@@ -1,4 +1,4 @@
--- What a requester asks for upon LargeResponse, and upon a chunk that is not the last one, in the clear.
+-- What a requester asks for on LargeResponse, and on a chunk that is not the last one, in the clear.
 use Rattle.std.proofs.Common.{◌≡◌, ◌<◌, ◌+◌, ◌/◌, ◌%◌, ◌^◌, ◌==◌, ◌&&◌, ℕ, List, [], ◌∷◌, ◌++◌, refl, sym, ap, ◌∙◌, subst, drop, Bool, true, false, Option, Some, None, cond, inl, inr, arith}
 use Rattle.std.specs.Prelude.{Result, Ok, Err, slice_index}
 use Rattle.std.proofs.lemmas.Bool.{false≢true}

@@ -27,7 +27,7 @@ use Rattle.responder_machine.specs.Refusal.{has_pending}
 use Rattle.check_late_laws.specs.Fetching.{Fetching, IsFetchingOf}
 use Rattle.check_late_laws.specs.FetchingLaws.{TurnsFetching}
 
--- A repeat is answered with the kept reply, and nothing changes.
+-- A repeat is answered with the stored reply, and nothing changes.
 abbrev pub RepeatGoesSame : Type 0
 RepeatGoesSame = (r : RspSetup) (d : Dialogue) (whole : List ℕ) (round : Round) (m answer : List ℕ) (next : History)
     → d.fetching ≡ Some whole → round.body ≡ clear_body m → is_repeat (kept_of d.responder) round.tag m ≡ true

@@ -1,4 +1,4 @@
-//! What holds while a large response is fetched in the clear, each law as the contract of a function that does nothing.
+//! What holds while a large response is fetched in the clear, each law stated as the contract of an empty function.
 
 ghost use Rattle.check_fetched_laws.specs.ClearApart.{LastApartIsShown, RepliesAreNotApart};
 ghost use Rattle.check_fetched_laws.specs.ClearRounds.{GetIsNext, RoundIsThere};

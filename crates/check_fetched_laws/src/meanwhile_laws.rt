@@ -1,9 +1,9 @@
-//! Which answers a request in the clear may get while a large response is fetched there, each law as the contract of a
-//! function that does nothing.
+//! Which answers a request in the clear may get while a large response is fetched there, each law stated as the
+//! contract of an empty function.
 
 ghost use Rattle.check_fetched_laws.specs.ClearMeanwhile.{GetBeginsNone, GetCompletes, GetGoesOn, NonePendsInClear, NoneTurnsInClear, RepeatBeginsNone, RepeatGoesSame, RepeatMayGo, VersionBeginsNone, VersionGoes};
 
-/// A repeat is answered with the kept reply, and nothing changes.
+/// A repeat is answered with the stored reply, and nothing changes.
 pub fn repeat_goes_same()
     ensures { RepeatGoesSame }
 {}
