@@ -1,4 +1,4 @@
--- With which bytes an answer that goes whole may be given, whatever the requester does upon it.
+-- With which bytes an answer that goes whole may be given, whatever the requester does in response to it.
 use Rattle.std.proofs.Common.{◌≡◌, ◌&&◌, ℕ, List, refl, sym, ap, ◌∙◌, subst, Bool, true, false, Option, Some, inl, inr}
 use Rattle.std.proofs.Math.Bool.{and-false}
 use Rattle.std.proofs.lemmas.Option.{same_Some}

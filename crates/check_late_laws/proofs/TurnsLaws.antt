@@ -1,4 +1,4 @@
--- What is kept after another LargeResponse, upon which the requester asks for a chunk.
+-- What is kept after another LargeResponse, in response to which the requester asks for a chunk.
 use Rattle.std.proofs.Common.{◌≡◌, ◌<◌, ◌+◌, ◌==◌, ◌&&◌, ◌||◌, ℕ, List, ◌∷◌, refl, sym, ap, ◌∙◌, subst, drop, length, Bool, true, false, Option, Some, Ok, inl, inr, cond, is_some}
 use Rattle.std.specs.Prelude.{not, nat_lt, slice_index}
 use Rattle.std.proofs.lemmas.Option.{none-some, same_Some}

@@ -68,7 +68,7 @@ pub record Fetching : Type 0 where
   pub at : Option ℕ
   pub place : Place
 
--- How many chunks came, their bytes, and the told length; none before the first one.
+-- How many chunks came, their bytes, and the announced length; none before the first one.
 abbrev pub number_of : Fetching → ℕ
 number_of f = number_given f.at f.kept.responder
 
@@ -78,7 +78,7 @@ bytes_of f = bytes_given f.at f.kept.responder
 abbrev pub size_of : Fetching → Option ℕ
 size_of f = size_told f.at f.kept.responder
 
--- The bytes have the told length, if one was told.
+-- The bytes have the announced length, if one was told.
 abbrev pub HasSize : Option ℕ → List ℕ → Type 0
 HasSize None whole = ⊤
 HasSize (Some size) whole = length whole ≡ size

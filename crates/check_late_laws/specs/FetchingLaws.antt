@@ -38,7 +38,7 @@ AnswersFrom r d round answer h place =
 abbrev pub kept_behind : Kept → Round → requester_history.History → History → Kept
 kept_behind k round g h = kept_of (record (restored k) { requester = g; responder = h; round = Some (answered round) })
 
--- LargeResponse upon which the requester asks for a chunk.
+-- LargeResponse in response to which the requester asks for a chunk.
 abbrev pub BeginsFetching : Configuration → Kept → Gathered → Fetching → Type 0
 BeginsFetching w k (Whole route answer) next =
     IsBody answer × (route.owner ≡ false)
@@ -62,7 +62,7 @@ BegunIsFetching = (w : Configuration) (q : ReqSetup) (older : List (List ℕ)) (
     → Keeps w q older k → Walks w q (packet ∷ older) d → d.fetching ≡ Some whole
     → (next : Fetching) × BeginsFetching w k (gathered_from q.eid w.responder.eid older p) next
 
--- After no packets both a large response is fetched and none is. Nor is a large request under way meanwhile.
+-- After no packets both a large response is fetched and none is. Nor is a large request in progress meanwhile.
 abbrev pub FetchingIsAlone : Type 0
 FetchingIsAlone = (w : Configuration) (q : ReqSetup) (older : List (List ℕ)) (f : Fetching) → IsFetchingOf w q older f
     → ((k : Kept) → Keeps w q older k → ⊥) × ((d : Dialogue) → Walks w q older d → d.sending ≡ None)
@@ -90,8 +90,8 @@ FetchingIsAsked = (w : Configuration) (q : ReqSetup) (older : List (List ℕ)) (
 -- ---- An answer.
 
 -- What an answer makes of what is kept, after which the same large response is fetched: a chunk, but for the last one,
--- or an answer that is none, upon which the requester awaits the chunk still. It may be given with some bytes that may
--- stand.
+-- or an answer that is none, in response to which the requester awaits the chunk still. It may be given with some bytes
+-- that may stand.
 abbrev pub GoesFetching : Configuration → Fetching → Gathered → Fetching → Type 0
 GoesFetching w f (Whole route answer) next =
     IsBody answer × (route.owner ≡ false)
@@ -103,7 +103,7 @@ GoesFetching w f (Whole route answer) next =
 GoesFetching w f More next = next ≡ f
 GoesFetching w f (Dropped cause) next = ⊥
 
--- Another LargeResponse upon which the requester asks for a chunk: what was fetched is not fetched any more.
+-- Another LargeResponse in response to which the requester asks for a chunk: what was fetched is not fetched any more.
 abbrev pub TurnsFetching : Configuration → Fetching → Gathered → Fetching → Type 0
 TurnsFetching w f (Whole route answer) next =
     IsBody answer × (route.owner ≡ false)
@@ -115,7 +115,7 @@ TurnsFetching w f (Whole route answer) next =
 TurnsFetching w f _ next = ⊥
 
 -- An answer that goes whole may be given with each bytes that may follow it, where it may be given with some, whatever
--- the requester does upon it: so it is determined by any of them. They stood before it too.
+-- the requester does in response to it: so it is determined by any of them. They stood before it too.
 abbrev pub PlainIsOfAll : Type 0
 PlainIsOfAll = (w : Configuration) (q : ReqSetup) (older : List (List ℕ)) (f : Fetching) (round : Round) (answer whole other : List ℕ) (h : History)
     → IsFetchingOf w q older f → f.kept.round ≡ Some round

@@ -11,7 +11,7 @@ use Rattle.capture_machine.specs.SessionTable.{Row, rows_between}
 use Rattle.world_machine.specs.Setup.{Configuration}
 use Rattle.check_late_laws.specs.Fetching.{Fetching, IsFetchingOf}
 
--- This is kept of the packets, the newest first, while no large message is under way, or while a large response is
+-- This is kept of the packets, the newest first, while no large message is in progress, or while a large response is
 -- fetched.
 abbrev pub IsKeptOf : Configuration → ReqSetup → List (List ℕ) → Kept → Type 0
 IsKeptOf w q older k = Keeps w q older k ⊎ ((f : Fetching) × IsFetchingOf w q older f × (f.kept ≡ k))

@@ -3,7 +3,7 @@ use Rattle.std.specs.Prelude.{◌≡◌}
 use Rattle.check_late_laws.specs.Fetching.{Fetching, bytes_of, number_of, size_of}
 use Rattle.check_late_laws.specs.declared.large_answer.LargeAnswer.{LargeAnswer}
 
--- It stands for this: the told length, how many chunks came, and their bytes.
+-- It stands for this: the announced length, how many chunks came, and their bytes.
 pub record StandsFor (seen : LargeAnswer) (f : Fetching) : Type 0 where
   pub size : seen.size ≡ size_of f
   pub number : seen.number ≡ number_of f

@@ -1,7 +1,8 @@
 use crate::messages::{chunk_in, size_with};
 use spdm_basis::Frame;
 
-/// A large response that is fetched in chunks: its told length, how many chunks came, and their bytes. Never allocates.
+/// A large response that is fetched in chunks: its announced length, how many chunks came, and their bytes. Never
+/// allocates.
 #[derive(Drop)]
 pub struct LargeAnswer {
     pub(crate) size: Option<usize>,
@@ -15,7 +16,7 @@ impl LargeAnswer {
     ghost use Rattle.check_late_laws.specs.FetchingShown.{ShowsChunk};
     ghost use Rattle.check_late_laws.specs.LargeAnswers.{StandsFor};
 
-    /// LargeResponse came, upon which the requester asks for a chunk.
+    /// LargeResponse came, in response to which the requester asks for a chunk.
     pub fn new() -> LargeAnswer
         ensures { (f : Fetching) → number_of f ≡ 0 → StandsFor result f }
     {
@@ -39,7 +40,7 @@ impl LargeAnswer {
         self.number = self.number.saturating_add(1);
     }
 
-    /// The told length; none before the first chunk.
+    /// The announced length; none before the first chunk.
     pub fn size(&self) -> Option<usize>
         ensures { result ≡ self.now.size }
     {

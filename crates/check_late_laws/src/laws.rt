@@ -1,4 +1,4 @@
-//! What goes on while a large response is fetched in chunks, each law as the contract of a function that does nothing.
+//! What goes on while a large response is fetched in chunks, each law stated as the contract of an empty function.
 
 ghost use Rattle.check_late_laws.specs.FetchingLaws.{BegunIsFetching, FetchingAsks, FetchingBegins, FetchingEnds, FetchingGoes, FetchingIsAlone, FetchingIsAsked, FetchingIsReplied, FetchingStays, FetchingTellsApart, FetchingTellsWhy, FetchingTurns, LargeIsOfAll, PlainIsOfAll};
 ghost use Rattle.check_late_laws.specs.FetchingRows.{FetchingShows};
@@ -32,7 +32,7 @@ pub fn fetching_tells_apart()
     ensures { FetchingTellsApart }
 {}
 
-/// What is kept after LargeResponse upon which the requester asks for a chunk.
+/// What is kept after LargeResponse in response to which the requester asks for a chunk.
 pub fn fetching_begins()
     ensures { FetchingBegins }
 {}
@@ -42,7 +42,7 @@ pub fn begun_is_fetching()
     ensures { BegunIsFetching }
 {}
 
-/// After no packets both a large response is fetched and none is, and no large request is under way meanwhile.
+/// After no packets both a large response is fetched and none is, and no large request is in progress meanwhile.
 pub fn fetching_is_alone()
     ensures { FetchingIsAlone }
 {}

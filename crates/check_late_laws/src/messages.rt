@@ -11,7 +11,7 @@ fn byte_at(message: &[u8], at: usize) -> u8
     }
 }
 
-// The length that a first chunk tells, of at most 65,535 bytes.
+// The length announced by a first chunk, of at most 65,535 bytes.
 fn told_size(message: &[u8]) -> usize
     ensures { result ≡ size_in message.now }
 {
@@ -38,7 +38,7 @@ pub(crate) fn chunk_in(first: bool, message: &[u8]) -> &[u8]
     bytes_from(message, 12)
 }
 
-// The told length after CHUNK_RESPONSE: the first one tells it.
+// The announced length after CHUNK_RESPONSE: the first one tells it.
 pub(crate) fn size_with(first: bool, message: &[u8], size: Option<usize>) -> Option<usize>
     ensures { result ≡ if first then Some (size_in message.now) else size }
 {

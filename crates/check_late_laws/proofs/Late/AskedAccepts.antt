@@ -1,4 +1,4 @@
--- An answer upon which the requester asks for a chunk is taken for no PSK_EXCHANGE_RSP.
+-- An answer in response to which the requester asks for a chunk is taken for no PSK_EXCHANGE_RSP.
 use Rattle.std.proofs.Common.{◌≡◌, ℕ, List, [], ◌∷◌, refl, sym, ap, ◌∙◌, drop, Bool, true, false, Option, Some, None, inl, inr}
 use Rattle.std.proofs.lemmas.Bool.{false≢true}
 use Rattle.check_laws.specs.ChangeLaws.{accepted_by}

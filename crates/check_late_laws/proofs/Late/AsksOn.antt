@@ -1,5 +1,5 @@
--- While a chunk is asked for, the requester asks for one still upon what it does not take, and upon a chunk in the clear that is
--- not the last one.
+-- While a chunk is asked for, the requester asks for one still on what it does not take, and on a chunk in the clear
+-- that is not the last one.
 use Rattle.std.proofs.Common.{◌≡◌, ◌∙◌, ◌==◌, ◌+◌, ℕ, List, [], ◌∷◌, refl, sym, ap, subst, drop, Bool, true, false, Option, Some, None, Result, Ok, Err, cond}
 use Rattle.std.specs.Prelude.{not, slice_index, unwrap_or}
 use Rattle.std.proofs.lemmas.Bool.{false≢true, not-false}
@@ -85,7 +85,7 @@ module _ (q : ReqSetup) (h : History) (f : Free) (tag : ℕ) (body : List ℕ) (
   by_cause None None asks = (gets, refl)
   by_cause (Some s) None asks = asks s refl refl
 
-  -- Upon what comes under another tag.
+  -- On what comes under another tag.
   pub other_tag_on : (s : Sent) → outstanding h ≡ Some s → has_tag (Some s) tag ≡ false → AsksOn h (hears q h false tag body f no_draw)
   unfolding hears
   other_tag_on s waits apart = by_cause (outstanding h) (body_fault q (outstanding h) false tag body) (λ x is none. absurd (false≢true (sym apart ∙ ap (λ (o : Option Sent). has_tag o tag) (sym waits) ∙ right none)))
@@ -93,7 +93,7 @@ module _ (q : ReqSetup) (h : History) (f : Free) (tag : ℕ) (body : List ℕ) (
       right : body_fault q (outstanding h) false tag body ≡ None → has_tag (outstanding h) tag ≡ true
       right none = not-false (has_tag (outstanding h) tag) (test_is_false q (outstanding h) false tag body none 2)
 
-  -- Upon a chunk in the clear that is not the last one.
+  -- On a chunk in the clear that is not the last one.
   pub chunk_on : (c : ChunkMessage) → FitsChunk c → IsSoundChunk c → c.last ≡ false → body ≡ clear_body (canonical_response (ChunkResponse c)) → AsksOn h (hears q h false tag body f no_draw)
   unfolding hears
   chunk_on c fits sound more is =
@@ -101,7 +101,7 @@ module _ (q : ReqSetup) (h : History) (f : Free) (tag : ℕ) (body : List ℕ) (
       (λ s waits none. aims_on s.aim (sym (ap is_fetching waits) ∙ gets) (ap (λ (l : List ℕ). slice_index l 0 == 5) is)
       (λ a handle number before. subst (λ (l : List ℕ). LeadsOn (clear_led q h f (ForChunk a handle number before) a (drop 1 l))) (sym is) (led_on a handle number before c fits sound more)))
 
-  -- Upon what comes in the clear, where it is asked for in a session.
+  -- On what comes in the clear, where it is asked for in a session.
   pub clear_in_session_on : (s : Sent) (id : ℕ) (ask : Ask) → outstanding h ≡ Some s → s.aim ≡ InSession id ask → is_clear body ≡ true → AsksOn h (hears q h false tag body f no_draw)
   unfolding hears
   clear_in_session_on s id ask waits aims clear =

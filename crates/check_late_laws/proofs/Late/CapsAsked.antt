@@ -124,7 +124,7 @@ pub data Leads (h : History) (answer : List ℕ) (entry : Entry) : Type 0 where
   Keeps : IsSame h entry → Leads h answer entry
   Takes : IsCaps h answer entry → Leads h answer entry
 
--- What is sent upon it.
+-- What is sent in response to it.
 abbrev pub NextAsks : History → Entry → Type 0
 NextAsks h entry = AllAsk (entry ∷ h)
 

@@ -1,4 +1,4 @@
--- A requester that awaits VERSION takes no answer for PSK_EXCHANGE_RSP, and asks for no chunk upon it.
+-- A requester that awaits VERSION takes no answer for PSK_EXCHANGE_RSP, and asks for no chunk in response to it.
 use Rattle.std.proofs.Common.{◌≡◌, ◌==◌, ◌&&◌, ◌∙◌, ℕ, List, [], refl, sym, ap, subst, drop, Bool, true, false, Option, Some, None, Result, Ok, Err, cond}
 use Rattle.std.specs.Prelude.{slice_index}
 use Rattle.std.proofs.lemmas.Option.{same_Some}

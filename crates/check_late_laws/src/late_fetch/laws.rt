@@ -1,4 +1,4 @@
-//! What follows a request whose large response passed unseen, each law as the contract of a function that does nothing.
+//! What follows a request whose large response passed unseen, each law stated as the contract of an empty function.
 
 ghost use Rattle.check_late_laws.specs.Late.AgainInSession.{AgainIsNewest, AgainLeavesOthers};
 ghost use Rattle.check_late_laws.specs.Late.Marking.{RefusedLeavesMarks};
