@@ -43,7 +43,7 @@ record Freed (w : Configuration) (q : ReqSetup) (older : List (List ℕ)) (d : D
 
 -- ---- An answer.
 
--- A message is sent upon the answer, or was owed before it.
+-- A message is sent on the answer, or was owed before it.
 abbrev OwedBefore : ReqSetup → History → responder_history.History → Round → Option (List ℕ) → ℕ → List ℕ → History → Type 0
 OwedBefore q h r rd fd tag body next =
     (is_later (Some rd) (outstanding h) ≡ true) × (next ≡ h) × ((pad : List ℕ) → Hears (dial q (repadded q.psk pad h) r (Some rd) None fd) tag body (repadded q.psk pad h))
@@ -197,7 +197,7 @@ module _ (w : Configuration) (q : ReqSetup) (older : List (List ℕ)) (b : Dialo
 
 -- ---- All packets.
 
--- A chunk that is owed is in the clear; where none is, no large request is under way.
+-- A chunk that is owed is in the clear; where none is, no large request is in progress.
 owed_kind : (round : Option Round) (h g : History) (sd se : Option (List ℕ)) (psk : List ℕ) → AskersAlike round h g sd se → is_later round (outstanding h) ≡ true → ((pad : List ℕ) → repadded psk pad h ≡ h) ⊎ (sd ≡ None)
 owed_kind round _ _ _ _ psk (Settled h g agree not at) later = absurd (false≢true (sym not ∙ later))
 owed_kind round _ _ _ _ psk (Owing e f h g s t agree alike out sent like tagged else still at) later = inr refl

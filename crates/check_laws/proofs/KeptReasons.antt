@@ -29,7 +29,7 @@ restored_each w older (q ∷ qs) (k ∷ ks) each = ((kept_is_restored w q older 
 restored_each w older [] (k ∷ ks) each = absurd each
 restored_each w older (q ∷ qs) [] each = absurd each
 
--- No large message is under way in it.
+-- No large message is in progress in it.
 abbrev IsSmall : Dialogue → Type 0
 IsSmall d = (d.sending ≡ None) × (d.fetching ≡ None)
 

@@ -55,7 +55,7 @@ tag_by round _ _ _ _ (Due tag m h g w v a b handle number u still at) none x is 
 bare_tag : (w : Configuration) (q : ReqSetup) (older : List (List ℕ)) (d : Dialogue) → Walks w q older d → d.sending ≡ None → next_tag (without_owed d) ≡ following_tag d.round
 bare_tag w q older d walk none = tag_by d.round d.requester d.requester d.sending d.sending (walks_alike w q older d d walk walk).alike.askers none (owes d) refl
 
--- Nothing large is judged where none is under way.
+-- Nothing large is judged where none is in progress.
 judged : (d : Dialogue) (s : Sent) → d.sending ≡ None → IsJudged d.setup d.requester d.sending s.aim
 judged d s none = subst (λ (o : Option (List ℕ)). IsJudged d.setup d.requester o s.aim) (sym none) tt
 

@@ -1,4 +1,4 @@
--- All walks of one requester over the same packets are alike, and a message that it owes was sent upon an answer.
+-- All walks of one requester over the same packets are alike, and a message that it owes was sent on an answer.
 use Rattle.std.proofs.Common.{◌≡◌, ◌+◌, ◌⊎◌, not, ℕ, List, [], ◌∷◌, refl, sym, ap, ◌∙◌, subst, Bool, true, false, Option, Some, None, Result, Ok, Err, inl, inr}
 use Rattle.std.specs.Prelude.{MatchBool}
 use Rattle.std.proofs.lemmas.Option.{none-some}

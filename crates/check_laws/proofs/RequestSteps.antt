@@ -16,7 +16,7 @@ use Rattle.capture_machine.specs.SessionTable.{accepted_in, is_new}
 
 -- ---- What the requester takes: nothing.
 
--- Which message is sent upon the newest entry counts for no length.
+-- Which message is sent on the newest entry counts for no length.
 same_length : (o p : Option Sent) (h : History) → length (with_next o h) ≡ length (with_next p h)
 same_length o p [] = refl
 same_length o p (Told command sent d ∷ h) = refl

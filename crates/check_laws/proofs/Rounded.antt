@@ -1,4 +1,4 @@
--- What a packet makes of the round under way, in a walk and by the packets alone.
+-- What a packet makes of the round in progress, in a walk and by the packets alone.
 use Rattle.std.proofs.Common.{◌≡◌, ◌+◌, ◌%◌, ◌&&◌, ◌⊎◌, ℕ, List, refl, sym, ap, ◌∙◌, Bool, true, false, Option, Some, None, cond, inl, inr, arith, eq-eqb, ne_eqb}
 use Rattle.std.specs.Prelude.{bytes_eq}
 use Rattle.mctp_framing.specs.Gathering.{Gathered}

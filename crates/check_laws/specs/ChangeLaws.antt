@@ -86,7 +86,7 @@ abbrev pub LargeAnswerChanges : Type 0
 LargeAnswerChanges = (d next : Dialogue) (entry : Entry) → next.responder ≡ unseen entry ∷ d.responder
     → (begun_between d next ≡ None) × (answered_between d next ≡ answered_by (Adds entry))
 
--- The RspSessionID of the session that the large response under way at a place begins, with these bytes in its place.
+-- The RspSessionID of the session that the large response in progress at a place begins, with these bytes in its place.
 abbrev pub begun_by_large : Option ℕ → List ℕ → History → Option ℕ
 begun_by_large place whole [] = None
 begun_by_large place whole (entry ∷ older) = if is_unseen_in place entry then begun_by (Adds (seen whole entry)) else begun_by_large place whole older

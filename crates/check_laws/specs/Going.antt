@@ -19,7 +19,7 @@ shows_padding d _ = false
 -- ---- One dialogue.
 
 -- A request that goes on from what is between two ends in one walk goes on from what is between them in each other one,
--- where no large request is under way, and it is no record that was owed.
+-- where no large request is in progress, and it is no record that was owed.
 abbrev pub AsksGoOn : Type 0
 AsksGoOn = (w : Configuration) (older : List (List ℕ)) (ds es : List Dialogue) (eid : ℕ) (d e : Dialogue) (g : Gathered) (next : Dialogue)
     → Leads w older ds → Leads w older es → dialogue_at eid ds ≡ Some d → dialogue_at eid es ≡ Some e
@@ -35,7 +35,7 @@ RepliesGoOn = (w : Configuration) (older : List (List ℕ)) (ds es : List Dialog
 
 -- ---- One packet.
 
--- No large request is under way at this requester, and the packet completes no record that was owed.
+-- No large request is in progress at this requester, and the packet completes no record that was owed.
 abbrev pub is_shared_from : Configuration → List (List ℕ) → PacketFields → Option Dialogue → Bool
 is_shared_from w older packet None = true
 is_shared_from w older packet (Some d) = is_none d.sending && not (shows_padding d (gathered_from w.responder.eid d.setup.eid older packet))

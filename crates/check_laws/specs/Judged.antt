@@ -63,7 +63,7 @@ abbrev pub receiver_of : (own peer : ℕ) → Receiver
 receiver_of own peer = record { own = own; peer = peer; limit = body_limit }
 
 -- It is kept of a requester with this endpoint after these packets, the newest first: the bodies that are gathered in
--- both directions, and the round under way.
+-- both directions, and the round in progress.
 pub record IsPair (seen : Pair) (own eid : ℕ) (older : List (List ℕ)) : Type 0 where
   pub at : seen.eid.number ≡ eid
   pub asks_of : seen.requests.receiver ≡ receiver_of own eid

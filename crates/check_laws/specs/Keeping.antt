@@ -1,4 +1,4 @@
--- What is kept of one requester and the responder while no large message is under way, and which requests and answers
+-- What is kept of one requester and the responder while no large message is in progress, and which requests and answers
 -- go on from it. This project's own.
 use Rattle.std.specs.Prelude.{◌≡◌, ◌≤◌, ◌+◌, ◌⊎◌, ◌↔◌, ℕ, List, [], ◌∷◌, length, if◌then◌else◌, true, false, Option, Some, None, Ok}
 use Rattle.mctp_framing.specs.Gathering.{Gathered}
@@ -44,7 +44,7 @@ kept_of d = record {
   round = d.round;
 }
 
--- Some walk over these packets, the newest first, leads to what this is kept of, and no large message is under way.
+-- Some walk over these packets, the newest first, leads to what this is kept of, and no large message is in progress.
 abbrev pub Keeps : Configuration → ReqSetup → List (List ℕ) → Kept → Type 0
 Keeps w q older kept = (d : Dialogue) × Walks w q older d × (d.sending ≡ None) × (d.fetching ≡ None) × (kept ≡ kept_of d)
 
@@ -114,7 +114,7 @@ KeptAsks = (w : Configuration) (q : ReqSetup) (older : List (List ℕ)) (packet 
     → parsed packet ≡ Ok p → is_request w.responder.eid q.eid p ≡ true
     → Keeps w q older k → AsksKept k (gathered_from w.responder.eid q.eid older p) next → Keeps w q (packet ∷ older) next
 
--- Where some walk goes on with a packet from the requester, and no large request is under way after it, it makes
+-- Where some walk goes on with a packet from the requester, and no large request is in progress after it, it makes
 -- something of what is kept.
 abbrev pub AsksAreKept : Type 0
 AsksAreKept = (w : Configuration) (q : ReqSetup) (older : List (List ℕ)) (packet : List ℕ) (p : PacketFields) (k : Kept) (d : Dialogue)

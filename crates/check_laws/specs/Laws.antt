@@ -10,7 +10,7 @@ use Rattle.capture_machine.specs.Difference.{Why, IsReason, IsVerifyApart}
 use Rattle.capture_machine.specs.Rounds.{Dialogue, dialogue_at}
 use Rattle.world_machine.specs.Setup.{Configuration}
 
--- The round under way is that of the packets, in every walk over them.
+-- The round in progress is that of the packets, in every walk over them.
 abbrev pub OneRound : Type 0
 OneRound = (w : Configuration) (older : List (List ℕ)) (ds : List Dialogue) (eid : ℕ) (d : Dialogue)
     → Leads w older ds → dialogue_at eid ds ≡ Some d → d.round ≡ round_of w.responder.eid eid older

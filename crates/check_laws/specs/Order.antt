@@ -62,7 +62,7 @@ round_after own eid older round (Ok packet) =
     else (if is_answer own eid packet then round_by_answer round (gathered_from eid own older packet)
     else round)
 
--- The round under way between the responder and a requester after these packets, the newest first.
+-- The round in progress between the responder and a requester after these packets, the newest first.
 abbrev pub round_of : (own eid : ℕ) → List (List ℕ) → Option Round
 round_of own eid [] = None
 round_of own eid (packet ∷ older) = round_after own eid older (round_of own eid older) (parsed packet)

@@ -16,8 +16,8 @@ abbrev pub session_asked : Aim → ℕ
 session_asked (InSession id ask) = id
 session_asked _ = 0
 
--- The message that was sent by itself upon the last answer, with this padding: sealed in its session, as that stands
--- with the answer.
+-- The message that was sent by itself on the last answer, with this padding: sealed in its session, as that stands with
+-- the answer.
 abbrev pub next_with : (psk : List ℕ) → History → (pad : List ℕ) → Option Sent → Option Sent
 next_with psk h pad None = None
 next_with psk h pad (Some sent) = Some (sent_with psk (session_of (session_asked sent.aim) (with_next None h)) pad sent)

@@ -42,7 +42,7 @@ IsKeptReason w older packet ks BadVerify = IsApartBy w older (map restored ks) (
 IsKeptReason w older packet ks why =
     (IsApartBy w older (map restored ks) (parsed packet) → ⊥) × (why_by w older (map restored ks) (parsed packet) ≡ Some why)
 
--- That is the reason, while no large message is under way with any requester.
+-- That is the reason, while no large message is in progress with any requester.
 abbrev pub KeptTellsReason : Type 0
 KeptTellsReason = (w : Configuration) (older : List (List ℕ)) (packet : List ℕ) (ks : List Kept) (why : Why)
     → AreApart w.responder.eid w.requesters → all_between w older ≡ true → KeepEach w older w.requesters ks

@@ -35,7 +35,7 @@ AnswersRound k tag round = (k.round ≡ Some round) × (round.tag ≡ tag) × (0
 
 -- ---- An answer that goes whole.
 
--- What the requester sends upon an answer has no padding in what is kept, and nothing else depends on these values.
+-- What the requester sends on an answer has no padding in what is kept, and nothing else depends on these values.
 abbrev pub no_values : Free
 no_values = record { id = 1; context = []; opaque = []; pad = [] }
 
@@ -57,8 +57,8 @@ replied w k tag round answer = kept_of (record (restored k) {
   round = Some (answered round);
 })
 
--- An answer that may be given by what it shows, and upon which the requester asks for no chunk; nothing else is left to
--- be found.
+-- An answer that may be given by what it shows, and in response to which the requester asks for no chunk; nothing else
+-- is left to be found.
 abbrev pub PlainlyKept : Configuration → Kept → Gathered → Kept → Type 0
 PlainlyKept w k (Whole route answer) next =
     IsBody answer × (route.owner ≡ false)
@@ -71,7 +71,7 @@ PlainlyKept w k (Dropped cause) next = ⊥
 
 -- ---- LargeResponse.
 
--- What LargeResponse makes of what is kept, where the requester asks for no chunk upon it.
+-- What LargeResponse makes of what is kept, where the requester asks for no chunk in response to it.
 abbrev pub LargelyKept : Configuration → Kept → Gathered → Kept → Type 0
 LargelyKept w k (Whole route answer) next =
     IsBody answer × (route.owner ≡ false)

@@ -1,4 +1,4 @@
-//! What a packet changes of what rows of the table depend on, each law as the contract of a function that does nothing.
+//! What a packet changes of what rows of the table depend on, each law stated as the contract of an empty function.
 
 ghost use Rattle.check_laws.specs.ChangeLaws.{AckAcceptsNone, AnswerAccepts, AnswerAsksNone, CopyChanges, CopyIsRequest, LargeAnswerChanges, LastChunkChanges, RequestChanges, RoundIsRequest, WholeAnswerChanges};
 

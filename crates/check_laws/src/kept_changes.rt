@@ -1,5 +1,5 @@
-//! What a request and an answer change of what rows of the table depend on, by what is kept, each law as the contract
-//! of a function that does nothing.
+//! What a request and an answer change of what rows of the table depend on, by what is kept, each law stated as the
+//! contract of an empty function.
 
 ghost use Rattle.check_laws.specs.KeptChanges.{KeptAnswerChanges, KeptAnswerIsStep, KeptCopyIsRequest, KeptRoundIsRequest};
 

@@ -1,5 +1,5 @@
-//! Which rows of the table of sessions a capture shows, by what is kept of each of its requesters, each law as the
-//! contract of a function that does nothing.
+//! Which rows of the table of sessions a capture shows, by what is kept of each of its requesters, each law stated as
+//! the contract of an empty function.
 
 ghost use Rattle.check_laws.specs.KeptRows.{AsksShow, MorePackets, NumbersAreOrder, RepliesShow, ShowBegins, ShownHavePlaces, ShownIsTable};
 

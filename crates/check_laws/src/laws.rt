@@ -1,4 +1,4 @@
-//! What the packets of a capture fix of all walks over them, each law as the contract of a function that does nothing.
+//! What the packets of a capture fix of all walks over them, each law stated as the contract of an empty function.
 
 ghost use Rattle.check_laws.specs.AnswersShown.{AnswersAreShown, LargeAreShown};
 ghost use Rattle.check_laws.specs.ApartShown.{ApartIsShown};
@@ -19,7 +19,7 @@ ghost use Rattle.check_laws.specs.Walks.{ConformsIsEach, LeadsIsEach};
 
 use world_machine::{beginning_conforms, conforming_has_table, one_reason, one_table};
 
-/// The round under way between two ends is a function of the packets: all walks over them have it.
+/// The round in progress between two ends is a function of the packets: all walks over them have it.
 pub fn one_round()
     ensures { OneRound }
 {}
@@ -49,8 +49,8 @@ pub fn order_tells()
     ensures { OrderTells }
 {}
 
-/// A request that goes on from one walk goes on from each other one, where no large request is under way, and it is no
-/// record that was owed.
+/// A request that goes on from one walk goes on from each other one, where no large request is in progress, and it is
+/// no record that was owed.
 pub fn asks_go_on()
     ensures { AsksGoOn }
 {}

@@ -58,7 +58,7 @@ impl Order {
     }
 
     /// The next packet of the capture. A reason why it does not conform is told where the order of the packets gives
-    /// one, and is the first that holds of the three; nothing is said of what is kept then. Never allocates.
+    /// one, and is the first that holds of the three; the state is then unspecified. Never allocates.
     pub fn take(&mut self, packet: &[u8]) -> Result<Brought, Why>
         ensures told { (w : Configuration) (older : List (List ℕ)) → StandsFor self.old w older
             → IsTold (order_why w older packet.now)

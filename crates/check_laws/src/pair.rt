@@ -15,8 +15,8 @@ use std::alloc::Global;
 use spdm_grammar::names::MAX_BODY_SIZE;
 use spdm_grammar::names::message_type::{SECURED, SPDM};
 
-/// What is kept of a requester and the responder: the bodies that are gathered in both directions,
-/// and the round under way.
+/// What is kept of a requester and the responder: the bodies that are gathered in both directions, and the round in
+/// progress.
 #[derive(Drop)]
 pub struct Pair {
     pub(crate) eid: Eid,

@@ -19,8 +19,8 @@ const LEAST_HASH: usize = 32;
 // GET_VERSION in the clear, as a requester sends it.
 const GET_VERSION: &[u8] = &[SPDM, 0x10, 0x84, 0, 0];
 
-/// The round under way between the responder and a requester: the request that began it, how many of it and its copies
-/// have no answer yet, and whether one has. Contracts see it as that of the definitions, or none where nothing was
+/// The round in progress between the responder and a requester: the request that began it, how many of it and its
+/// copies have no answer yet, and whether one has. In contracts, that of the definitions, or none where nothing was
 /// asked yet.
 #[derive(Drop)]
 pub struct Round {

@@ -1,4 +1,4 @@
-//! What packets make of the rows of the table of sessions, each law as the contract of a function that does nothing.
+//! What packets make of the rows of the table of sessions, each law stated as the contract of an empty function.
 
 ghost use Rattle.check_laws.specs.Changes.{WalksStep};
 ghost use Rattle.check_laws.specs.Rows.{IdleRowsStay, OneChangesRows, OneKeepsPlaces, OtherPlacesStay, RowsAreOfAll, TableBegins, TableIsShown};

@@ -22,7 +22,7 @@ pub struct Seen {
     pub answered: u64,
 }
 
-/// The sessions that a capture shows, in the order in which PSK_EXCHANGE_RSP came. Contracts see them as a list.
+/// The sessions that a capture shows, in the order in which PSK_EXCHANGE_RSP came. In contracts, a list.
 #[derive(Debug, Drop)]
 pub struct SessionTable {
     pub(crate) items: Vec<Seen>,

@@ -1,4 +1,4 @@
--- What a request makes of each walk while a large request is under way.
+-- What a request makes of each walk while a large request is in progress.
 use Rattle.std.proofs.Common.{◌≡◌, ◌+◌, ◌⊎◌, ℕ, List, ◌∷◌, refl, sym, ap, ◌∙◌, subst, Bool, true, false, Option, Some, None, Ok, is_some, cond, inl, inr}
 use Rattle.std.specs.Bool.{OnTrue}
 use Rattle.mctp_framing.specs.Gathering.{Gathered}
@@ -100,7 +100,7 @@ pub bare_is : (s : Sending) (b : Beginning) (whole : List ℕ) → owes (dialogu
 bare_is s b whole is = bare_by s s.due b whole is
 
 module _ (w : Configuration) (q : ReqSetup) (older : List (List ℕ)) (packet : List ℕ) (p : PacketFields) (parses : parsed packet ≡ Ok p) (is : is_request w.responder.eid q.eid p ≡ true) where
-  -- A walk goes on with a request after which nothing large is under way.
+  -- A walk goes on with a request after which nothing large is in progress.
   pub ended : (s : Sending) (b : Beginning) (whole : List ℕ) (tag : ℕ) (body : List ℕ) (h : History) (next : Kept) → Walks w q older (dialogue_of s b whole) → may_begin (Some s.round) body ≡ true → tag ≡ following_tag (Some s.round)
       → Sends (dialogue_of s b whole) body h None → next ≡ whole_kept s h tag body → ((x y : Dialogue) → Begins x tag body y → AsksBy x (gathered_from w.responder.eid q.eid older p) y)
       → Keeps w q (packet ∷ older) next

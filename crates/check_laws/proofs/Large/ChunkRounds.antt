@@ -1,4 +1,4 @@
--- While a large request is under way the last round asks with a chunk that is not the last one.
+-- While a large request is in progress the last round asks with a chunk that is not the last one.
 use Rattle.std.proofs.Common.{◌≡◌, ◌∙◌, ◌⊎◌, ◌+◌, ◌-◌, ◌==◌, ℕ, List, [], ◌∷◌, refl, sym, ap, subst, length, arith, Bool, true, false, Option, Some, None, Result, Ok, Err, cond, inl, inr, ne_eqb}
 use Rattle.std.specs.Prelude.{MatchBool}
 use Rattle.std.proofs.lemmas.Bool.{false≢true}
@@ -35,7 +35,7 @@ use Rattle.check_laws.proofs.Large.Cuts.{two_chunks}
 use Rattle.check_laws.proofs.Large.Histories.{next_terms}
 use Rattle.check_laws.proofs.Large.LargeSizes.{above, chunk_size}
 
--- A large request is under way only after such a round.
+-- A large request is in progress only after such a round.
 abbrev pub AsksChunk : Dialogue → Type 0
 AsksChunk d = (whole : List ℕ) → d.sending ≡ Some whole → (round : Round) × (d.round ≡ Some round) × IsChunkBody round.body
 

@@ -1,4 +1,4 @@
--- The requester's histories while a large request is under way.
+-- The requester's histories while a large request is in progress.
 use Rattle.std.proofs.Common.{◌≡◌, ◌+◌, ◌==◌, ℕ, List, [], ◌∷◌, refl, sym, ap, ◌∙◌, subst, Bool, true, false, Option, Some, None, arith, cond}
 use Rattle.std.specs.Prelude.{MatchBool}
 use Rattle.std.proofs.Common.{ne_eqb}

@@ -1,4 +1,4 @@
--- What is there beside a large request that is under way.
+-- What is there beside a large request that is in progress.
 use Rattle.std.proofs.Common.{◌≡◌, ◌∷◌, ℕ, List, refl, sym, ap, ◌∙◌, subst, true, Some, None}
 use Rattle.std.proofs.lemmas.Option.{none-some, same_Some}
 use Rattle.requester_machine.specs.History.{History, begins_large, outstanding}

@@ -38,7 +38,7 @@ owing s ack = record s { due = Some ack }
 abbrev pub piece : Sending → Beginning → List ℕ → Sent
 piece s b whole = piece_with (shown_by s b whole) (asked_of b) whole (handle_of s) (number_of s + 1)
 
--- It is the last one exactly when it is so by the told length.
+-- It is the last one exactly when it is so by the announced length.
 pub last_same : (s : Sending) (ack : Ack) (b : Beginning) (whole : List ℕ) → MayBegin s.before b → length whole ≡ s.size
     → is_last_piece (requester_of (owing s ack) b whole) whole (piece s b whole).aim ≡ is_last s (number_of s + 1)
 last_same s ack b whole may size =

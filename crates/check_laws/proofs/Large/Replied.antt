@@ -1,4 +1,4 @@
--- Which answers go on while a large request is under way.
+-- Which answers go on while a large request is in progress.
 use Rattle.std.proofs.Common.{◌≡◌, ◌<◌, ◌+◌, ◌-◌, ◌==◌, ℕ, List, ◌∷◌, refl, sym, ap, ◌∙◌, subst, drop, Bool, true, false, Option, Some, None, Ok, is_some, cond, not}
 use Rattle.std.proofs.lemmas.Bool.{not-false, not-true}
 use Rattle.std.proofs.lemmas.Option.{same_Some}

@@ -1,4 +1,4 @@
--- What is reported of a request while a large one is under way.
+-- What is reported of a request while a large one is in progress.
 use Rattle.std.proofs.Common.{◌≡◌, ◌+◌, ◌++◌, ℕ, List, ◌∷◌, refl, sym, ap, ◌∙◌, subst, drop, take, true, false, Option, Some, None, is_some}
 use Rattle.std.proofs.lemmas.Bool.{false≢true}
 use Rattle.chunking.specs.Cutting.{chunk_end}

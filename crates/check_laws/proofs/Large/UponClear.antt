@@ -56,7 +56,7 @@ none_small o none s is = absurd (none-some s (sym none ∙ is))
 some_small : (o : Option Sent) (x : Sent) → o ≡ Some x → begins_large x.aim ≡ false → (s : Sent) → o ≡ Some s → begins_large s.aim ≡ false
 some_small o x one small s is = ap (λ (m : Sent). begins_large m.aim) (same_Some s x (sym is ∙ one)) ∙ small
 
--- Upon a record a record is sent, or nothing.
+-- On a record a record is sent, or nothing.
 led_small : (q : ReqSetup) (h : History) (f : Free) (came : Came) (ask : Ask) (led : Led) → RecordLeads q h f came ask led → (s : Sent) → led.next ≡ Some s → begins_large s.aim ≡ false
 led_small q h f came ask led (ByEnd ends none) = none_small led.next none
 led_small q h f came ask led (ByAnswer ends updates brings none) = none_small led.next none
@@ -164,7 +164,7 @@ bare_none [] is = refl
 bare_none (Told c s d ∷ h) is = absurd (false≢true is)
 bare_none (TookRecord tag id sealed inner led d ∷ h) is = refl
 
--- It stands upon a clear answer, and without it nothing is outstanding.
+-- It stands on a clear answer, and without it nothing is outstanding.
 pub owed_upon : (w : Configuration) (q : ReqSetup) (older : List (List ℕ)) (d : Dialogue) (s : Sent) → Walks w q older d → AskersAlike d.round d.requester d.requester d.sending d.sending → d.sending ≡ None
     → is_later d.round (outstanding d.requester) ≡ true → outstanding d.requester ≡ Some s → begins_large s.aim ≡ true
     → (is_upon_clear (with_next None d.requester) ≡ true) × (outstanding (with_next None d.requester) ≡ None)

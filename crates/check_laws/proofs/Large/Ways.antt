@@ -1,4 +1,4 @@
--- What alike requesters have in common while a large request is under way.
+-- What alike requesters have in common while a large request is in progress.
 use Rattle.std.proofs.Common.{◌≡◌, ◌+◌, ℕ, List, refl, sym, ap, ◌∙◌, subst, length, true, false, Option, Some}
 use Rattle.std.proofs.lemmas.Bool.{false≢true}
 use Rattle.std.proofs.lemmas.Option.{none-some, same_Some}

@@ -1,5 +1,5 @@
--- What the program keeps of a large request that is under way, and what it tells of a request meanwhile. This project's
--- own.
+-- What the program keeps of a large request that is in progress, and what it tells of a request meanwhile. This
+-- project's own.
 use Rattle.std.specs.Prelude.{◌≡◌, ◌↔◌, ◌+◌, ℕ, List, true, Option, Some, None, is_some}
 use Rattle.spdm_grammar.specs.Requests.{canonical_request}
 use Rattle.check_laws.specs.Keeping.{Kept}

@@ -11,7 +11,7 @@ use Rattle.check_laws.specs.declared.sending_large.pieces.Piece.{Piece}
 use Rattle.check_laws.specs.declared.sending_large.pieces.Piece.TheVariants as piece
 use Rattle.check_laws.specs.declared.sending_large.pieces.Pieces.{Pieces}
 
--- The length that a first chunk tells, by the lower two of its four bytes.
+-- The length announced by a first chunk, by the lower two of its four bytes.
 abbrev pub size_in : List ℕ → ℕ
 size_in body = slice_index body 13 + slice_index body 14 * 256
 
@@ -33,7 +33,7 @@ IsFirstOf k body (Some p) =
     × ((tag : ℕ) → IsPieces p (begun_sending k tag body whole))
 IsFirstOf k body None = (whole : List ℕ) → IsLargeRequest (common_of k.requester) whole → first_body k whole ≡ body → ⊥
 
--- Whether a body is the next chunk of it: then it is kept of what that leads to, under any tag and upon any
+-- Whether a body is the next chunk of it: then it is kept of what that leads to, under any tag and on any
 -- acknowledgement; or the bytes are all; or they stay as they are.
 abbrev pub IsNextOf : Sending → (body : List ℕ) → Piece → (old new : Pieces) → Type 0
 IsNextOf s body piece.Between old new =

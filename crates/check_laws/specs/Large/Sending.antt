@@ -42,7 +42,7 @@ is_upon_clear (TookClear tag m led d ∷ older) = true
 is_upon_clear _ = false
 
 -- From what is kept a large request may be begun so: some allowed values make the command send one that asks for this;
--- or such a one is owed upon a clear answer.
+-- or such a one is owed on a clear answer.
 abbrev pub MayBegin : Kept → Beginning → Type 0
 MayBegin k (ByCommand command asked) =
     (k.owed ≡ None)
@@ -75,9 +75,9 @@ abbrev pub number_in : List Ack → ℕ
 number_in [] = 0
 number_in (ack ∷ acks) = number_in acks + 1
 
--- What was kept before the first chunk; the told length; the bytes of the chunks so far; the acknowledgements upon
--- which a chunk was sent, the newest first; the one upon which the next chunk is owed; what the responder took; and the
--- last round.
+-- What was kept before the first chunk; the announced length; the bytes of the chunks so far; the acknowledgements in
+-- response to which a chunk was sent, the newest first; the one in response to which the next chunk is owed; what the
+-- responder took; and the last round.
 pub record Sending : Type 0 where
   pub before : Kept
   pub size : ℕ
@@ -111,7 +111,7 @@ chunk_body s whole number = clear_body (canonical_request (ChunkSend (nth_chunk 
 abbrev pub is_last : Sending → (number : ℕ) → Bool
 is_last s number = number + 1 == count_of (transfer_of s) s.size
 
--- Any bytes of the told length that begin so may stand for the request.
+-- Any bytes of the announced length that begin so may stand for the request.
 abbrev pub MayStand : Sending → (whole : List ℕ) → Type 0
 MayStand s whole = (length whole ≡ s.size) × (take (length s.bytes) whole ≡ s.bytes)
 
@@ -122,16 +122,16 @@ abbrev pub begun_with : Kept → Beginning → (whole : List ℕ) → History
 begun_with k (ByCommand command asked) whole = Told command (first_piece k.requester asked whole) no_draw ∷ k.requester
 begun_with k (ByItself asked) whole = with_next (Some (first_piece k.requester asked whole)) k.requester
 
--- An acknowledgement, upon which the chunk of this number is sent.
+-- An acknowledgement, in response to which the chunk of this number is sent.
 abbrev pub acked_by : RequestMessage → (whole : List ℕ) → (handle : ℕ) → Ack → (number : ℕ) → History → History
 acked_by asked whole handle ack number h = TookClear ack.tag ack.message (goes_on Nothing (piece_with h asked whole handle number)) no_draw ∷ h
 
--- The acknowledgements upon which a chunk was sent.
+-- The acknowledgements in response to which a chunk was sent.
 abbrev pub behind : RequestMessage → (whole : List ℕ) → (handle : ℕ) → List Ack → History → History
 behind asked whole handle [] h = h
 behind asked whole handle (ack ∷ acks) h = acked_by asked whole handle ack (number_in acks + 1) (behind asked whole handle acks h)
 
--- And the one upon which the next is owed.
+-- And the one in response to which the next is owed.
 abbrev pub behind_due : RequestMessage → (whole : List ℕ) → (handle : ℕ) → Option Ack → (number : ℕ) → History → History
 behind_due asked whole handle None number h = h
 behind_due asked whole handle (Some ack) number h = acked_by asked whole handle ack (number + 1) h
@@ -161,9 +161,9 @@ pub record SendsAs (k : Kept) (b : Beginning) (whole : List ℕ) (d e : Dialogue
   pub waits : outstanding d.requester ≡ outstanding e.requester
   pub begun : MayHaveBegun d.setup d.requester → MaySend k b whole
 
--- This is kept of the packets, the newest first: a large request is under way after them, of which not all chunks came;
--- they lead to it with any bytes of the told length that begin so, however it may be begun; and each walk over them
--- leads to it with such bytes.
+-- This is kept of the packets, the newest first: a large request is in progress after them, of which not all chunks
+-- came; they lead to it with any bytes of the announced length that begin so, however it may be begun; and each walk
+-- over them leads to it with such bytes.
 pub record IsSendingOf (w : Configuration) (q : ReqSetup) (older : List (List ℕ)) (s : Sending) : Type 0 where
   pub held : length s.bytes ≡ chunk_end (transfer_of s) (number_of s)
   pub more : number_of s + 1 < count_of (transfer_of s) s.size

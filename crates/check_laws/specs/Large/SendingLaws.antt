@@ -62,7 +62,7 @@ SendingBegins = (w : Configuration) (q : ReqSetup) (older : List (List ℕ)) (pa
     → parsed packet ≡ Ok p → is_request w.responder.eid q.eid p ≡ true
     → Keeps w q older k → BeginsSending k (gathered_from w.responder.eid q.eid older p) next → IsSendingOf w q (packet ∷ older) next
 
--- Where some walk goes on with a packet and a large request is under way after it, it begins one from what is kept.
+-- Where some walk goes on with a packet and a large request is in progress after it, it begins one from what is kept.
 abbrev pub BegunIsSending : Type 0
 BegunIsSending = (w : Configuration) (q : ReqSetup) (older : List (List ℕ)) (packet : List ℕ) (p : PacketFields) (k : Kept) (d : Dialogue) (whole : List ℕ)
     → parsed packet ≡ Ok p → is_request w.responder.eid q.eid p ≡ true
@@ -74,7 +74,7 @@ abbrev pub OwedMayBegin : Type 0
 OwedMayBegin = (w : Configuration) (q : ReqSetup) (older : List (List ℕ)) (k : Kept) (sent : Sent) (asked : RequestMessage)
     → Keeps w q older k → k.owed ≡ Some sent → begins_large sent.aim ≡ true → asked_in sent.aim ≡ Some asked → MayBegin k (ByItself asked)
 
--- After no packets both a large request is under way and none is.
+-- After no packets both a large request is in progress and none is.
 abbrev pub SendingIsAlone : Type 0
 SendingIsAlone = (w : Configuration) (q : ReqSetup) (older : List (List ℕ)) (s : Sending) (k : Kept) → IsSendingOf w q older s → Keeps w q older k → ⊥
 
@@ -99,13 +99,13 @@ NextSending s tag body next =
       round = new_round tag body;
     }))
 
--- What a packet from the requester makes of what is kept, where the large request stays under way.
+-- What a packet from the requester makes of what is kept, where the large request stays in progress.
 abbrev pub AsksSending : Sending → Gathered → Sending → Type 0
 AsksSending s (Whole route body) next = IsBody body × (route.owner ≡ true) × (CopiesSending s route.tag body next ⊎ NextSending s route.tag body next)
 AsksSending s More next = next ≡ s
 AsksSending s (Dropped cause) next = ⊥
 
--- After the last chunk, and after GET_VERSION, nothing large is under way.
+-- After the last chunk, and after GET_VERSION, nothing large is in progress.
 abbrev pub whole_kept : Sending → History → ℕ → List ℕ → Kept
 whole_kept s h tag body = record { setup = s.before.setup; requester = h; owed = None; responder = s.responder; round = Some (new_round tag body) }
 

@@ -1,5 +1,5 @@
--- What the chunks of a large request show: which bodies are cut from some bytes of the told length, and which of these
--- a command may send. This project's own.
+-- What the chunks of a large request show: which bodies are cut from some bytes of the announced length, and which of
+-- these a command may send. This project's own.
 use Rattle.std.specs.Prelude.{◌≡◌, ◌<◌, ◌≤◌, ◌+◌, ◌-◌, ◌==◌, ◌⊎◌, ◌↔◌, min, ℕ, List, ◌++◌, length, take, true, false, Some, None}
 use Rattle.chunking.specs.Cutting.{chunk_end}
 use Rattle.negotiate.specs.declared.shared.Common.{Common}
@@ -51,7 +51,7 @@ FirstIsShown = (k : Kept) (body bytes : List ℕ) (size : ℕ)
 
 -- ---- A chunk behind it.
 
--- How many bytes the next chunk holds: those up to where it ends, or up to the told length.
+-- How many bytes the next chunk holds: those up to where it ends, or up to the announced length.
 abbrev pub more_of : Sending → ℕ
 more_of s = min (chunk_end (transfer_of s) (number_of s + 1)) s.size - length s.bytes
 

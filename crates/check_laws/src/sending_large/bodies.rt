@@ -22,7 +22,7 @@ fn byte_at(body: &[u8], at: usize) -> u8
     }
 }
 
-// The length that a first chunk tells, of at most 65,535 bytes.
+// The length announced by a first chunk, of at most 65,535 bytes.
 pub(crate) fn told_size(body: &[u8]) -> usize
     ensures { result ≡ size_in body.now }
 {

@@ -1,4 +1,4 @@
-//! What goes on while a large request is sent in chunks, each law as the contract of a function that does nothing.
+//! What goes on while a large request is sent in chunks, each law stated as the contract of an empty function.
 
 ghost use Rattle.check_laws.specs.Large.SendingAnswers.{ChunksLeadPlainly, SendingAsksChunk};
 ghost use Rattle.check_laws.specs.Large.SendingLaws.{BegunIsSending, OwedMayBegin, SendingAsks, SendingBegins, SendingConnects, SendingEnds, SendingIsAlone, SendingIsAsked, SendingIsReplied, SendingReplies, SendingStays, SendingTellsApart, SendingTellsWhy};
@@ -9,7 +9,7 @@ pub fn sending_begins()
     ensures { SendingBegins }
 {}
 
-/// Where a large request is under way after a packet, the packet begins one.
+/// Where a large request is in progress after a packet, the packet begins one.
 pub fn begun_is_sending()
     ensures { BegunIsSending }
 {}
@@ -90,7 +90,7 @@ pub fn sending_connects()
     ensures { SendingConnects }
 {}
 
-/// After no packets both a large request is under way and none is.
+/// After no packets both a large request is in progress and none is.
 pub fn sending_is_alone()
     ensures { SendingIsAlone }
 {}

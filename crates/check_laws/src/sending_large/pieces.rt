@@ -12,8 +12,8 @@ pub enum Piece {
     Other,
 }
 
-/// A large request of which not all chunks came: its told length, and its bytes so far. Any bytes that begin so may
-/// stand for it.
+/// A large request of which not all chunks came: its announced length, and its bytes so far. Any bytes that begin so
+/// may stand for it.
 #[derive(Drop)]
 pub struct Pieces {
     pub(crate) transfer: usize,
