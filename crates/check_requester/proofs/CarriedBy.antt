@@ -1,4 +1,4 @@
--- What is kept while no large message is under way is so, too, where a large response may be fetched.
+-- What is kept while no large message is in progress is so, too, where a large response may be fetched.
 use Rattle.std.proofs.Common.{List, ℕ, None}
 use Rattle.requester_machine.specs.Setup.{ReqSetup}
 use Rattle.check_laws.proofs.KeptAnswers.{kept_is_restored}

@@ -1,4 +1,4 @@
--- What is sent upon an answer shows whether it asks for a chunk.
+-- What is sent on an answer shows whether it asks for a chunk.
 use Rattle.std.proofs.Common.{◌≡◌, ◌∙◌, ℕ, List, refl, sym, ap, Bool, Some, inl, inr, drop}
 use Rattle.requester_machine.proofs.ClearLeads.{ClearLeads, clear_leads}
 use Rattle.requester_machine.proofs.ClearLeads.ClearLeads.{ByRefusal, ByLarge, BySend, ByGet, ByStop, ByVersion, ByCaps, ByChoice, ByMeasured, ByExchange}

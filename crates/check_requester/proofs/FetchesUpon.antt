@@ -1,4 +1,4 @@
--- Whether the requester asks for a chunk upon an answer, as the program tells it.
+-- Whether the requester asks for a chunk on an answer, as the program tells it.
 use Rattle.std.proofs.Common.{◌≡◌, ◌∙◌, ◌<◌, ◌-◌, ◌^◌, ◌+◌, ◌==◌, ◌&&◌, ℕ, suc, List, ◌∷◌, refl, sym, ap, subst, length, Bool, true, false, Option, Some, None, is_some, arith}
 use Rattle.std.specs.Prelude.{slice_index}
 use Rattle.std.proofs.lemmas.Bool.{false≢true}
@@ -124,7 +124,7 @@ module _ (w : Configuration) (q : ReqSetup) (older : List (List ℕ)) (k : Kept)
     none_upon (Fails fault) told none = absurd (false≢true told)
     none_upon (Resends sent) told none = absurd (false≢true told)
 
-    -- Where it sends nothing upon it.
+    -- Where it sends nothing in response to it.
     pub silent_asks : (seen : Asking) (out : List ℕ) → IsHeardAs k.setup h tag answer false seen out → (awaits && is_some (outstanding (after h o))) ≡ asks_upon k tag answer
     unfolding heard_from
     silent_asks seen out heard = none_upon o heard.told (sym heard.sent)

@@ -221,7 +221,7 @@ after_long h (Warns code) = omega arith
 after_long h (Fails fault) = omega arith
 after_long h (Resends sent) = omega arith
 
--- No message was sent upon it, and then what stands for the history was changed to another that does.
+-- No message was sent in response to it, and then what stands for the history was changed to another that does.
 pub heard_still : (q : ReqSetup) (h : History) (tag : ℕ) (body out other : List ℕ) (sends : Bool) (new still : Asking) → IsHeardAs q h tag body sends new out → sends ≡ false → length h < 2 ^ 64 - 2
     → ((l : History) → length l < 2 ^ 64 - 1 → StandsFor new q l → StandsFor still q l) → IsHeardAs q h tag body sends still other
 heard_still q h tag body out other sends new still heard none few same = record {

@@ -95,7 +95,7 @@ small_own (TookRecord tag id sealed inner led d ∷ h) s waits small = tt
 
 -- ---- All walks.
 
--- Where no large request is under way.
+-- Where no large request is in progress.
 abbrev OwnIn : Dialogue → Type 0
 OwnIn d = d.sending ≡ None → Own d.requester
 

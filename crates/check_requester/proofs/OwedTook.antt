@@ -1,4 +1,5 @@
--- A message that a requester owes was sent upon a message that it took, and a history has no more entries than there are packets.
+-- A message that a requester owes was sent on a message that it took, and a history has no more entries than there are
+-- packets.
 use Rattle.std.proofs.Common.{◌≡◌, ◌≤◌, ◌<◌, ◌+◌, ◌-◌, ◌^◌, ◌⊎◌, ℕ, List, [], ◌∷◌, refl, sym, ap, ◌∙◌, subst, length, drop, Bool, true, false, Option, Some, None, Result, Ok, Err, cond, inl, inr, arith}
 use Rattle.std.specs.Prelude.{MatchBool}
 use Rattle.std.proofs.lemmas.Bool.{false≢true}
@@ -225,7 +226,7 @@ took_of d alike none newest sent has true is (Some s) waits =
     let took : TookFor (with_next None d.requester) s.aim = took_by d.round d.requester d.requester d.sending d.sending alike none is newest s waits in
     subst (λ (x : Sent). TookFor (without_owed d) x.aim) same (subst (λ (l : History). TookFor l s.aim) (sym (owed d is)) took)
 
--- The message that is owed was sent upon one that was taken.
+-- The message that is owed was sent on one that was taken.
 pub owed_took : (w : Configuration) (q : ReqSetup) (older : List (List ℕ)) (k : Kept) (sent : Sent) → Carries w q older k → k.owed ≡ Some sent → TookFor k.requester sent.aim
 owed_took w q older k sent carries is =
     let d : Dialogue = record (restored k) { fetching = carries.0 } in

@@ -39,7 +39,7 @@ pub record IsAsker (seen : Asker) (q : ReqSetup) (k : Kept) : Type 0 where
   pub stands : StandsFor seen.asking q (owing k.owed k.requester)
   pub owes : seen.owes ≡ is_some k.owed
 
--- Some walk over these packets, the newest first, leads to what this is kept of, and no large request is under way. A
+-- Some walk over these packets, the newest first, leads to what this is kept of, and no large request is in progress. A
 -- large response may be fetched, or none is.
 abbrev pub Carries : Configuration → ReqSetup → (older : List (List ℕ)) → Kept → Type 0
 Carries w q older k =

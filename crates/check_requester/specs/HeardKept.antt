@@ -26,19 +26,20 @@ heard_kept k behind tag round answer = kept_of (record (restored k) {
   round = Some (answered round);
 })
 
--- A requester with this history heard a body under a tag, and whether a message is sent upon it, which has this body.
+-- A requester with this history heard a body under a tag, and whether a message is sent in response to it, which has
+-- this body.
 pub record IsHeardAs (q : ReqSetup) (h : requester_history.History) (tag : ℕ) (body : List ℕ) (sends : Bool) (new : Asking) (out : List ℕ) : Type 0 where
   pub stands : StandsFor new q (after h (hears q h false tag body no_values no_draw))
   pub told : is_some (event_of (hears q h false tag body no_values no_draw)) ≡ true
   pub sent : sends ≡ is_some (sent_by (hears q h false tag body no_values no_draw))
   pub room : (sent : Sent) → sent_by (hears q h false tag body no_values no_draw) ≡ Some sent → out ≡ body_of sent.content
 
--- A message that is sent upon an answer shows whether it asks for a chunk: in the clear by its code, and in a session by
+-- A message that is sent on an answer shows whether it asks for a chunk: in the clear by its code, and in a session by
 -- the stage of that.
 abbrev pub ShowsChunk : Aim → (body : List ℕ) → Type 0
 ShowsChunk (InSession id ask) body = is_open (stage_for ask) ≡ asks_chunk ask
 ShowsChunk aim body = (slice_index body 2 == CHUNK_GET) ≡ is_for_chunk aim
 
--- Upon an answer the requester asks for a chunk.
+-- On an answer the requester asks for a chunk.
 abbrev pub asks_upon : Kept → ℕ → (answer : List ℕ) → Bool
 asks_upon k tag answer = is_fetching (outstanding (heard_from k tag answer))

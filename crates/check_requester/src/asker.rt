@@ -5,7 +5,7 @@ use psk_session::InnerPair;
 use spdm_basis::{OutOfMemory, Psk, RecordFrame};
 use std::alloc::Global;
 
-/// A requester of a capture, while no large message is under way: what it was told and took, and whether it owes a
+/// A requester of a capture, while no large message is in progress: what it was told and took, and whether it owes a
 /// message. It judges bodies by the requester's own code. Allocates only when constructed.
 #[derive(Drop)]
 pub struct Asker {

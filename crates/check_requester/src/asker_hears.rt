@@ -19,7 +19,7 @@ use requester_core::{Asking, Body};
 use spdm_grammar::Stage;
 use spdm_grammar::names::request_code::CHUNK_GET;
 
-/// What a requester does upon an answer that it hears.
+/// What a requester does on an answer that it hears.
 #[derive(Clone, Copy, Debug, PartialEq, Eq)]
 pub struct Heard {
     /// The ReqSessionID of the PSK_EXCHANGE whose answer it takes, if it takes one.
@@ -28,8 +28,8 @@ pub struct Heard {
     pub fetches: bool,
 }
 
-// Overwrites `room` with Hears a body that came under a tag, and tells whether a message is sent upon it, which has no
-// padding, and whose body is then.
+// Overwrites `room` with Hears a body that came under a tag, and tells whether a message is sent in response to it,
+// which has no padding, and whose body is then.
 fn hear(asking: &mut Asking, setup: &AskerSetup, room: &mut Body, tag: u8, body: &[u8]) -> bool
     ensures { (q : ReqSetup) (h : History) → IsKeptSetup setup.now q → length h < 2 ^ 64 - 1
         → StandsFor asking.old q h → IsHeardAs q h tag body.now result asking.new room.new }
@@ -49,7 +49,8 @@ fn awaited_anew(asking: &Asking, before: bool) -> Option<u16>
     asking.session_awaited()
 }
 
-// Whether what is outstanding asks for a chunk, where it was sent upon what came last, and `room` has its body.
+// Whether what is outstanding asks for a chunk, where it was sent in response to the last message, and `room` has its
+// body.
 fn asks_chunk(asking: &Asking, room: &Body) -> bool
     ensures { (q : ReqSetup) (bare : History) (sent : Sent) → TookFor bare sent.aim
         → ShowsChunk sent.aim (body_of sent.content) → room.now ≡ body_of sent.content
@@ -65,7 +66,7 @@ fn asks_chunk(asking: &Asking, room: &Body) -> bool
     }
 }
 
-// Whether a chunk is awaited still, which was awaited or not, where nothing was sent upon what came last.
+// Whether a chunk is awaited still, which was awaited or not, where nothing was sent in response to the last message.
 fn awaits_still(asking: &mut Asking, setup: &AskerSetup, room: &mut Body, awaited: bool) -> bool
     ensures waits { (q : ReqSetup) (h : History) → IsKeptSetup setup.now q
         → length h < 2 ^ 64 - 1 → StandsFor asking.old q h
@@ -99,9 +100,9 @@ impl Asker {
     ghost use Rattle.capture_machine.specs.Rounds.{Round};
     ghost use Rattle.world_machine.specs.Setup.{Configuration};
 
-    /// The requester hears an answer under the tag of the round under way, while it awaits a chunk of a large response
-    /// or not: what it does upon it is told. What it sends by itself then is owed. While it owes a message it hears
-    /// nothing: the request of the round has had its answer. Fewer than 2^64 - 2 packets came.
+    /// The requester hears an answer under the tag of the round in progress, while it awaits a chunk of a large
+    /// response or not: what it does in response to it is told. What it sends by itself then is owed. While it owes a
+    /// message it hears nothing: the request of the round has had its answer. Fewer than 2^64 - 2 packets came.
     pub fn hears(&mut self, tag: u8, answer: &[u8], awaits: bool) -> Heard
         ensures kept { (w : Configuration) (q : ReqSetup) (older : List (List ℕ)) (k : Kept)
             (behind : responder_history.History) (round : Round) → Carries w q older k

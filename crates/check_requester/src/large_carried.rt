@@ -17,7 +17,7 @@ const FIRST_BYTES: usize = 17;
 
 const NEXT_BYTES: usize = 13;
 
-// The length that a first chunk tells, of at most 65,535 bytes.
+// The length announced by a first chunk, of at most 65,535 bytes.
 fn told_size(body: &[u8]) -> usize
     ensures { result ≡ size_in body.now }
 {

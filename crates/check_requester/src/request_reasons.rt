@@ -59,7 +59,7 @@ pub(crate) fn opens_next(asking: &Asking, inner: &mut RecordFrame, sealed: &[u8]
     asking.open_next(sealed, inner)
 }
 
-// The same without the outstanding message, where that was sent by itself upon what came last.
+// The same without the outstanding message, where that was sent by itself in response to the last message.
 pub(crate) fn opens_before(asking: &Asking, inner: &mut RecordFrame, sealed: &[u8]) -> bool
     ensures { (q : ReqSetup) (bare : History) (sent : Sent) → TookFor bare sent.aim
         → length bare < 2 ^ 64 - 1 → StandsFor asking.now q (with_next (Some sent) bare)
@@ -125,8 +125,8 @@ fn finish_view(asking: &Asking) -> Option<SessionView>
     }
 }
 
-// Whether a record is apart from the PSK_FINISH that is outstanding in this record, where that was sent by itself upon
-// what came last. The inner messages of both are opened in place of what `own` and `inner` hold.
+// Whether a record is apart from the PSK_FINISH that is outstanding in this record, where that was sent by itself in
+// response to the last message. The inner messages of both are opened in place of what `own` and `inner` hold.
 pub(crate) fn is_finish_apart(
     asking: &Asking,
     record: &[u8],

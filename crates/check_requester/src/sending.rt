@@ -45,8 +45,8 @@ pub(crate) fn connects(
     room.as_slice() == body
 }
 
-// Whether Connect sends this body in place of the message that is outstanding, which was to go out by itself upon what
-// came last.
+// Whether Connect sends this body in place of the message that is outstanding, which was to go out by itself in
+// response to the last message.
 pub(crate) fn connects_instead(asking: &mut Asking, room: &mut Body, body: &[u8]) -> bool
     ensures { (q : ReqSetup) (bare : History) (sent : Sent) → IsSetUp q → TookFor bare sent.aim
         → StandsFor asking.old q (with_next (Some sent) bare)
