@@ -71,7 +71,7 @@ fn opens_next(connection: &Connection, named: &[u8], sealed: &[u8], room: &mut R
 }
 
 // The key of the answer to a record that comes next, had before that is handed in; its inner message then overwrites
-// `inner`. `None` where the record is not taken. Fewer than 2^64 - 1 messages came.
+// `inner`. `None` where the record is not taken. Requires fewer than 2^64 - 1 received messages.
 fn taken_key(connection: &Connection, request: &[u8], inner: &mut RecordFrame) -> Option<AnswerKey>
     ensures key { (r : RspSetup) (h : History) → connected.StandsFor connection.now r h
         → messages_of h < 2 ^ 64 - 1 → IsComingKey r h (record_body request.now) result }
@@ -89,7 +89,7 @@ fn taken_key(connection: &Connection, request: &[u8], inner: &mut RecordFrame) -
 }
 
 /// The key of the answer to a body that comes next, had before that is handed in: none where it is no record that is
-/// taken. Fewer than 2^64 - 1 messages came.
+/// taken. Requires fewer than 2^64 - 1 received messages.
 pub fn coming_key(
     connection: &Connection,
     body: &[u8],
@@ -104,7 +104,7 @@ pub fn coming_key(
     taken_key(connection, behind_type(body), room)
 }
 
-/// What is had of a record that comes next, before that is handed in. Fewer than 2^64 - 1 messages came.
+/// What is had of a record that comes next, before that is handed in. Requires fewer than 2^64 - 1 received messages.
 pub(crate) fn prepare_record(connection: &Connection, request: &[u8], coming: &mut Coming)
     ensures { (r : RspSetup) (h : History) → connected.StandsFor connection.now r h
         → messages_of h < 2 ^ 64 - 1 → IsComing coming.new r h (record_body request.now) }
@@ -237,7 +237,7 @@ impl AnswerKeys {
 
     /// Whether a record that is no right answer to a body, a clear one or another record, opens at least; this is had
     /// of the body. Where that is a record that is taken, and has the same session id, the key of its answer tells, and
-    /// is not asked. `room` is scratch space. Fewer than 2^64 - 1 messages came.
+    /// is not asked. `room` is scratch space. Requires fewer than 2^64 - 1 received messages.
     pub fn opens(
         &self,
         connection: &Connection,

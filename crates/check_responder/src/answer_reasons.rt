@@ -22,7 +22,7 @@ use spdm_grammar::Why;
 
 // Whether an answer that is in turn is in the clear, or a record that opens, as far as it is told before it is judged.
 // The body is the request that it answers, which was not handed in yet, and of which this is had. `room` is scratch
-// space. Fewer than 2^64 - 1 messages came.
+// space. Requires fewer than 2^64 - 1 received messages.
 fn opening_of(
     keys: &AnswerKeys,
     connection: &Connection,
@@ -71,7 +71,7 @@ impl Answerer {
     ghost use Rattle.capture_machine.specs.Difference.{reply_why};
     ghost use Rattle.capture_machine.specs.Rounds.{Dialogue, Round};
 
-    /// What is had of this body before its answer is judged. Fewer than 2^64 - 1 messages came.
+    /// What is had of this body before its answer is judged. Requires fewer than 2^64 - 1 received messages.
     pub fn prepare(&self, body: &[u8], coming: &mut Coming)
         ensures { (r : RspSetup) (h : History) → IsAnswerer self.now r h
             → messages_of h < 2 ^ 64 - 1 → IsComing coming.new r h body.now }
@@ -80,7 +80,8 @@ impl Answerer {
     }
 
     /// Why an answer to this body, of which this is had, is refused, but for wrong verify data, as far as it is told
-    /// before it is judged: a record is not opened with the key that is had. Fewer than 2^64 - 1 messages came.
+    /// before it is judged: a record is not opened with the key that is had. Requires fewer than 2^64 - 1 received
+    /// messages.
     pub fn opening_with(
         &mut self,
         keys: &AnswerKeys,
@@ -106,7 +107,7 @@ impl Answerer {
     }
 
     /// Why an answer to this body is refused, but for wrong verify data: had before it is judged, where nothing is had
-    /// of the body yet. Fewer than 2^64 - 1 messages came.
+    /// of the body yet. Requires fewer than 2^64 - 1 received messages.
     pub fn reply_why(&mut self, keys: &AnswerKeys, body: &[u8], answer: &[u8]) -> Why
         ensures told { (r : RspSetup) (d : Dialogue) (round : Round)
             → IsAnswerer self.old r d.responder → messages_of d.responder < 2 ^ 64 - 1
@@ -120,7 +121,7 @@ impl Answerer {
         why_so(told, &coming, answer, &mut self.record)
     }
 
-    /// The key of the answer to this body, had before it is judged. Fewer than 2^64 - 1 messages came.
+    /// The key of the answer to this body, had before it is judged. Requires fewer than 2^64 - 1 received messages.
     pub fn coming_key(&mut self, body: &[u8]) -> Option<AnswerKey>
         ensures key { (r : RspSetup) (h : History) → IsAnswerer self.old r h
             → messages_of h < 2 ^ 64 - 1 → IsComingKey r h body.now result }

@@ -146,7 +146,7 @@ impl Answerer {
     }
 
     /// Judges an answer to a clear message at these values. The whole answer to the message passes 4,096 bytes where
-    /// that to `asked` does. Fewer than 2^64 - 1 messages came.
+    /// that to `asked` does. Requires fewer than 2^64 - 1 received messages.
     pub fn answers_at(
         &mut self,
         setup: &Setup<'_>,

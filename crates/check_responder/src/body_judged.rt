@@ -44,7 +44,7 @@ impl Answerer {
     }
 
     /// Judges a body as the answer to another one of which this is had, by what it shows. `text` is scratch space.
-    /// Fewer than 2^64 - 1 messages came.
+    /// Requires fewer than 2^64 - 1 received messages.
     pub fn judges_with(
         &mut self,
         setup: &Setup<'_>,

@@ -30,7 +30,7 @@ fn is_held(view: Option<SessionView>) -> bool
     }
 }
 
-// Whether a session may get this id. Fewer than 2^64 messages came.
+// Whether a session may get this id. Requires fewer than 2^64 received messages.
 fn is_unused(connection: &Connection, id: u16) -> bool
     ensures { (r : RspSetup) (h : History) → StandsFor connection.now r h → messages_of h < 2 ^ 64
         → result ≡ is_unused h id }
@@ -54,7 +54,8 @@ fn are_few(reply: &[u8], pad: &[u8]) -> bool
     reply.len() <= MOST_DATA && pad.len() <= MAX_PADDING
 }
 
-/// Whether a responder may choose these values at a place where this hash was chosen. Fewer than 2^64 messages came.
+/// Whether a responder may choose these values at a place where this hash was chosen. Requires fewer than 2^64 received
+/// messages.
 pub(crate) fn are_allowed(connection: &Connection, hash: HashAlg, values: &FreeValues<'_>) -> bool
     ensures least { result ≡ true → 1 ≤ values.now.id }
     ensures most { result ≡ true → values.now.id ≤ 4 }

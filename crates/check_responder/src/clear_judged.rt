@@ -96,8 +96,8 @@ impl Answerer {
         }
     }
 
-    /// Judges an answer to a clear message by what it shows. Fewer than 2^64 - 1 messages came. After an answer that is
-    /// wrong nothing is kept.
+    /// Judges an answer to a clear message by what it shows. Requires fewer than 2^64 - 1 received messages. After an
+    /// answer that is wrong nothing is kept.
     pub fn answers_clear(
         &mut self,
         setup: &Setup<'_>,

@@ -12,8 +12,8 @@ impl Answerer {
     ghost use Rattle.check_responder.specs.Given.{IsGiven};
     ghost use Rattle.capture_machine.specs.Rounds.{Dialogue, Round};
 
-    /// Judges a body as the answer to another one, both in the clear, by what it shows. Fewer than 2^64 - 1 messages
-    /// came.
+    /// Judges a body as the answer to another one, both in the clear, by what it shows. Requires fewer than 2^64 - 1
+    /// received messages.
     pub fn judges_in_clear(
         &mut self,
         setup: &Setup<'_>,

@@ -83,8 +83,8 @@ pub(crate) fn is_repeated(connection: &Connection, request: &[u8]) -> bool
     ended || last
 }
 
-// Whether these values may be chosen for the answer to an inner message, in a session that has this hash.
-// Fewer than 2^64 messages came.
+// Whether these values may be chosen for the answer to an inner message, in a session that has this hash. Requires
+// fewer than 2^64 received messages.
 fn may_give(
     connection: &Connection,
     setup: &Setup<'_>,

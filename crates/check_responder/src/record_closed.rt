@@ -83,8 +83,8 @@ impl Answerer {
         is_refused(heard, self.record.as_slice(), reply)
     }
 
-    /// Whether a record is answered in the clear so, by what that shows. Fewer than 2^64 - 1 messages came. After an
-    /// answer that is refused nothing is kept.
+    /// Whether a record is answered in the clear so, by what that shows. Requires fewer than 2^64 - 1 received
+    /// messages. After an answer that is refused nothing is kept.
     pub fn answers_closed(&mut self, setup: &Setup<'_>, request: &[u8], reply: &[u8]) -> bool
         ensures told { (r : RspSetup) (h : History) (tag : ℕ) → IsSetUp setup.now r
             → IsAnswerer self.old r h → messages_of h < 2 ^ 64 - 1

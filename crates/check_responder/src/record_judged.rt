@@ -19,8 +19,8 @@ impl Answerer {
     ghost use Rattle.check_responder.specs.RecordAnswers.{IsGivenTo, history_behind};
 
     /// What this body brings as the answer to a record of which this is had, by what it shows; None where it is not
-    /// right. `text` is scratch space. Fewer than 2^64 - 1 messages came. After an answer that is not right nothing is
-    /// kept.
+    /// right. `text` is scratch space. Requires fewer than 2^64 - 1 received messages. After an answer that is not
+    /// right nothing is kept.
     pub(crate) fn answers_record_with(
         &mut self,
         setup: &Setup<'_>,

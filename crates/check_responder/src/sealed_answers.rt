@@ -124,7 +124,8 @@ impl Answerer {
     }
 
     /// What this record brings as the answer to one of which this is had, by what it shows; None where it is not right.
-    /// `text` is scratch space. Fewer than 2^64 - 1 messages came. After an answer that is not right nothing is kept.
+    /// `text` is scratch space. Requires fewer than 2^64 - 1 received messages. After an answer that is not right
+    /// nothing is kept.
     pub(crate) fn answers_sealed(
         &mut self,
         setup: &Setup<'_>,

@@ -50,7 +50,8 @@ impl Answerer {
         Some(record_id(sealed).rsp)
     }
 
-    /// The sessions with the RspSessionIDs from 1 to 4, where they are live. Fewer than 2^64 messages came.
+    /// The sessions with the RspSessionIDs from 1 to 4, where they are live. Requires fewer than 2^64 received
+    /// messages.
     pub fn views(&self) -> [Option<SessionView>; 4]
         ensures { (r : RspSetup) (h : History) → IsAnswerer self.now r h → messages_of h < 2 ^ 64
             → result ≡ views_in h }

@@ -86,8 +86,8 @@ impl Answerer {
     }
 
     /// Whether a clear message that is no repeat leads to this LargeResponse at the values that it and its whole answer
-    /// show. Which bytes are pending after it is not told. Fewer than 2^64 - 1 messages came. After a reply that is
-    /// wrong nothing is kept.
+    /// show. Which bytes are pending after it is not told. Requires fewer than 2^64 - 1 received messages. After a
+    /// reply that is wrong nothing is kept.
     pub fn leads_to_large(
         &mut self,
         setup: &Setup<'_>,
