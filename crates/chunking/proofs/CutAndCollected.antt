@@ -121,7 +121,7 @@ module _ (max transfer handle : ℕ) (message : List ℕ) (sound : IsCollectable
   not_first k = ne_eqb (suc k) 0 (λ e. omega (arith, e))
 
   module _ (earlier : List ChunkMessage) where
-    -- the chunks so far are those under way
+    -- the chunks so far are those in progress
     under : (k : ℕ) → suc k < count → under_way (before (suc k) ++ earlier) ≡ before (suc k)
     under zero within = ap (λ (b : Bool). if b then [] else nth 0 ∷ []) (more_to_come 0 within)
     under (suc k) within =

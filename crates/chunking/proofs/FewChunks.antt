@@ -49,7 +49,7 @@ later_adds d earlier c e =
     let parts = of_the_message (nat_eq c.handle d.handle) (nat_eq c.number (d.number + 1)) (size_rule told held c) e in
     (eqb-true c.number (d.number + 1) parts.0, adds told held c parts.1)
 
--- The newest of the chunks under way has a number that counts those before it, each of which has 26 bytes.
+-- The newest of the chunks in progress has a number that counts those before it, each of which has 26 bytes.
 abbrev Grows : List ChunkMessage → Type 0
 Grows [] = Unit {0}
 Grows (d ∷ earlier) = (26 * (d.number + 1) ≤ length (joined (d ∷ earlier))) × (told_size (d ∷ earlier) ≤ MAX_MESSAGE_SIZE) × (d.number + 1 ≡ length (d ∷ earlier))

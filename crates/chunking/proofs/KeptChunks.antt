@@ -67,7 +67,7 @@ pub max_kept : (k : Kept) (c : ChunkMessage) → (after_chunk k c).max ≡ k.max
 max_kept k c = either_max (nat_eq c.number 0) k c
 
 module _ (accepted : List ChunkMessage) (c : ChunkMessage) where
-  -- the chunks under way after an accepted chunk, by its last mark
+  -- the chunks in progress after an accepted chunk, by its last mark
   abbrev with_this : Bool → List ChunkMessage
   with_this last = if last then [] else (if nat_eq c.number 0 then c ∷ [] else c ∷ under_way accepted)
 

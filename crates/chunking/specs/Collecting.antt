@@ -9,8 +9,8 @@ use Rattle.spdm_grammar.specs.declared.ChunkFault.{ChunkFault}
 use Rattle.spdm_grammar.specs.declared.ChunkFault.TheVariants.{WrongHandle, WrongNumber, WrongSize, TooLarge, EarlyLast, MissingLast}
 use Rattle.spdm_grammar.specs.declared.names.TheConstants.{MAX_MESSAGE_SIZE}
 
--- The chunks of the message under way, of all accepted ones: none after one with the last mark; else those back to the
--- newest of number 0.
+-- The chunks of the message in progress, of all accepted ones: none after one with the last mark; else those back to
+-- the newest of number 0.
 abbrev pub under_way : (accepted : List ChunkMessage) → List ChunkMessage
 under_way [] = []
 under_way (c ∷ earlier) = if c.last then [] else (if c.number == 0 then c ∷ [] else c ∷ under_way earlier)
@@ -20,7 +20,7 @@ abbrev pub joined : List ChunkMessage → List ℕ
 joined [] = []
 joined (c ∷ earlier) = joined earlier ++ c.chunk
 
--- The length that a first chunk tells; none told is 0.
+-- The length announced by a first chunk; none told is 0.
 abbrev pub told_by : ChunkMessage → ℕ
 told_by c = unwrap_or c.large 0
 
@@ -35,13 +35,14 @@ abbrev pub first_fault : List (Bool × ChunkFault) → Option ChunkFault
 first_fault [] = None
 first_fault (test ∷ tests) = if test.0 then Some test.1 else first_fault tests
 
--- The chunk is empty, or passes the told length after the bytes held, or has fewer than 26 bytes without the last mark.
+-- The chunk is empty, or passes the announced length after the bytes held, or has fewer than 26 bytes without the last
+-- mark.
 abbrev pub has_wrong_size : (told held : ℕ) → ChunkMessage → Bool
 has_wrong_size told held c =
     (length c.chunk == 0) || nat_lt told (held + length c.chunk) || (not c.last && nat_lt (length c.chunk) 26)
 
--- The rule of sizes and marks that a chunk breaks, by the told length and the number of bytes held: its size is wrong;
--- it has the last mark before the told length is reached; the told length is reached without the mark.
+-- The rule of sizes and marks that a chunk breaks, by the announced length and the number of bytes held: its size is
+-- wrong; it has the last mark before the announced length is reached; the announced length is reached without the mark.
 abbrev pub size_rule : (told held : ℕ) → ChunkMessage → Option ChunkFault
 size_rule told held c = first_fault (
     (has_wrong_size told held c, WrongSize)
@@ -63,7 +64,7 @@ later_rule (d ∷ earlier) c =
     else (if not (c.number == d.number + 1) then Some WrongNumber
     else size_rule (told_size (d ∷ earlier)) (length (joined (d ∷ earlier))) c)
 
--- The rule that a chunk breaks, by the chunks of the message under way.
+-- The rule that a chunk breaks, by the chunks of the message in progress.
 abbrev pub broken_rule : (max : ℕ) → (before : List ChunkMessage) → ChunkMessage → Option ChunkFault
 broken_rule max before c = if c.number == 0 then first_rule max c else later_rule before c
 

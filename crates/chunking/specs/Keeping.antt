@@ -60,8 +60,8 @@ answer_to k c =
     if c.number == 0 then answer_from (first_rule k.max c) c c.chunk
     else answer_later k.unfinished k c
 
--- What is unfinished is what the newest chunk of the message under way leads to, with the bytes of its chunks; or no
--- message is under way.
+-- What is unfinished is what the newest chunk of the message in progress leads to, with the bytes of its chunks; or no
+-- message is in progress.
 abbrev pub StandsForMessage : Option Unfinished → (bytes : List ℕ) → (before : List ChunkMessage) → Type 0
 StandsForMessage None bytes before = before ≡ []
 StandsForMessage (Some u) bytes [] = ⊥

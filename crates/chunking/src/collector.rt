@@ -12,8 +12,8 @@ use spdm_grammar::names::MAX_MESSAGE_SIZE;
 use spdm_grammar::{ChunkFault, ChunkView};
 use std::marker::Model;
 
-/// Collects chunks into large messages (DSP0274, "CHUNK_SEND" and "CHUNK_RESPONSE"). It keeps at most one unfinished
-/// message. Contracts see what it keeps as a `Kept`.
+/// Reassembles large messages from chunks (DSP0274, "CHUNK_SEND" and "CHUNK_RESPONSE"). It holds at most one unfinished
+/// message. In contracts, a `Kept`.
 #[derive(Drop)]
 pub struct Collector {
     max: u32,
@@ -36,15 +36,15 @@ impl Model for Collector {
 /// The outcome of a chunk.
 #[derive(Clone, Copy, Debug, PartialEq, Eq)]
 pub enum Collected<'a> {
-    /// It completed this message, which lies in the collector.
+    /// It completed this message, which is stored in the collector.
     Whole(&'a [u8]),
-    /// The message is not whole yet.
+    /// The message is still incomplete.
     More,
     /// The chunk was refused, and nothing changed.
     Refused(ChunkFault),
 }
 
-// The outcome of a chunk; a whole message lies in the collector.
+// The outcome of a chunk; a whole message is stored in the collector.
 #[derive(Clone, Copy, Debug)]
 pub(crate) enum Step {
     Whole,
@@ -53,7 +53,7 @@ pub(crate) enum Step {
 }
 
 impl Collector {
-    /// A collector of messages of up to `max` bytes that was given no chunk.
+    /// A collector in its initial state, for messages of up to `max` bytes.
     pub fn new(max: u32) -> Collector
         ensures max { result.max ≡ max }
         ensures stands { StandsFor result [] }
@@ -65,13 +65,14 @@ impl Collector {
         }
     }
 
-    /// Takes a chunk. A refused one changes nothing.
+    /// Takes a chunk. On a refusal nothing changes.
     ///
     /// Checked in this order. Number 0 begins a new message, and drops what was unfinished where it is accepted;
-    /// `TooLarge`: the size that it tells is above `max` or 4,096. Any other number: `WrongNumber` where nothing is
+    /// `TooLarge`: the announced size is above `max` or 4,096. Any other number: `WrongNumber` where nothing is
     /// unfinished, `WrongHandle`, `WrongNumber` where it is not the next. Then `WrongSize`: the chunk is empty, or the
-    /// sum of the bytes passes the told size, or a chunk without the last mark has fewer than 26 bytes. `EarlyLast`:
-    /// the last mark with a sum below the told size. `MissingLast`: the told size is reached without the mark.
+    /// sum of the bytes passes the announced size, or a chunk without the last mark has fewer than 26 bytes.
+    /// `EarlyLast`: the last mark with a sum below the announced size. `MissingLast`: the announced size is reached
+    /// without the mark.
     pub fn take(&mut self, chunk: ChunkView<'_>) -> Collected<'_>
         ensures answer { (accepted : List ChunkMessage) → StandsFor self.old accepted
             → collection_of result ≡ collected self.old.max accepted (chunk_message chunk.entry) }
@@ -87,7 +88,7 @@ impl Collector {
         }
     }
 
-    /// The bytes so far of the message that is unfinished; none where none is.
+    /// The bytes received so far of the unfinished message; empty if there is none.
     pub fn under_way(&self) -> &[u8]
         ensures { (accepted : List ChunkMessage) → StandsFor self.now accepted
             → result.now ≡ joined (under_way accepted) }
@@ -98,7 +99,7 @@ impl Collector {
         }
     }
 
-    /// The length that the first chunk of the unfinished message told; 0 where none is unfinished.
+    /// The announced length of the unfinished message; 0 if there is none.
     pub fn told(&self) -> u32
         ensures value { (accepted : List ChunkMessage) → StandsFor self.now accepted
             → result ≡ told_size (under_way accepted) }
@@ -110,7 +111,7 @@ impl Collector {
         }
     }
 
-    /// Drops what is unfinished.
+    /// Drops the unfinished message.
     pub fn clear(&mut self)
         ensures max { self.new.max ≡ self.old.max }
         ensures stands { StandsFor self.new [] }

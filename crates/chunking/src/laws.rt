@@ -1,4 +1,4 @@
-//! Laws of the definitions: each is the contract of a function that does nothing. Call one where a proof needs it.
+//! Laws of the definitions, each stated as the contract of an empty function. Call one where a proof needs it.
 ghost use Rattle.std.specs.Prelude.{◌≡◌, ◌==◌, ◌≤◌, ◌<◌, ◌+◌, ◌-◌, ◌∷◌, ◌++◌, [], if◌then◌else◌, ℕ, List, None, length, map};
 ghost use Rattle.std.specs.List.{concat};
 ghost use Rattle.spdm_grammar.specs.Message.{ChunkMessage};

@@ -1,5 +1,5 @@
-//! Large messages as chunks (DSP0274, "CHUNK_SEND" and "CHUNK_GET"): cutting a message into chunks, and collecting
-//! chunks into messages again. No call allocates.
+//! Large messages as chunks (DSP0274, "CHUNK_SEND" and "CHUNK_GET"): splitting a message into chunks, and reassembling
+//! it. No call allocates.
 //!
 //! Read first: `chunks_of` in `specs/Cutting.antt`, the chunks of a message. Calls are `Splitter::current` and
 //! `Collector::take`.

@@ -12,19 +12,19 @@ use std::marker::Model;
 use thiserror::Error;
 use spdm_grammar::names::{CHUNK_FIELDS_LEN, LARGE_SIZE_LEN};
 
-/// Why a message is not cut into chunks, in the order of the tests.
+/// Why a message is not split, in the order of the checks.
 #[derive(Clone, Copy, Debug, PartialEq, Eq, Error)]
 pub enum SplitFault {
     /// The transfer size is below 42.
     #[error("a transfer size below 42")]
     TransferTooSmall,
-    /// One chunk would hold the message.
+    /// The message fits one chunk.
     #[error("a message that fits into one chunk")]
     Fits,
 }
 
-/// A large message, cut into chunks for a transfer size (DSP0274, "CHUNK_SEND request message format").
-/// Contracts see it as the list of the chunks that are left.
+/// A large message, split into chunks for a DataTransferSize (DSP0274, "CHUNK_SEND request message format"). In
+/// contracts, the list of the chunks that are left.
 #[derive(Drop)]
 pub struct Splitter {
     message: Frame,
@@ -92,7 +92,7 @@ impl Splitter {
         Some(chunk_at(message, self.transfer, self.handle, self.taken, self.count))
     }
 
-    /// Goes on to the next chunk. Where all were taken, it does nothing.
+    /// Moves on to the next chunk; does nothing at the end.
     pub fn advance(&mut self)
         ensures { self.new ≡ drop 1 self.old }
     {

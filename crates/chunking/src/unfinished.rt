@@ -36,7 +36,7 @@ impl Unfinished {
 // The fewest bytes of a chunk that is not the last.
 const MIN_CHUNK: usize = 26;
 
-// The length that a first chunk tells.
+// The length announced by a first chunk.
 pub(crate) fn told_by(chunk: ChunkView<'_>) -> u32
     ensures { result ≡ told_by (chunk_message chunk.entry) }
 {
@@ -76,7 +76,7 @@ fn broken_size_rule(chunk: ChunkView<'_>, held: usize, told: u32) -> Option<Chun
     None
 }
 
-// Whether a chunk is empty, or passes the told length, or has too few bytes without the last mark.
+// Whether a chunk is empty, or passes the announced length, or has too few bytes without the last mark.
 fn has_wrong_size(chunk: ChunkView<'_>, held: usize, told: u32) -> bool
     requires { held ≤ MAX_MESSAGE_SIZE }
     ensures value { result ≡ has_wrong_size told held (chunk_message chunk.entry) }
