@@ -8,7 +8,7 @@ use std::marker::Model;
 // How many bytes are asked for at least.
 const PIECE: usize = 4096;
 
-/// Bytes of a stream that were read ahead. Contracts see them as a list.
+/// Bytes of a stream that were read ahead. In contracts, a list.
 #[derive(Drop)]
 pub(crate) struct Ahead {
     bytes: Vec<u8>,
@@ -67,7 +67,7 @@ impl Ahead {
         self.at += count;
     }
 
-    // Reads the next piece, where no bytes are left. Says whether there were any.
+    // Reads the next piece, where no bytes are left. Returns whether there were any.
     pub(crate) fn refill<S: Source>(&mut self, source: &mut S) -> Result<bool, Failed>
         requires { self.old ≡ [] }
         ensures gives { IfOk result (λ _. Gives (S.remaining source.old) self.new

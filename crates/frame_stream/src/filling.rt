@@ -30,7 +30,7 @@ impl Stop {
     }
 }
 
-// Moves bytes that were read ahead to a frame, at most so many, and says how many.
+// Moves bytes that were read ahead to a frame, at most so many, and returns how many.
 fn move_front(ahead: &mut Ahead, frame: &mut FrameBytes, most: usize) -> usize
     requires some { 0 < length ahead.old }
     requires fit { length frame.old + most ≤ LONGEST }

@@ -7,7 +7,7 @@ use std::marker::Model;
 /// The longest frame: its kind, its length and 65,535 bytes.
 pub(crate) const LONGEST: usize = 65_538;
 
-/// The bytes of a frame, allocated at construction. Contracts see them as a list.
+/// The bytes of a frame, allocated at construction. In contracts, a list.
 #[derive(Drop)]
 pub(crate) struct FrameBytes {
     bytes: Vec<u8>,

@@ -1,6 +1,6 @@
 use thiserror::Error;
 
-/// Which frames a stream may have beside packets.
+/// The frame kinds that a stream may have besides packets.
 #[derive(Clone, Copy, Debug, PartialEq, Eq)]
 pub struct Kinds {
     /// Seconds that passed: kind 2.
@@ -9,7 +9,7 @@ pub struct Kinds {
     pub commands: bool,
 }
 
-/// What a frame is. The bytes of a packet or of a command lie in the reader.
+/// What a frame is. The bytes of a packet or of a command are stored in the reader.
 #[derive(Clone, Copy, Debug, PartialEq, Eq)]
 pub enum FrameKind {
     /// A packet: kind 1, a length of two bytes, little-endian, and so many bytes.
@@ -20,7 +20,7 @@ pub enum FrameKind {
     Command,
 }
 
-/// Why there is no further frame.
+/// Why no further frame was read.
 #[derive(Clone, Copy, Debug, PartialEq, Eq, Error)]
 pub enum FrameFault {
     /// Reading failed.

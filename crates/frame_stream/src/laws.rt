@@ -1,4 +1,4 @@
-//! A law of the definitions, as the contract of a function that does nothing. Call it where a proof needs it.
+//! A law of the definitions, stated as the contract of an empty function. Call it where a proof needs it.
 ghost use Rattle.std.specs.Prelude.{◌≡◌, ℕ, List};
 ghost use Rattle.frame_stream.specs.Frames.{Ending, GivenFrame, IsStream};
 ghost use Rattle.frame_stream.specs.declared.kinds.Kinds.{Kinds};

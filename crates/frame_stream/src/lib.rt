@@ -1,4 +1,4 @@
-//! Streams of frames after a text: what the commands share that read packets from a stream.
+//! Streams of frames that follow a text: shared by the commands that read packets from a stream.
 //!
 //! Read first: `IsFrame` in `specs/Frames.antt`, the bytes of a frame. The call is `FrameReader::next`.
 #![tactic(auto)]

@@ -34,14 +34,14 @@ impl FrameReader {
     ghost use Rattle.frame_stream.specs.Frames.GivenFrame.{TicksOf};
     ghost use Rattle.frame_stream.specs.Standing.{IsCause, IsCauseWithin, IsCounted, IsCountedKind, IsNew, IsNext, IsWhole, beginning_of, content_in, frame_as, size_in};
 
-    /// A reader of a stream of which these bytes were read already. It reads 2^40 bytes of the stream at most.
+    /// A reader of a stream of which the bytes `before` were read already. It reads at most 2^40 bytes of the stream.
     pub fn new(alloc: Global, kinds: Kinds, before: &[u8]) -> Result<FrameReader, OutOfMemory>
         ensures { IfOk result (IsNew kinds stream_limit before.now) }
     {
         FrameReader::with_limit(alloc, kinds, before, STREAM_LIMIT)
     }
 
-    /// The same, where it reads another number of bytes of the stream at most.
+    /// Same as `new`, with another limit on the bytes of the stream.
     pub fn with_limit(
         alloc: Global,
         kinds: Kinds,
@@ -60,7 +60,7 @@ impl FrameReader {
         })
     }
 
-    /// The byte of the stream at which the frame began that was read last, counted from 0.
+    /// The offset in the stream of the frame read last.
     pub fn frame_begins(&self) -> u64
         ensures { result ≡ beginning_of self.now }
     {
@@ -74,8 +74,8 @@ impl FrameReader {
         self.frame.content()
     }
 
-    /// Reads the next frame, of which the bytes of a packet or a command lie in the reader then. `None` where the
-    /// stream ends between two frames. Returns `BadFrame` exactly when the next frame has a kind that is not among
+    /// Reads the next frame, of which the bytes of a packet or a command are stored in the reader then. `None` where
+    /// the stream ends between two frames. Returns `BadFrame` exactly when the next frame has a kind that is not among
     /// those of the reader or is cut by the end of input, in the bytes that are read at most; and `TooLong` exactly
     /// when it is neither bad nor whole in these bytes, and the stream has one more. `ReadFault` is returned only if
     /// the source's `faults` count rose. After a fault no clause says what the reader stands for. Never allocates.

@@ -18,8 +18,8 @@ pub struct Text {
 }
 
 /// Reads the text of an input: its bytes up to and with the first line that is `end`, or all of them. It has at most
-/// `limit` bytes: returns `TooLong` exactly when there are more. After a fault the bytes read so far are gone from the
-/// source. `ReadFault` is returned only if the source's `faults` count rose.
+/// `limit` bytes: returns `TooLong` exactly when there are more. After a fault the bytes read so far are lost.
+/// `ReadFault` is returned only if the source's `faults` count rose.
 pub fn read_text<S: Source>(alloc: Global, source: &mut S, limit: usize) -> Result<Text, InFault>
     ensures text { IfOk result (λ read. IsTextOf (S.remaining source.old) read.text read.before
         (S.remaining source.new)) }
