@@ -83,8 +83,8 @@ IsSeen _ _ = ⊥
 
 -- ---- What a step comes to.
 
--- The ends did something: the lines of it, but for those of the packets that are sent upon it, were added to the text,
--- these packets are to be sent, and the ends are those of the world after it.
+-- The ends did something: the lines of it, but for those of the packets that are sent in response to it, were added to
+-- the text, these packets are to be sent, and the ends are those of the world after it.
 pub record IsGivenTo (w : World) (step : WorldStep) (old new : List ℕ) (sends : List (List ℕ)) (seen : Ends) : Type 0 where
   pub front : List Line
   pub plain : has_full front ≡ false

@@ -6,7 +6,7 @@ use std::marker::Model;
 #[derive(Drop)]
 pub(crate) struct EventText {
     pub(crate) text: Bytes,
-    // Scratch space for the current line, kept here so that no line clears a buffer of its own.
+    // Scratch space for the current line, kept here so that no line zeroes a buffer of its own.
     pub(crate) line: Line,
 }
 
