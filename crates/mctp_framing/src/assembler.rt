@@ -14,8 +14,8 @@ use spdm_basis::{DropCause, Eid, OutOfMemory};
 use std::alloc::Global;
 use std::marker::Model;
 
-/// Gathers packets from one peer into message bodies (DSP0236, "Message assembly"). It keeps at most one unfinished
-/// body. Contracts see what it keeps as an `Assembly`.
+/// Assembles packets from one peer into message bodies (DSP0236, "Message assembly"). It holds at most one unfinished
+/// body. In contracts, an `Assembly`.
 #[derive(Drop)]
 pub struct Assembler {
     own: Eid,
@@ -39,15 +39,15 @@ impl Model for Assembler {
 /// The outcome of a packet.
 #[derive(Clone, Copy, Debug, PartialEq, Eq)]
 pub enum Fed<'a> {
-    /// It completed the body of this route, whose bytes lie in the assembler.
+    /// It completed the body with this route; its bytes are stored in the assembler.
     Whole(Route, &'a [u8]),
-    /// The body is not whole yet.
+    /// The body is still incomplete.
     More,
     /// The packet was dropped.
     Dropped(DropCause),
 }
 
-// The outcome of a packet; a whole body lies in the assembler.
+// The outcome of a packet; a whole body is stored in the assembler.
 #[derive(Clone, Copy, Debug)]
 pub(crate) enum Step {
     Whole,
@@ -56,7 +56,7 @@ pub(crate) enum Step {
 }
 
 impl Assembler {
-    /// An assembler that was given no packet. It takes the memory for a body of `limit` bytes, and no more later.
+    /// An assembler in its initial state. Allocates a buffer for a body of `limit` bytes here, and nothing later.
     pub fn new(alloc: Global, own: Eid, peer: Eid, limit: usize) -> Result<Assembler, OutOfMemory>
         ensures receiver { IfOk result
             (λ a. a.receiver ≡ record { own = own.number; peer = peer.number; limit = limit }) }
@@ -70,7 +70,7 @@ impl Assembler {
         })
     }
 
-    /// Takes a packet, as `Packet::parse` gives it. Never allocates.
+    /// Takes a packet as parsed by `Packet::parse`. Never allocates.
     ///
     /// Checked in this order. `NotOurs`: the destination is not the own endpoint, or the source is not the peer;
     /// nothing changes. A packet with SOM drops what was unfinished; then `WrongSize` where its payload is empty,

@@ -5,7 +5,7 @@ use spdm_basis::OutOfMemory;
 use std::alloc::Global;
 use std::marker::Model;
 
-/// A body that is being gathered: up to `limit` bytes, allocated at construction.
+/// A body in assembly: up to `limit` bytes, allocated at construction.
 #[derive(Drop)]
 pub(crate) struct BodyBuffer {
     limit: usize,
@@ -24,7 +24,7 @@ impl Model for BodyBuffer {
 }
 
 impl BodyBuffer {
-    // An empty buffer, which takes all its memory.
+    // An empty buffer, with all its memory allocated.
     pub(crate) fn new(alloc: Global, limit: usize) -> Result<BodyBuffer, OutOfMemory>
         ensures { IfOk result (λ buffer. buffer ≡ record { limit = limit; bytes = [] }) }
     {

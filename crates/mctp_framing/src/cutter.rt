@@ -7,10 +7,10 @@ use crate::packet::HEADER_VERSION;
 use spdm_basis::Buffer;
 use std::marker::Model;
 
-/// A packet as bytes: up to 4 bytes of header and 1,024 of payload. Contracts see it as a list.
+/// A packet as bytes: up to 4 bytes of header and 1,024 of payload. In contracts, a list.
 pub type PacketBuf = Buffer<1028>;
 
-/// The packets of a message body, in order. Contracts see it as the list of those that are left.
+/// The packets of a message body, in order. In contracts, the list of those that are left.
 #[derive(Drop)]
 pub struct Cutter<'a> {
     body: &'a [u8],
@@ -33,7 +33,7 @@ impl<'a> Model for Cutter<'a> {
         × (c.count ≡ packet_count c.unit c.body.now) × (c.given ≤ c.count) };
 }
 
-/// Cuts a message body into packets of `unit` payload bytes, the last of which may be shorter (DSP0236, "Message
+/// Fragments a message body into packets of `unit` payload bytes, the last of which may be shorter (DSP0236, "Message
 /// assembly"). The body is not empty, and the unit is from 64 to 1,024.
 pub fn cut<'a>(body: &'a [u8], unit: usize, route: Route) -> Cutter<'a>
     requires filled { 0 < length body.now }

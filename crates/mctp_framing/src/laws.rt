@@ -1,4 +1,4 @@
-//! Laws of the definitions: each is the contract of a function that does nothing. Call one where a proof needs it.
+//! Laws of the definitions, each stated as the contract of an empty function. Call one where a proof needs it.
 ghost use Rattle.std.specs.Prelude.{◌≡◌, ◌≤◌, ◌<◌, ◌+◌, [], ◌∷◌, ◌++◌, true, ◌==◌, if◌then◌else◌, ℕ, List, Ok, All, length, map, drop, filter, slice_get, Some};
 ghost use Rattle.std.specs.List.{concat};
 ghost use Rattle.mctp_framing.specs.Packet.{PacketFields, fields_of, parsed, spelled_packet};

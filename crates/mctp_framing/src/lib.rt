@@ -1,5 +1,5 @@
-//! MCTP packets (DSP0236, "MCTP over transport bindings"): reading one, cutting a message body into packets, and
-//! gathering packets into bodies again.
+//! MCTP packets (DSP0236, "MCTP over transport bindings"): parsing, fragmentation of a message body into packets, and
+//! assembly of packets into bodies.
 //!
 //! Read first: `gathered` in `specs/Gathering.antt`, what a packet leads to, told from all packets before it. Calls are
 //! `cut` and `Assembler::take`.

@@ -3,12 +3,12 @@ ghost use Rattle.mctp_framing.specs.Packet.{parsed, view_of_result};
 
 use spdm_basis::PacketFault;
 
-/// The fields of a packet (DSP0236, "MCTP packet fields"). The payload lies where the packet lies.
+/// The fields of a packet (DSP0236, "MCTP packet fields"). The payload is borrowed from the packet.
 #[derive(Clone, Copy, Debug, PartialEq, Eq)]
 pub struct PacketView<'a> {
-    /// The destination endpoint.
+    /// Destination endpoint ID.
     pub to: u8,
-    /// The source endpoint.
+    /// Source endpoint ID.
     pub from: u8,
     /// Whether this is the first packet of its message body (SOM).
     pub start: bool,

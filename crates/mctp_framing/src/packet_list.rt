@@ -8,14 +8,14 @@ use spdm_basis::OutOfMemory;
 use std::alloc::Global;
 use std::marker::Model;
 
-/// How many packets a list has room for.
+/// The capacity of a list, in packets.
 const MAX_PACKETS: usize = 72;
 
-/// How many bytes they have together at most.
+/// The capacity of a list, in bytes.
 const MAX_BYTES: usize = 8192;
 
-/// The packets of at most one message, kept one after the other in memory allocated at construction. Contracts see the
-/// list of the packets as lists of bytes.
+/// The packets of at most one message, stored contiguously in memory allocated at construction. In contracts, a list of
+/// lists of bytes.
 #[derive(Drop)]
 pub struct PacketList {
     bytes: Vec<u8>,
@@ -44,7 +44,7 @@ impl Model for PacketList {
 }
 
 impl PacketList {
-    /// An empty list, which takes memory for 72 packets and 8,192 bytes.
+    /// An empty list. Allocates room for 72 packets and 8,192 bytes.
     pub fn new(alloc: Global) -> Result<PacketList, OutOfMemory>
         ensures { IfOk result (λ list. list ≡ []) }
     {
@@ -57,7 +57,7 @@ impl PacketList {
         Ok(PacketList { bytes, spans })
     }
 
-    /// How many packets there are.
+    /// The number of packets.
     pub fn len(&self) -> usize
         ensures { result ≡ length self.now }
     {
@@ -115,7 +115,7 @@ impl PacketList {
     }
 }
 
-// Adds bytes for which there is room, and says where they lie.
+// Adds bytes for which there is room, and returns where they are.
 fn append(bytes: &mut Vec<u8>, more: &[u8]) -> Span
     requires { length bytes.old.items + length more.now ≤ vec_capacity bytes.old }
     ensures items { bytes.new.items ≡ bytes.old.items ++ more.now }

@@ -2,13 +2,13 @@ ghost use Rattle.std.specs.Prelude.{◌<◌};
 
 use spdm_basis::Eid;
 
-/// What the packets of one message body share: where they go, where they come from, and their message tag with its
-/// owner bit (DSP0236, "Message terminus").
+/// The addressing that the packets of one message body share: destination, source, and message tag with its owner bit
+/// (DSP0236, "Message terminus").
 #[derive(Clone, Copy, Debug, PartialEq, Eq)]
 pub struct Route {
-    /// The destination endpoint.
+    /// Destination endpoint ID.
     pub to: Eid,
-    /// The source endpoint.
+    /// Source endpoint ID.
     pub from: Eid,
     /// The tag owner bit: set in a request, clear in its answer.
     pub owner: bool,
