@@ -10,10 +10,10 @@ use crate::tables::value_of;
 use spdm_grammar::names::{KEY_SCHEDULE_SPDM, MEASUREMENT_DMTF, aead, base_hash, table_type};
 use spdm_grammar::{AeadAlg, AlgOffer, AlgReply, Choice, HashAlg};
 
-/// The choice that a requester takes from a sound reply to its sound offer (DSP0274, "ALGORITHMS"). Returns `NoChoice`
-/// exactly when the hash, the AEAD or the key schedule of the reply is not exactly one known bit, or the measurement
-/// specification is neither 0 nor 1, or one of these four has a bit that was not offered. The other fields of the reply
-/// are not looked at.
+/// The choice that a requester accepts from a sound reply to its sound offer (DSP0274, "ALGORITHMS"). Returns
+/// `NoChoice` exactly when the hash, the AEAD or the key schedule of the reply is not exactly one known bit, or the
+/// measurement specification is neither 0 nor 1, or one of these four has a bit that was not offered. The other fields
+/// of the reply are ignored.
 pub fn agrees(offer: &AlgOffer<'_>, reply: &AlgReply<'_>) -> Result<Choice, NoChoice>
     ensures { result_ok result ≡ agreed (offer_message offer.now) (reply_message reply.now) }
 {

@@ -9,8 +9,8 @@ use spdm_grammar::names::capability::{
 use spdm_grammar::names::{MAX_MESSAGE_SIZE, MIN_DATA_TRANSFER_SIZE};
 use spdm_grammar::{Caps, CapsFault};
 
-/// What `requester` and `responder`, from GET_CAPABILITIES and CAPABILITIES, can do together, or why they do not go
-/// together (DSP0274, "CAPABILITIES"). `CapsFault` lists the reasons in the order of the checks.
+/// The common capabilities of `requester` and `responder`, from GET_CAPABILITIES and CAPABILITIES, or why they are
+/// incompatible (DSP0274, "CAPABILITIES"). `CapsFault` lists the reasons in the order of the checks.
 pub fn common(requester: &Caps, responder: &Caps) -> Result<Common, CapsFault>
     ensures { result ≡ common_of requester.now responder.now }
 {

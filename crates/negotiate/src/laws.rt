@@ -1,4 +1,4 @@
-//! What holds of choices, each law as the contract of a function that does nothing.
+//! What holds of choices, each law stated as the contract of an empty function.
 
 ghost use Rattle.std.specs.Prelude.{◌≡◌, Some};
 ghost use Rattle.spdm_grammar.specs.declared.messages.choice.Choice.{Choice};

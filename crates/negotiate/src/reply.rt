@@ -13,7 +13,7 @@ use spdm_grammar::names::{
 use spdm_grammar::{AeadAlg, AlgOffer, AlgReply, Choice, HashAlg};
 use std::marker::Model;
 
-/// The reply of a responder to an offer, with the algorithm structures that `AlgReply` lends. Contracts see it as the
+/// The reply of a responder to an offer, with the algorithm structures that `AlgReply` lends. In contracts, the
 /// message.
 #[derive(Clone, Debug, Drop)]
 pub struct Reply {

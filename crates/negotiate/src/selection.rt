@@ -9,12 +9,12 @@ use crate::tables::value_of;
 use spdm_grammar::names::{KEY_SCHEDULE_SPDM, MEASUREMENT_DMTF, aead, base_hash, table_type};
 use spdm_grammar::{AeadAlg, AlgOffer, Choice, HashAlg, Pick, Suites};
 
-/// What a responder goes by when it chooses.
+/// The responder's policy for its choice.
 #[derive(Clone, Copy, Debug, PartialEq, Eq)]
 pub struct AlgPolicy {
     /// Whether it announced measurements.
     pub measure: bool,
-    /// The algorithms that it has.
+    /// The algorithms that it supports.
     pub suites: Suites,
     /// Its own DataTransferSize.
     pub transfer: u32,

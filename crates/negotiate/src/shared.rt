@@ -3,7 +3,7 @@ ghost use Rattle.negotiate.specs.OwnSizes.{may_be_own};
 
 use spdm_grammar::names::{MAX_MESSAGE_SIZE, MIN_DATA_TRANSFER_SIZE};
 
-/// What two ends can do together.
+/// The common capabilities of two endpoints.
 #[derive(Clone, Copy, Debug, PartialEq, Eq)]
 pub struct Common {
     /// MEAS_CAP of the responder is 01 or 10: it has measurements.
@@ -20,18 +20,18 @@ pub struct Common {
     pub to_responder: Sizes,
 }
 
-/// How long the messages are that an end takes, in bytes: what it announces, and at most 4,096.
+/// The message sizes that an endpoint receives, in bytes: as announced, and at most 4,096.
 #[derive(Clone, Copy, Debug, PartialEq, Eq)]
 pub struct Sizes {
-    /// DataTransferSize: in one piece.
+    /// DataTransferSize: unchunked.
     pub transfer: u32,
     /// MaxSPDMmsgSize: in chunks.
     pub max: u32,
 }
 
 impl Sizes {
-    /// Whether an end may be set up with them: DataTransferSize is from 42 to 4,096, and MaxSPDMmsgSize from it to
-    /// 4,096; without CHUNK_CAP they are equal.
+    /// Whether they are valid for an endpoint: DataTransferSize from 42 to 4,096, and MaxSPDMmsgSize from it to 4,096;
+    /// without CHUNK_CAP they are equal.
     pub fn may_be_own(&self, chunk: bool) -> bool
         ensures { result ≡ may_be_own self.now chunk }
     {
