@@ -19,7 +19,7 @@ under_as : (most a b c d : ℕ) (before others : List ChunkMessage) → a ≡ b 
 under_as most a b c d before others e f g u =
     subst (λ (x : ℕ). AreUnderWay most x d others) e (subst (λ (x : ℕ). AreUnderWay most a x others) f (subst (λ (x : List ChunkMessage). AreUnderWay most a c x) g u))
 
--- Where a chunk is awaited, those before it are under way, and are what was gathered.
+-- Where a chunk is awaited, those before it are in progress, and are what was gathered.
 pub chunk_awaited : (most : ℕ) (w : Awaited) (collector : keeping.Kept) (before others : List ChunkMessage) (op handle number : ℕ) → awaited_by w before ≡ AskChunk op handle number others → IsBehind most w before
     → IsGathered most w collector before → IsChunk most collector handle number others
 chunk_awaited most (awaited.Chunk its_op its_handle its_number) collector before others op handle number is behind gathered =

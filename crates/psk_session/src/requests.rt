@@ -37,8 +37,8 @@ fn write_four(code: u8, first: u8, second: u8, out: &mut RecordFrame)
     let _ = out.extend(&[SPDM_MESSAGE, V1_2, code, first, second]);
 }
 
-// Overwrites `out` with the inner message of a request of at most six bytes. It stands apart, since it clears the place
-// of a whole message.
+// Overwrites `out` with the inner message of a request of at most six bytes. A function of its own, since it zeroes a
+// message-sized buffer.
 fn write_any(request: &Request<'_>, out: &mut RecordFrame)
     requires sound { IsSoundRequest 0 (request_message request.now) }
     requires short { length (canonical_request (request_message request.now)) ≤ 6 }
