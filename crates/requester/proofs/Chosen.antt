@@ -40,7 +40,7 @@ packets_are q sent tag body packets tags is few sends =
     sends (subst (λ (n : ℕ). n < 8) tags few) (subst (λ (b : List ℕ). 0 < length b) (sym is) (filled sent.content))
     ∙ ap (λ (n : ℕ). packets_to q.responder q.eid true n q.unit body) (sym tags) ∙ ap (λ (b : List ℕ). packets_to q.responder q.eid true sent.tag q.unit b) is
 
--- Upon a body.
+-- On a body.
 pub sent_upon : (q : ReqSetup) (o : Option Sent) (tag : ℕ) (body : List ℕ) (packets : List (List ℕ)) → IsSentAs o (Some tag) body → ((s : Sent) → o ≡ Some s → s.tag < 8) → (tag < 8 → 0 < length body → packets ≡ packets_to q.responder q.eid true tag q.unit body)
     → packets ≡ packets_of_sent q o
 sent_upon q None tag body packets is few sends = absurd is

@@ -96,7 +96,7 @@ tag_fits q (TookRecord tag id sealed inner led d ∷ older) sent made is =
     below sent.tag (sent_count older) (heard_tag q older tag (record_body sealed) (body_chosen q older d) d (TookRecord tag id sealed inner led d) sent
     (heard q older false tag (record_body sealed) (body_chosen q older d) d (TookRecord tag id sealed inner led d) made.0) is)
 
--- What is sent upon a body.
+-- What is sent on a body.
 pub heard_fits : (q : ReqSetup) (h : History) (o : Outcome) (told : Event) (sent : Sent) → event_of o ≡ Some told → IsMade q (after h o) → sent_by o ≡ Some sent → sent.tag < 8
 heard_fits q h (Fails fault) told sent event made is = absurd (none-some sent is)
 heard_fits q h (Ignores cause) told sent event made is = absurd (none-some sent is)

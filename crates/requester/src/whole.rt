@@ -20,7 +20,7 @@ pub struct Requester {
     pub(crate) draws: DrawStream,
     // The number of packets and commands so far.
     pub(crate) taken: u64,
-    // Scratch space for the body sent, kept here so that no call clears a buffer of its own.
+    // Scratch space for the body sent, kept here so that no call zeroes a buffer of its own.
     pub(crate) body: Body,
 }
 
