@@ -50,13 +50,13 @@ as_told q h outcome r its out x is a = subst (λ (y : Reaction). IsAnswered q h 
 pub ignored_answer : (q : ReqSetup) (h : History) (outcome : Outcome) (cause : ReqIgnored) (out : List ℕ) (x : Asking) → outcome ≡ Ignores cause → StandsFor x q h → IsAnswered q h outcome (joined.told (event.Ignored cause)) out x
 ignored_answer q h outcome cause out x is stands = subst (λ (o : Outcome). IsAnswered q h o (joined.told (event.Ignored cause)) out x) (sym is) (record { event = refl; sends = tt; stands = stands })
 
--- An entry upon which nothing is sent.
+-- An entry in response to which nothing is sent.
 pub rest_answer : (q : ReqSetup) (h : History) (outcome : Outcome) (entry : Entry) (told : Event) (out : List ℕ) (x : Asking) → outcome ≡ Adds entry → event_in entry ≡ Some told → sent_in entry ≡ None → StandsFor x q (entry ∷ h)
     → IsAnswered q h outcome (joined.told told) out x
 rest_answer q h outcome entry told out x is event none stands =
     subst (λ (o : Outcome). IsAnswered q h o (joined.told told) out x) (sym is) (record { event = event; sends = subst (λ (s : Option Sent). IsSentAs s None out) (sym none) tt; stands = stands })
 
--- An entry upon which this is sent.
+-- An entry in response to which this is sent.
 pub sent_answer : (q : ReqSetup) (h : History) (outcome : Outcome) (entry : Entry) (next : Sent) (tag : ℕ) (out : List ℕ) (x : Asking) → outcome ≡ Adds entry → event_in entry ≡ Some event.Progress → sent_in entry ≡ Some next → next.tag ≡ tag → out ≡ body_of next.content
     → StandsFor x q (entry ∷ h) → IsAnswered q h outcome (joined.sent tag) out x
 sent_answer q h outcome entry next tag out x is event sends tags body stands =
@@ -101,7 +101,7 @@ pub record IsFollowed (q : ReqSetup) (h : History) (owner : Bool) (tag : ℕ) (b
   pub sends : sent_in entry ≡ Some next
   pub aims : next.aim ≡ InSession id ask
 
--- PSK_FINISH, upon PSK_EXCHANGE_RSP with the right verify data.
+-- PSK_FINISH, on PSK_EXCHANGE_RSP with the right verify data.
 pub begun_follows : (q : ReqSetup) (h : History) (owner : Bool) (tag : ℕ) (body : List ℕ) (id : ℕ) (seen : talk.Seen) (answer : List ℕ) (f : Free) (d : Draw) (new : Sessions) (x : IsExchangeFor q h owner tag body id seen seen answer)
     → (told : IsBegunBy q h f tag d x.sent (drop 1 body) answer x.exchange (Ok tt) new) → IsFollowed q h owner tag body f d id (TookClear tag (drop 1 body) told.0 d)
 unfolding brings

@@ -87,7 +87,7 @@ told_begins h command x d seen large shows = record {
   large = ap (λ (b : Bool). if b then larges_of h + 1 else larges_of h) large;
 }
 
--- By itself, upon what came last.
+-- By itself, in response to the last message.
 pub owed_begins : (bare : History) (x : Sent) (seen : Seen) → TookAny bare → begins_large x.aim ≡ true → Shows seen bare → Begins seen (with_next (Some x) bare)
 owed_begins bare x seen took large shows =
     let w = without bare x took in

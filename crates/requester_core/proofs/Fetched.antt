@@ -61,7 +61,7 @@ own_rule max before c =
     ap (λ (b : Bool). if not b then Some WrongHandle else (if not (c.number == c.number) then Some WrongNumber else broken_rule max before c)) (eq-eqb c.handle c.handle refl)
     ∙ ap (λ (b : Bool). if not b then Some WrongNumber else broken_rule max before c) (eq-eqb c.number c.number refl)
 
--- What the collector answers, by the chunks under way.
+-- What the collector answers, by the chunks in progress.
 pub collected_here : (max most handle number : ℕ) (before : List ChunkMessage) (c : ChunkMessage) → max ≡ most → AreUnderWay most handle number before
     → chunks.collected max before c ≡ answer_from (broken_rule most before c) c (joined_with before c)
 collected_here max most handle number before c same under =
@@ -180,7 +180,7 @@ ack_sends_on h common request piece (Ok _) next e = absurd (cc e)
 
 -- ---- The outstanding message.
 
--- The chunks under way, where a chunk is awaited.
+-- The chunks in progress, where a chunk is awaited.
 pub under_here : (q : ReqSetup) (h : History) (sent : Sent) (request : RequestMessage) (handle number : ℕ) (before : List ChunkMessage) → Holds q h → outstanding h ≡ Some sent → sent.aim ≡ ForChunk request handle number before → AreUnderWay q.max handle number before
 under_here q h sent request handle number before holds waits aim = (subst (IsOutstanding q h sent.content) aim (subst (Waits q h) waits holds.waits)).3
 

@@ -1,4 +1,4 @@
--- A message in the clear that a requester sent by itself upon what it took last touches no session.
+-- A message in the clear that a requester sent by itself on what it took last touches no session.
 use Rattle.std.proofs.Common.{refl, ◌≡◌, ◌∙◌, ℕ, List, [], ◌∷◌, true, false, Option, Some, ap, sym}
 use Rattle.std.specs.Prelude.{◌==◌, if◌then◌else◌}
 use Rattle.std.proofs.lemmas.Bool.{false≢true}

@@ -1,4 +1,4 @@
--- A record of a requester, opened without the one that it sent by itself upon what it took last.
+-- A record of a requester, opened without the one that it sent by itself on what it took last.
 use Rattle.std.proofs.Common.{◌≡◌, ◌≢◌, ◌≤◌, ◌<◌, ◌-◌, ◌^◌, ◌∙◌, ℕ, List, Bool, false, true, Some, ap, length, sym, subst}
 use Rattle.std.specs.Prelude.{if◌then◌else◌, is_ok, Result}
 use Rattle.requester_core.proofs.OwedSessions.{IsLast, IsOwed, as_long, is_owed, others_as, sent_last, upon, upon_last}

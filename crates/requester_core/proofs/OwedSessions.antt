@@ -1,4 +1,4 @@
--- A record that a requester sent last, by itself upon what it took or by a command, in its sessions.
+-- A record that a requester sent last, by itself on what it took or by a command, in its sessions.
 use Rattle.std.proofs.Common.{refl, ◌≡◌, ◌≢◌, ◌∙◌, ℕ, List, [], ◌∷◌, Bool, true, false, Option, Some, None, ap, sym, subst, eq-eqb, length}
 use Rattle.std.proofs.lemmas.Bool.{false≢true}
 use Rattle.std.specs.Prelude.{◌==◌, if◌then◌else◌}

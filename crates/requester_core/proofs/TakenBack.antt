@@ -1,4 +1,4 @@
--- A requester without the message that it sent by itself upon what it took last.
+-- A requester without the message that it sent by itself on what it took last.
 use Rattle.std.proofs.Common.{refl, ◌≡◌, ◌∙◌, ℕ, [], ◌∷◌, Bool, true, false, Option, Some, None, ap, sym, subst, arith}
 use Rattle.std.specs.Prelude.{◌+◌, ◌%◌, if◌then◌else◌, is_some}
 use Rattle.requester_core.proofs.OwedClear.{any_of, clear_steps, in_session_of}

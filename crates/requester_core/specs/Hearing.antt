@@ -38,7 +38,7 @@ abbrev pub exchange_id : Asked → ℕ
 exchange_id (asks.Exchange id summary) = id
 exchange_id _ = 0
 
--- What is reported where nothing is sent upon a message to a request that asks this: one that rests upon PSK_EXCHANGE
+-- What is reported where nothing is sent on a message to a request that asks this: one that rests on PSK_EXCHANGE
 -- refuses it.
 abbrev pub rested : Asked → Event → seen_heard.Heard
 rested (asks.Exchange id summary) told = heard.Closes id told

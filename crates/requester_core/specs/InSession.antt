@@ -38,7 +38,7 @@ pub record SendsRecord (q : ReqSetup) (h : History) (sent : Sent) (tag : ℕ) (n
     pub stands : StandsFor new q h
     pub gathers : (gathered : keeping.Kept) → gathered.max ≡ q.max → Gathers q (Some sent) gathered
 
--- A record came with its tag owner bit and tag. It was taken as this entry, and nothing is sent upon it.
+-- A record came with its tag owner bit and tag. It was taken as this entry, and nothing is sent in response to it.
 pub record Settles (q : ReqSetup) (h : History) (owner : Bool) (tag : ℕ) (body : List ℕ)
     (f : Free) (d : Draw) (entry : Entry) : Type 0 where
   pub sealed : is_clear body ≡ false

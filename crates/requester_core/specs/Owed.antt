@@ -1,5 +1,5 @@
--- A record that a requester sent last, by itself upon what it took or by a command, as the checker it sees it: before
--- it came, and with the padding that it came with. This project's own.
+-- A record that a requester sent last, by itself on what it took or by a command, as the checker it sees it: before it
+-- came, and with the padding that it came with. This project's own.
 use Rattle.std.specs.Prelude.{◌≡◌, ◌≤◌, ℕ, List, [], ◌∷◌, Bool, true, false, Some, None, length}
 use Rattle.requester_core.specs.Joined.{StandsFor}
 use Rattle.requester_core.specs.Sessions as sessions
@@ -18,29 +18,29 @@ use Rattle.spdm_machine.specs.Keys.{Draw}
 -- ---- What is sent upon the newest entry.
 
 -- Its newest entry took a message, in the clear or as a record of the session with this ReqSessionID, and nothing is
--- sent upon it.
+-- sent in response to it.
 abbrev pub TookLast : History → (id : ℕ) → Type 0
 TookLast [] id = ⊥
 TookLast (Told command sent d ∷ older) id = ⊥
 TookLast (TookClear tag m led d ∷ older) id = led.next ≡ None
 TookLast (TookRecord tag of sealed inner led d ∷ older) id = (led.next ≡ None) × (of ≡ id)
 
--- Its newest entry took a message, and nothing is sent upon it.
+-- Its newest entry took a message, and nothing is sent in response to it.
 abbrev pub TookAny : History → Type 0
 TookAny [] = ⊥
 TookAny (Told command sent d ∷ older) = ⊥
 TookAny (TookClear tag m led d ∷ older) = led.next ≡ None
 TookAny (TookRecord tag of sealed inner led d ∷ older) = led.next ≡ None
 
--- It took a message upon which one may be sent for this: a record in the session of the record that was taken, or in
--- any where a message in the clear was.
+-- It took a message in response to which one may be sent for this: a record in the session of the record that was
+-- taken, or in any where a message in the clear was.
 abbrev pub TookFor : History → Aim → Type 0
 TookFor bare (InSession id ask) = TookLast bare id
 TookFor bare _ = TookAny bare
 
 -- ---- Its padding.
 
--- The message that is sent upon the newest entry, as the session with this ReqSessionID seals it with this padding.
+-- The message that is sent on the newest entry, as the session with this ReqSessionID seals it with this padding.
 abbrev pub owed_with : ReqSetup → History → (id : ℕ) → (pad : List ℕ) → Sent → Sent
 owed_with q bare id pad sent = sent_with q.psk (session_of id bare) pad sent
 
@@ -69,7 +69,7 @@ IsRepaddedIn q bare whole id sent sealed new true =
 IsRepaddedIn q bare whole id sent sealed new false =
     length sealed ≤ 4160 → (pad : List ℕ) → length pad ≤ 16 → IsOwedAs q bare id pad sent sealed → ⊥
 
--- A message that was sent by itself upon the newest entry.
+-- A message that was sent by itself on the newest entry.
 abbrev pub AreRepadded : ReqSetup → History → (id : ℕ) → Sent → (sealed : List ℕ)
     → (new : Sessions) → Bool → Type 0
 AreRepadded q bare id sent sealed new told =

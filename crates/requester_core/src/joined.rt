@@ -11,7 +11,7 @@ pub struct Asking {
     pub(crate) talk: Talk,
     pub(crate) gathered: Collector,
     pub(crate) sessions: Sessions,
-    // Scratch space for the clear message last sent or received, so that no call clears a buffer of its own.
+    // Scratch space for the clear message last sent or received, so that no call zeroes a buffer of its own.
     pub(crate) message: Frame,
 }
 

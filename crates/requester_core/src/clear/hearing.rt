@@ -23,7 +23,7 @@ impl Asked {
         }
     }
 
-    // What is reported where nothing is sent upon a message to a request that asks this.
+    // What is reported where nothing is sent on a message to a request that asks this.
     fn rested(self, told: Event) -> Heard
         ensures { result ≡ rested self told }
     {

@@ -39,7 +39,7 @@ impl Talk {
         None
     }
 
-    /// A record of the session with this ReqSessionID is sent, upon a command, PSK_EXCHANGE_RSP or a record that was
+    /// A record of the session with this ReqSessionID is sent, on a command, PSK_EXCHANGE_RSP or a record that was
     /// taken: its tag.
     pub fn send_record(&mut self, id: u16) -> u8
         ensures told { (q : ReqSetup) (h : History) (command : Command) (f : Free) (d : Draw)

@@ -8,7 +8,7 @@ impl Talk {
     ghost use Rattle.requester_machine.specs.Message.{Sent};
     ghost use Rattle.requester_machine.specs.Owed.{with_next};
 
-    // The outstanding message, which was to go out by itself upon what came last, was never sent.
+    // The outstanding message, which was to go out by itself in response to the last message, was never sent.
     pub(crate) fn take_back(&mut self)
         ensures { (bare : History) (sent : Sent) → TookAny bare
             → Shows self.old (with_next (Some sent) bare) → Shows self.new bare }

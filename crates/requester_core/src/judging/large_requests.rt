@@ -52,8 +52,8 @@ impl Talk {
         }
     }
 
-    // The outstanding message, which was to go out by itself upon what came last, was never sent; or nothing is
-    // outstanding.
+    // The outstanding message, which was to go out by itself in response to the last message, was never sent; or
+    // nothing is outstanding.
     fn take_back_owed(&mut self)
         ensures none { (h : History) → outstanding h ≡ None → Shows self.old h → Shows self.new h }
         ensures owed { (bare : History) (sent : Sent) → TookAny bare

@@ -72,8 +72,8 @@ impl Asking {
         self.sessions.open_next(sealed, out)
     }
 
-    /// The same without the outstanding message, where that was sent by itself upon what came last:
-    /// a record opens in its place where it names the session of that.
+    /// The same without the outstanding message, where that was sent by itself in response to the last message: a
+    /// record opens in its place where it names the session of that.
     pub fn open_before(&self, sealed: &[u8], out: &mut RecordFrame) -> bool
         ensures { (q : ReqSetup) (bare : History) (sent : Sent) → TookFor bare sent.aim
             → length bare < 2 ^ 64 - 1 → StandsFor self.now q (with_next (Some sent) bare)
@@ -86,8 +86,8 @@ impl Asking {
         }
     }
 
-    /// Whether a record names the session whose record is outstanding, where that was sent by itself upon what came
-    /// last, and opens in its place; its inner message then overwrites `out`.
+    /// Whether a record names the session whose record is outstanding, where that was sent by itself in response to the
+    /// last message, and opens in its place; its inner message then overwrites `out`.
     pub fn open_owed(&self, sealed: &[u8], out: &mut RecordFrame) -> bool
         ensures { (q : ReqSetup) (bare : History) (sent : Sent) (id : ℕ) (ask : message.Ask)
             → TookLast bare id → sent.aim ≡ InSession id ask → length bare < 2 ^ 64 - 1
@@ -97,8 +97,9 @@ impl Asking {
         self.sessions.open_owed(sealed, out)
     }
 
-    /// Takes bytes as the outstanding record, where that was sent by itself upon what came last or by a command:
-    /// whether they are that record with some padding of at most 16 bytes. Where they are not, nothing changes.
+    /// Takes bytes as the outstanding record, where that was sent by itself in response to the last message or by a
+    /// command: whether they are that record with some padding of at most 16 bytes. Where they are not, nothing
+    /// changes.
     pub fn take_padded(&mut self, sealed: &[u8], pair: &mut InnerPair) -> bool
         ensures repadded { (q : ReqSetup) (bare : History) (sent : Sent) (id : ℕ)
             (ask : message.Ask) → TookLast bare id → sent.aim ≡ InSession id ask

@@ -100,7 +100,7 @@ impl Sessions {
         }
     }
 
-    /// The same without the outstanding record, where that was sent by itself upon what came last.
+    /// The same without the outstanding record, where that was sent by itself in response to the last message.
     pub fn open_before(&self, sealed: &[u8], out: &mut RecordFrame) -> bool
         ensures { (q : ReqSetup) (bare : History) (sent : Sent) (id : ℕ) (ask : message.Ask)
             → TookLast bare id → sent.aim ≡ InSession id ask → length bare < 2 ^ 64 - 1
@@ -114,8 +114,8 @@ impl Sessions {
         }
     }
 
-    /// Whether a record names the session whose record is outstanding, where that was sent by itself upon what came
-    /// last, and opens in its place; its inner message then overwrites `out`.
+    /// Whether a record names the session whose record is outstanding, where that was sent by itself in response to the
+    /// last message, and opens in its place; its inner message then overwrites `out`.
     pub fn open_owed(&self, sealed: &[u8], out: &mut RecordFrame) -> bool
         ensures { (q : ReqSetup) (bare : History) (sent : Sent) (id : ℕ) (ask : message.Ask)
             → TookLast bare id → sent.aim ≡ InSession id ask → length bare < 2 ^ 64 - 1
@@ -143,8 +143,9 @@ impl Sessions {
         self.slots[usize::from(id) - 1].take_padded(sealed, pair)
     }
 
-    /// Takes bytes as the outstanding record, where that was sent by itself upon what came last or by a command:
-    /// whether they are that record with some padding of at most 16 bytes. Where they are not, nothing changes.
+    /// Takes bytes as the outstanding record, where that was sent by itself in response to the last message or by a
+    /// command: whether they are that record with some padding of at most 16 bytes. Where they are not, nothing
+    /// changes.
     pub fn take_padded(&mut self, sealed: &[u8], pair: &mut InnerPair) -> bool
         ensures repadded { (q : ReqSetup) (bare : History) (sent : Sent) (id : ℕ)
             (ask : message.Ask) → TookLast bare id → sent.aim ≡ InSession id ask
