@@ -1,4 +1,4 @@
-//! A requester on a stream of frames.
+//! A requester driven by a stream of frames.
 //!
 //! Read first: `IsDriven` in `specs/Driven.antt`, what is written for a stream of frames. The call is `drive`.
 #![tactic(auto)]

@@ -149,7 +149,8 @@ impl Driver {
         }
     }
 
-    // Reads the next frame and writes what it led to. Says whether there was one. There is room for the bytes of a line.
+    // Reads the next frame and writes what it led to. Returns whether there was one. There is room for the bytes of a
+    // line.
     pub(crate) fn drive_next<S: Source, K: Sink>(
         &mut self,
         config: &ScriptConfig,
