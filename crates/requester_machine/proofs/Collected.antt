@@ -1,4 +1,4 @@
--- The chunks of a large response that are under way, with one more.
+-- The chunks of a large response that are in progress, with one more.
 use Rattle.std.proofs.Common.{refl, ◌≡◌, ◌∙◌, ◌≤◌, ◌<◌, ◌+◌, ◌-◌, ◌*◌, ◌^◌, ℕ, List, [], ◌∷◌, true, false, Bool, Option, Some, None, ap, sym, subst, length, min, nat_lt, nat_eq, not, arith, eqb-true, length-append}
 use Rattle.std.specs.Prelude.{◌==◌, if◌then◌else◌}
 use Rattle.std.proofs.lemmas.Grind.{common_steps}
@@ -86,7 +86,7 @@ few (d ∷ earlier) g = (let u : length (joined (d ∷ earlier)) < told_size (d 
 held_by : (before : List ChunkMessage) (number : ℕ) → length before ≡ number → 26 * number ≤ length (joined before) → 26 * length before ≤ length (joined before)
 held_by before number is held = omega arith
 
--- The chunk that was asked for breaks no rule and is not the last: it is under way with those before it.
+-- The chunk that was asked for breaks no rule and is not the last: it is in progress with those before it.
 pub one_more : (max handle number : ℕ) (before : List ChunkMessage) (c : ChunkMessage) → get_fault max handle number before c ≡ None → c.last ≡ false → AreUnderWay max handle number before
     → AreUnderWay max c.handle (c.number + 1) (c ∷ before)
 one_more max handle number before c none more u =
@@ -139,7 +139,7 @@ means_refused c fault message None e = no_fault fault message c.last e
 
 -- ---- A chunk behind which more are awaited.
 
--- It is accepted, and is under way with those before it.
+-- It is accepted, and is in progress with those before it.
 pub record IsNext (most handle number : ℕ) (before : List ChunkMessage) (c : ChunkMessage) : Type 0 where
   pub counted : c.number ≡ number
   pub accepted : accepted_with most before c ≡ c ∷ before

@@ -30,7 +30,7 @@ chosen q h d pad = record { id = free_id h; context = context_of (connection_ter
 abbrev pub command_chosen : ReqSetup → History → Draw → Free
 command_chosen q h d = chosen q h d (take q.pad d.bytes)
 
--- What is sent upon a whole body has no padding.
+-- What is sent on a whole body has no padding.
 abbrev pub body_chosen : ReqSetup → History → Draw → Free
 body_chosen q h d = chosen q h d []
 

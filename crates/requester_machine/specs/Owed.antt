@@ -1,4 +1,4 @@
--- The message that is sent by itself upon the newest entry of a history. This project's own.
+-- The message that is sent by itself on the newest entry of a history. This project's own.
 use Rattle.std.specs.Prelude.{ℕ, List, [], ◌∷◌, Option}
 use Rattle.requester_machine.specs.History.{History}
 use Rattle.requester_machine.specs.History.Entry.{Told, TookClear, TookRecord}
@@ -7,7 +7,7 @@ use Rattle.requester_machine.specs.Message.Content.{Clear, Sealed}
 use Rattle.requester_machine.specs.Records.{sealed_next}
 use Rattle.requester_machine.specs.Session.{Steps}
 
--- The history with another message, or none, that was sent by itself upon its newest entry.
+-- The history with another message, or none, that was sent by itself on its newest entry.
 abbrev pub with_next : Option Sent → History → History
 with_next next [] = []
 with_next next (Told command sent d ∷ older) = Told command sent d ∷ older

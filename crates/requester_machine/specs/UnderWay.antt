@@ -1,4 +1,4 @@
--- What is under way at a requester: the negotiation of its sessions, what it waits for, and the chunks of a large
+-- What is in progress at a requester: the negotiation of its sessions, what it waits for, and the chunks of a large
 -- message. This project's own.
 use Rattle.std.specs.Prelude.{⊤, ◌≡◌, ◌≤◌, ◌<◌, ◌*◌, ℕ, List, [], ◌∷◌, length, Bool, true, false, Some, Ok}
 use Rattle.chunking.specs.Collecting.{under_way, joined, told_size, accepted_of}
@@ -83,7 +83,7 @@ AreUnfinished [] = ⊤
 AreUnfinished (c ∷ earlier) = length (joined (c ∷ earlier)) < told_size (c ∷ earlier)
 
 -- The chunks of a large response before the one of this number, the newest first: a collector that was given them
--- accepted all, all are under way, and the number is their count. No chunk of a number above 157 is asked for.
+-- accepted all, all are in progress, and the number is their count. No chunk of a number above 157 is asked for.
 pub record AreUnderWay (max handle number : ℕ) (before : List ChunkMessage) : Type 0 where
   pub accepted : accepted_of max before ≡ before
   pub whole : under_way before ≡ before
@@ -133,7 +133,7 @@ AreBehind q (AskChunk op handle number before) = AreUnderWay q.max handle number
 AreBehind q _ = ⊤
 
 -- A message as it is outstanding, by what it asks for: the canonical encoding of the request; the chunk of its number
--- of that encoding, where the sizes are within their limits; CHUNK_GET after the chunks under way; or the record that
+-- of that encoding, where the sizes are within their limits; CHUNK_GET after the chunks in progress; or the record that
 -- its session sealed.
 abbrev pub IsOutstanding : ReqSetup → History → Content → Aim → Type 0
 IsOutstanding q h content (Plain asked) = IsAwaited q h asked × (content ≡ Clear (canonical_request asked))

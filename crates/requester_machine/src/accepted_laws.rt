@@ -1,4 +1,4 @@
-//! Which checks a message passed that was taken, each law as the contract of a function that does nothing.
+//! Which checks a message passed that was taken, each law stated as the contract of an empty function.
 
 ghost use Rattle.requester_machine.specs.AcceptedLaws.{AcceptedIsVerified, AcceptedSessionIsVerified, TakenRecordIsOpened};
 

@@ -1,4 +1,4 @@
-//! What bounds the counts of a history, each law as the contract of a function that does nothing.
+//! What bounds the counts of a history, each law stated as the contract of an empty function.
 
 ghost use Rattle.requester_machine.specs.Bounds.{CountsAreBounded, SessionsAreBounded};
 

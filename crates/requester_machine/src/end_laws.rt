@@ -1,5 +1,4 @@
-//! What holds of a requester with all that it was told and given, each law as the contract of a function that does
-//! nothing.
+//! What holds of a requester with all that it was told and given, each law stated as the contract of an empty function.
 
 ghost use Rattle.requester_machine.specs.EndLaws.{RunsAreBounded};
 

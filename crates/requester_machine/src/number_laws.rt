@@ -1,4 +1,4 @@
-//! How many records the keys of a session seal and take, each law as the contract of a function that does nothing.
+//! How many records the keys of a session seal and take, each law stated as the contract of an empty function.
 
 ghost use Rattle.requester_machine.specs.SpentLaws.{NumbersAreFew, KeysAreFew, TakenNumberIsFew};
 

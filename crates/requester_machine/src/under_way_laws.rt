@@ -1,4 +1,4 @@
-//! What is under way in a history that the requester made, each law as the contract of a function that does nothing.
+//! What is in progress in a history that the requester made, each law stated as the contract of an empty function.
 
 ghost use Rattle.requester_machine.specs.UnderWay.{SizesAreSetUp, SessionSizesAreSetUp, LiveIsUnderNegotiation, ChunksAreUnderWay};
 
@@ -19,7 +19,7 @@ pub fn live_is_under_negotiation()
 {}
 
 /// What is outstanding: a request whole, one chunk of it, CHUNK_GET after the chunks that a collector accepted and that
-/// are under way, or the record that its session sealed last.
+/// are in progress, or the record that its session sealed last.
 pub fn chunks_are_under_way()
     ensures { ChunksAreUnderWay }
 {}
