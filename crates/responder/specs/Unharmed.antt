@@ -11,8 +11,8 @@ use Rattle.spdm_grammar.specs.declared.messages.error_code.ErrorCode.{ErrorCode}
 use Rattle.spdm_grammar.specs.declared.told.heard.Heard.{Heard}
 use Rattle.spdm_grammar.specs.declared.told.heard.Heard.TheVariants as heard
 
--- An outcome that is told as refused with this code: each session is what it was but for the numbers, the kept reply and
--- the clock of the one that a record names, and so is the rest of the connection.
+-- An outcome that is told as refused with this code: each session is what it was but for the numbers, the stored reply
+-- and the clock of the one that a record names, and so is the rest of the connection.
 pub record IsRefusedAt (h : History) (o : Outcome) (code : ℕ) : Type 0 where
   pub error : ErrorCode
   pub told : code ≡ error_number error
