@@ -85,7 +85,7 @@ repeated r h tag m f d seen out again stands written =
       stands = subst (λ (o : Outcome). StandsFor seen r (after h o)) (sym is) stands;
     }
 
--- A refused message is told, and keeps the kept reply.
+-- A refused message is told, and keeps the stored reply.
 pub refused_answered : (r : RspSetup) (h : History) (tag : ℕ) (m : List ℕ) (f : Free) (d : Draw) (e : ErrorCode) (new : Seen) (out : List ℕ) → is_repeat (kept_of h) tag m ≡ false
     → (turn_of r (clear_place h) m f).refused ≡ Some e → IsTurned r (clear_place h) m f new.requests out → new.kept ≡ kept_of h
     → IsAnswered r h tag m f d (heard.Refused (error_number e)) new out

@@ -35,8 +35,8 @@ IsClearHarmless r h tag m f d heard.Same out = after h (on_clear r h tag m f d) 
 IsClearHarmless r h tag m f d _ out = Unit {0}
 
 -- The request in a record is refused: its turn has the code that is told, its ERROR is sealed in the record that is
--- sent, each session is what it was but for the numbers, the kept reply and the clock of the one that it names, and so
--- is the rest of the connection.
+-- sent, each session is what it was but for the numbers, the stored reply and the clock of the one that it names, and
+-- so is the rest of the connection.
 pub record IsRefusedRecord (r : RspSetup) (h : History) (tag : ℕ) (m : List ℕ) (f : Free) (d : Draw) (code : ℕ) (out : List ℕ) : Type 0 where
   pub error : ErrorCode
   pub turn : Turn

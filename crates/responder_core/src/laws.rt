@@ -1,4 +1,4 @@
-//! What holds of the clear part, each law as the contract of a function that does nothing.
+//! What holds of the clear part, each law stated as the contract of an empty function.
 
 ghost use Rattle.std.specs.Prelude.{◌∷◌, ℕ, List};
 ghost use Rattle.responder_machine.specs.History.{History};

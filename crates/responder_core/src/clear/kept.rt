@@ -64,7 +64,7 @@ impl KeptReply {
         self.is_there && self.tag == tag && self.message.as_slice() == message
     }
 
-    /// The kept reply; empty where none is kept.
+    /// The stored reply; empty where none is kept.
     pub fn reply(&self) -> &[u8]
         ensures value { result.now ≡ responder.kept_reply self.now }
         ensures fits { length result.now ≤ MAX_MESSAGE_SIZE }

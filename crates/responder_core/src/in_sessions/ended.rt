@@ -61,7 +61,7 @@ impl EndedRecord {
         self.is_there && same_bytes(self.sealed.as_slice(), sealed)
     }
 
-    /// The kept reply; empty where none is kept.
+    /// The stored reply; empty where none is kept.
     pub fn reply(&self) -> &[u8]
         ensures value { result.now ≡ responder.kept_record self.now }
         ensures fits { length result.now ≤ 4160 }

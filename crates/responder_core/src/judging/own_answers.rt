@@ -142,7 +142,7 @@ impl Connection {
     }
 
     /// The key of the answer to this record, which depends on no free value; its inner message then overwrites `inner`.
-    /// `None` where the session that it names does not open it. Fewer than 2^64 - 1 messages came.
+    /// `None` where the session that it names does not open it. Requires fewer than 2^64 - 1 received messages.
     pub fn answer_key(&self, request: &[u8], inner: &mut RecordFrame) -> Option<AnswerKey>
         ensures { (r : RspSetup) (h : History) (f : Free) → messages_of h < 2 ^ 64 - 1
             → StandsFor self.now r h

@@ -57,7 +57,7 @@ impl Connection {
         self.clear.standing().common()
     }
 
-    /// The length that the large request under way in the clear tells; 0 where none is.
+    /// The length that the large request in progress in the clear tells; 0 where none is.
     pub fn told(&self) -> u32
         ensures value { (r : RspSetup) (h : History) → StandsFor self.now r h
             → result ≡ told_size (under_way (chunks_of (clear_turns h))) }
