@@ -33,9 +33,9 @@ refused = record { message = []; refused = Some InvalidRequest; chunk = None; ef
 abbrev after_turns : List Turn → Place
 after_turns turns = clear_with Negotiated turns negotiation
 
--- Where none is under way: the number is 0; at most 4,096 bytes are told; a chunk is not empty, does not pass the told
--- length, and has at least 26 bytes unless it is the last; the last mark stands exactly on the chunk that reaches the
--- told length.
+-- Where none is in progress: the number is 0; at most 4,096 bytes are told; a chunk is not empty, does not pass the
+-- announced length, and has at least 26 bytes unless it is the last; the last mark stands exactly on the chunk that
+-- reaches the announced length.
 first_chunks : IsTable setup (after_turns []) (
     (sending first, None)
     ∷ (sending second, Some InvalidRequest)
@@ -61,7 +61,7 @@ own_max_size : IsTable (record setup { max = 60 }) (after_turns []) (
 unfolding computed
 own_max_size = refl
 
--- Where one is under way: its handle; the next number; the sizes and marks as before. Number 0 starts over.
+-- Where one is in progress: its handle; the next number; the sizes and marks as before. Number 0 starts over.
 next_chunks : IsTable setup (after_turns (taken_chunk first ∷ [])) (
     (sending second, None)
     ∷ (sending (record second { handle = 8 }), Some InvalidRequest)
@@ -78,7 +78,7 @@ next_chunks : IsTable setup (after_turns (taken_chunk first ∷ [])) (
 unfolding computed
 next_chunks = refl
 
--- A taken message that is no chunk drops what is under way, and so does the last chunk; a refused one does not.
+-- A taken message that is no chunk drops what is in progress, and so does the last chunk; a refused one does not.
 behind_other_messages : IsTable setup (after_turns (took (GetMeasurements 0) [] None ∷ taken_chunk first ∷ [])) ((sending second, Some InvalidRequest) ∷ [])
 unfolding computed
 behind_other_messages = refl

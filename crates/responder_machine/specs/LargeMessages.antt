@@ -48,8 +48,8 @@ abbrev pub chunks_with : Option ChunkMessage → List ChunkMessage → List Chun
 chunks_with None before = []
 chunks_with (Some c) before = c ∷ before
 
--- The chunks that were taken, the newest first, since the last taken message that was none. What of them is under way,
--- and what a further one leads to, is said where chunks are collected.
+-- The chunks that were taken, the newest first, since the last taken message that was none. What of them is in
+-- progress, and what a further one leads to, is said where chunks are collected.
 abbrev pub chunks_of : List Turn → List ChunkMessage
 chunks_of [] = []
 chunks_of (t ∷ older) = if is_taken t then chunks_with t.chunk (chunks_of older) else chunks_of older

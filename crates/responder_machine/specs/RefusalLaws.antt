@@ -26,7 +26,7 @@ RefusedRecordKeepsConnection = (r : RspSetup) (h : History) (tag : ℕ) (m : Lis
     → on_record r h tag m f d ≡ Adds (Sealed tag m t reply d) → t.refused ≡ Some e → IsSameConnection h (Sealed tag m t reply d ∷ h)
 
 -- Phase, negotiation, ended session, queue, draws, application data taken, and the count and the last of the handles
--- given are as they were. The kept reply, the pending large response and the chunks may have changed.
+-- given are as they were. The stored reply, the pending large response and the chunks may have changed.
 pub record IsSameBesideChunks (old new : History) : Type 0 where
   pub phase : phase_of (clear_turns new) ≡ phase_of (clear_turns old)
   pub negotiation : negotiation_of (clear_turns new) ≡ negotiation_of (clear_turns old)
@@ -46,7 +46,7 @@ RefusedInChunksKeepsConnection = (r : RspSetup) (h : History) (tag : ℕ) (m : L
     → IsSameBesideChunks h (after h (on_clear r h tag m f d))
 
 -- What a last chunk changes that is taken and carries a refused request: with its acknowledgement, in which the ERROR
--- stands, it is the kept clear request; no large response is pending; and no chunk is under way.
+-- stands, it is the kept clear request; no large response is pending; and no chunk is in progress.
 pub record IsKeptChunk (r : RspSetup) (old : History) (tag : ℕ) (m : List ℕ) (f : Free) (c : ChunkMessage) (e : ErrorCode) (new : History) : Type 0 where
   pub kept : kept_of new ≡ Some (record { tag = tag; message = m; reply = acknowledged c (error_bytes r (inside (clear_place old)) (completed_at (clear_place old) c) f e) })
   pub pending : (transfer : ℕ) → pending_of transfer (clear_turns new) ≡ None

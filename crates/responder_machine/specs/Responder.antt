@@ -42,7 +42,7 @@ abbrev pub kept_reply : Option Kept → List ℕ
 kept_reply None = []
 kept_reply (Some kept) = kept.reply
 
--- A repeat gets the kept reply and changes nothing. Any other clear message is an entry, a refused one too.
+-- A repeat gets the stored reply and changes nothing. Any other clear message is an entry, a refused one too.
 unfoldable pub on_clear : RspSetup → History → ℕ → List ℕ → Free → Draw → Outcome
 on_clear r h tag m f d =
     if is_repeat (kept_of h) tag m then Same (clear_body (kept_reply (kept_of h)))

@@ -7,7 +7,7 @@ use Rattle.responder_machine.specs.Session.{Events, is_live, stage_of, id_bytes,
 
 -- Liveness, stage, id, heartbeat period, transcripts, the purposes of records in both directions, epochs, negotiation,
 -- choice and common capabilities, application data taken, the pending large response, the count of large responses and
--- the chunks taken are as they were. The counts of records, the kept reply and the clock may have moved.
+-- the chunks taken are as they were. The counts of records, the stored reply and the clock may have moved.
 pub record IsSameSession (old new : Events) : Type 0 where
   pub live : is_live new ≡ is_live old
   pub stage : stage_of new ≡ stage_of old

@@ -1,4 +1,4 @@
-//! What holds of a responder with all its connections, each law as the contract of a function that does nothing.
+//! What holds of a responder with all its connections, each law stated as the contract of an empty function.
 
 ghost use Rattle.responder_machine.specs.EndLaws.{OthersStand, OwnDecide};
 ghost use Rattle.responder_machine.specs.Independence.{ConnectionsAreIndependent, GivenStandsAlike, RunsAreBounded};

@@ -1,5 +1,4 @@
-//! What holds of the responder's definitions at every history, each law as the contract of a function that does
-//! nothing.
+//! What holds of the responder's definitions at every history, each law stated as the contract of an empty function.
 
 ghost use Rattle.responder_machine.specs.Laws.{ChosenIsAllowed, DoesWhatItMay, FinishIsVerified, FourAreHeldAtMost, FreeIdIsFree, HeldAreFew, LiveIsUnderNegotiation, LiveIdIsFromOneToFour, NewSessionIsFresh, OneIsInHandshake, RecordKeepsOthers, RefusedClearKeepsConnection, RefusedClearKeepsSessions, RefusedInChunksKeepsSessions, RefusedRecordKeepsSessions, RepeatAddsNothing, RepeatedRecordAddsNothing, RequestHasItsCode, TakenExchangeIsFresh, TakenIsRepeated, TakenRecordIsOpened, TakenRecordIsRepeated, UnopenedAddsNothing};
 ghost use Rattle.responder_machine.specs.NumberLaws.{FinishBeginsAtZero, MadeIsStaged, NextNumbersAreCounts, NumbersAreFew, ReplyNumberIsCount, UpdateAllIsAnsweredAtZero, UpdateBeginsAtZero};
@@ -26,8 +25,8 @@ pub fn refused_in_chunks_keeps_sessions()
     ensures { RefusedInChunksKeepsSessions }
 {}
 
-/// A refused request in a record changes no session but for the counts of records, the kept reply and the clock of its
-/// carrier.
+/// A refused request in a record changes no session but for the counts of records, the stored reply and the clock of
+/// its carrier.
 pub fn refused_record_keeps_sessions()
     ensures { RefusedRecordKeepsSessions }
 {}
@@ -137,8 +136,8 @@ pub fn update_all_is_answered_at_zero()
     ensures { UpdateAllIsAnsweredAtZero }
 {}
 
-/// A clear request that is refused changes nothing that is counted for the connection: phase,
-/// negotiation, kept replies, queue, draws, and the large messages under way.
+/// A clear request that is refused changes nothing that is counted for the connection: phase, negotiation, stored
+/// replies, queue, draws, and the large messages in progress.
 pub fn refused_clear_keeps_connection()
     ensures { RefusedClearKeepsConnection }
 {}
