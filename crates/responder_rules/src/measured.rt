@@ -12,7 +12,7 @@ use spdm_grammar::names::MEASUREMENTS_FIELDS_LEN;
 use spdm_grammar::{Measured, Response};
 
 /// Overwrites `out` with the MEASUREMENTS that answer an operation, with this nonce of 32 bytes and these opaque data
-/// of at most 1,024, and tells their length. Where that is above 4,096 they are not whole in `out`.
+/// of at most 1,024, and returns their length. Where that is above 4,096 they are not whole in `out`.
 pub fn write_measurements(
     inventory: &Inventory,
     op: u8,
