@@ -95,7 +95,7 @@ impl Server {
         }
     }
 
-    // Reads the next frame and writes its answer. Says whether there was one.
+    // Reads the next frame and writes its answer. Returns whether there was one.
     pub(crate) fn answer_next<S: Source, K: Sink>(
         &mut self,
         source: &mut S,

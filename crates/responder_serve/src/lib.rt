@@ -1,4 +1,4 @@
-//! A responder on a stream of frames.
+//! A responder that serves a stream of frames.
 //!
 //! Read first: `IsServed` in `specs/Served.antt`, what is written for a stream of frames. The call is `serve`.
 #![tactic(auto)]
