@@ -3,13 +3,13 @@ ghost use Rattle.responder_session.specs.Laws.{ToldIsRecord, TookIsRecord};
 ghost use Rattle.responder_session.specs.Staged.{BehindHasReply};
 
 /// What a session that is stepped in place tells of a record is what the responder does with it in every history whose
-/// live session it stands for: it adds the same entry, told alike, sends the kept reply again, or does not open it.
+/// live session it stands for: it adds the same entry, told alike, sends the stored reply again, or does not open it.
 pub fn told_is_record()
     ensures { ToldIsRecord }
 {}
 
 /// What a state answers to a record is what the responder does with it in every history whose live session it stands
-/// for: it adds the same entry, told alike, sends the kept reply again, or does not open it.
+/// for: it adds the same entry, told alike, sends the stored reply again, or does not open it.
 pub fn took_is_record()
     ensures { TookIsRecord }
 {}
