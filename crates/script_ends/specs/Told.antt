@@ -1,5 +1,5 @@
 -- What is reported of a packet that is given to a requester: whether it brought application data, and its lines, but
--- for those of the packets that are sent upon it. This project's own.
+-- for those of the packets that are sent in response to it. This project's own.
 use Rattle.std.specs.Prelude.{ℕ, List, [], ◌∷◌, Bool, true, false}
 use Rattle.spdm_grammar.specs.Lines.{Line, Whose}
 use Rattle.spdm_grammar.specs.Lines.Line.{Data, Record, ToRequester}
