@@ -113,8 +113,8 @@ TableRefusesRecord = (r : RspSetup) (h : History) (tag : ℕ) (sealed : List ℕ
 -- ---- At every event of every script.
 
 -- Of each packet that an event of the script that a text is gives to the responder: a request that is refused gets its
--- ERROR and changes no session, apart from the counts of records, the kept reply and the clock of the one whose record
--- carried it; and so it does no other connection.
+-- ERROR and changes no session, apart from the counts of records, the stored reply and the clock of the one whose
+-- record carried it; and so it does no other connection.
 pub record IsRefusedHarmlessly (r : Responding) (packet : List ℕ) : Type 0 where
   pub error : GetsErrorBy r packet (responder_hears r packet).heard
   pub harmless : IsHarmless r packet (responder_hears r packet).heard

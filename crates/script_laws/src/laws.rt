@@ -1,4 +1,4 @@
-//! What holds of every script that a text is, each law as the contract of a function that does nothing.
+//! What holds of every script that a text is, each law stated as the contract of an empty function.
 
 ghost use Rattle.script_laws.specs.Ends.{ConfiguredEndsHaveNoFault, ReadEndsHaveNoFault};
 ghost use Rattle.script_laws.specs.Laws.{ReadScriptIsSound};
@@ -57,7 +57,7 @@ pub fn script_seals_once()
 {}
 
 /// At each packet that an event of a script gives to the responder, a request that is refused gets its ERROR and
-/// changes no session, apart from the counts of records, the kept reply and the clock of the one whose record carried
+/// changes no session, apart from the counts of records, the stored reply and the clock of the one whose record carried
 /// it.
 pub fn script_refuses()
     ensures { (text : List ℕ) → RefusesIn text }
