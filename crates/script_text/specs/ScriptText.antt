@@ -118,7 +118,7 @@ capture_in text = read_lines capture_fault after_capture whole_capture 1 (record
 abbrev pub is_cycle : List ℕ → Bool
 is_cycle word = bytes_eq word (codes "cycle")
 
--- The life that is under way.
+-- The life that is in progress.
 abbrev pub present_life : LivesReader → Life
 present_life reader = record { cycle_line = reader.cycle_line; events = reader.events }
 

@@ -57,8 +57,7 @@ pub const BLOCK_HEADER: usize = 7;
 /// The greatest size of a measurement record that a script's blocks may take.
 pub const RECORD_LIMIT: usize = 4_054;
 
-/// The measurements of a script, in the order of their lines: of 4,054 bytes at most together. Contracts see them as a
-/// list.
+/// The measurements of a script, in the order of their lines: of 4,054 bytes at most together. In contracts, a list.
 #[derive(Debug, Drop)]
 pub struct Blocks {
     items: Vec<BlockSpec>,
@@ -116,7 +115,7 @@ impl Blocks {
     }
 }
 
-/// The requesters of a script, in the order of their lines. Contracts see them as a list.
+/// The requesters of a script, in the order of their lines. In contracts, a list.
 #[derive(Drop)]
 pub struct ReqParts {
     items: Vec<ReqPart>,

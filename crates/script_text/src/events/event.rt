@@ -50,7 +50,7 @@ pub struct Entry {
 /// The most events of a script, and the most packets of a capture.
 pub const MOST_EVENTS: usize = 100_000;
 
-/// Events in the order of their lines. Contracts see them as a list.
+/// Events in the order of their lines. In contracts, a list.
 #[derive(Debug, Drop)]
 pub struct Events {
     items: Vec<Entry>,

@@ -132,8 +132,8 @@ pub fn bytes_of(alloc: Global, word: &[u8]) -> Result<Bytes, OutOfMemory>
     read_word(alloc, word)
 }
 
-/// Writes the bytes that a word is, where it is at most `MOST_BYTES`, into the front of a room, and tells how many they
-/// are.
+/// Writes the bytes that a word is, where it is at most `MOST_BYTES`, into the front of a room, and returns their
+/// number.
 #[tactic(auto, unfolding(crate::specs::HexWords::bytes_of))]
 pub fn bytes_into(word: &[u8], room: &mut [u8]) -> usize
     requires { most_bytes ≤ length room.old }

@@ -19,7 +19,7 @@ pub enum Rule {
     },
 }
 
-/// Rules in the order of their lines. Contracts see them as a list.
+/// Rules in the order of their lines. In contracts, a list.
 #[derive(Debug, Drop)]
 pub struct Rules {
     items: Vec<Rule>,

@@ -20,7 +20,7 @@ pub struct Capture {
     pub packets: Packets,
 }
 
-/// Packets in the order in which they were seen. Contracts see them as a list.
+/// Packets in the order in which they were seen. In contracts, a list.
 #[derive(Debug, Drop)]
 pub struct Packets {
     items: Vec<Bytes>,
@@ -75,7 +75,7 @@ pub struct Life {
     pub events: Events,
 }
 
-/// Lives one after the other. Contracts see them as a list.
+/// Lives one after the other. In contracts, a list.
 #[derive(Debug, Drop)]
 pub struct LifeList {
     items: Vec<Life>,

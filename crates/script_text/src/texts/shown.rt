@@ -28,7 +28,7 @@ pub struct Shown {
     pub bytes: Bytes,
 }
 
-/// Messages in the order of their lines. Contracts see them as a list.
+/// Messages in the order of their lines. In contracts, a list.
 #[derive(Debug, Drop)]
 pub struct ShownList {
     items: Vec<Shown>,
