@@ -1,5 +1,5 @@
-//! What holds of every world without chance, and wherever the moves of a pre-shared key lead without it, each law as
-//! the contract of a function that does nothing.
+//! What holds of every world without chance, and wherever the moves of a pre-shared key lead without it, each law
+//! stated as the contract of an empty function.
 
 ghost use Rattle.spdm_agreement.specs.Claims.{OneTranscript, Delivered, MatchedSessions, OneRecord, FreshSessions};
 ghost use Rattle.spdm_agreement.specs.Worlds.{ScriptsAreConfigured, ScriptsHold, WorldsAgree, WorldsDeliver, WorldsMatch, WorldsSealOnce, WorldsShowAlike};
