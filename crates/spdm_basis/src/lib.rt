@@ -1,5 +1,5 @@
-//! What every layer stands on: bytes, endpoints and keys as types, what the program reads from and writes to, and the
-//! faults that several layers name.
+//! The base of every layer: bytes, endpoint IDs and keys as types, input and output traits, and faults that several
+//! layers share.
 //!
 //! Read first: `Takes` in `specs/Stream.antt`, what a sink holds after a write. The call to begin with is `read_all`.
 #![tactic(auto)]

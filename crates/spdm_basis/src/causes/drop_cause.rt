@@ -1,9 +1,9 @@
 use thiserror::Error;
 
-/// Why a packet is dropped where message bodies are gathered from packets (DSP0236, "Dropped packets").
+/// Why a packet is dropped in message assembly (DSP0236, "Dropped packets").
 #[derive(Clone, Copy, Debug, PartialEq, Eq, Error)]
 pub enum DropCause {
-    /// The packet is for another endpoint, or from another one than the peer.
+    /// Another destination endpoint than the own one, or another source than the peer.
     #[error("another destination or source")]
     NotOurs,
     /// The packet is no first packet, and no unfinished body has its message tag and tag owner bit.

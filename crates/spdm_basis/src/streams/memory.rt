@@ -56,7 +56,7 @@ impl CallLog {
     }
 }
 
-/// A source of bytes in memory, of which chosen calls fail.
+/// A source of bytes in memory, some of whose calls are made to fail.
 #[derive(Drop)]
 pub struct MemSource {
     bytes: Vec<u8>,
@@ -124,7 +124,7 @@ impl Source for MemSource {
     }
 }
 
-/// A sink that keeps bytes in memory, of which chosen calls fail.
+/// A sink in memory, some of whose calls are made to fail.
 #[derive(Drop)]
 pub struct MemSink {
     bytes: Vec<u8>,
@@ -218,7 +218,7 @@ impl Sink for NullSink {
     }
 }
 
-/// Seeds in memory, in order, of which chosen calls fail.
+/// Seeds in memory, in order; some calls are made to fail.
 #[derive(Drop)]
 pub struct MemSeeds {
     seeds: Vec<[u8; 32]>,

@@ -10,14 +10,14 @@ pub struct Failed;
 
 /// Where bytes come from.
 pub trait Source {
-    /// What it has left, where it tells that.
+    /// The bytes that it has left, if known.
     ghost remaining: { Self → Option (List ℕ) };
 
-    /// How often it has failed. The count never falls, and saturates at `u64::MAX`.
+    /// The number of failed calls. It never decreases, and saturates at `u64::MAX`.
     ghost faults: { Self → ℕ };
 
-    /// Reads the next bytes into the front of `into`, and says how many. None is the end of input.
-    /// After `Failed` the source has left what it had left.
+    /// Reads the next bytes into the front of `into`, and returns how many; 0 means end of input. After `Failed` no
+    /// bytes were consumed.
     fn read(&mut self, into: &mut [u8]) -> Result<usize, Failed>
         requires { 0 < length into.old }
         ensures count { IfOk result (λ n. n ≤ length into.old) }
@@ -31,13 +31,13 @@ pub trait Source {
 
 /// Where bytes go.
 pub trait Sink {
-    /// What it holds, where it tells that.
+    /// The bytes that it holds, if known.
     ghost contents: { Self → Option (List ℕ) };
 
-    /// How often it has failed. The count never falls, and saturates at `u64::MAX`.
+    /// The number of failed calls. It never decreases, and saturates at `u64::MAX`.
     ghost faults: { Self → ℕ };
 
-    /// Writes the first bytes of `from`, at least one, and says how many. After `Failed` the sink holds what it held.
+    /// Writes the first bytes of `from`, at least one, and returns how many. After `Failed` nothing was written.
     fn write(&mut self, from: &[u8]) -> Result<usize, Failed>
         requires { 0 < length from.now }
         ensures some { IfOk result (λ n. 0 < n) }
@@ -51,13 +51,13 @@ pub trait Sink {
 
 /// Where seeds come from.
 pub trait Seeds {
-    /// The seeds that it has left, where it tells that.
+    /// The seeds that it has left, if known.
     ghost left: { Self → Option (List (List ℕ)) };
 
-    /// How often it has failed. The count never falls, and saturates at `u64::MAX`.
+    /// The number of failed calls. It never decreases, and saturates at `u64::MAX`.
     ghost faults: { Self → ℕ };
 
-    /// The next seed. After `Failed` it has left what it had left.
+    /// The next seed. After `Failed` no seed was consumed.
     fn seed(&mut self) -> Result<[u8; 32], Failed>
         ensures gives { IfOk result (λ seed. GivesSeed (left self.old) seed (left self.new)) }
         ensures later { faults self.old ≤ faults self.new }

@@ -26,9 +26,9 @@ pub enum OutFault {
 // How many bytes are asked for at a time.
 const PIECE: usize = 4096;
 
-/// Reads to the end of input, of which there may be at most `limit` bytes. After a fault the bytes read so far are gone
-/// from the source. `ReadFault` is returned only if the source's `faults` count rose, and `TooLong` exactly when more
-/// than `limit` bytes came.
+/// Reads to the end of input, of which there may be at most `limit` bytes. After a fault the bytes read so far are
+/// lost. `ReadFault` is returned only if the source's `faults` count rose, and `TooLong` exactly when more than `limit`
+/// bytes came.
 pub fn read_all<S: Source>(alloc: Global, source: &mut S, limit: usize) -> Result<Bytes, InFault>
     // Ok: the bytes are all that the source had left, and it has nothing left.
     ensures whole { IfOk result (λ bytes. Gives (S.remaining source.old) bytes (Some [])) }

@@ -6,7 +6,7 @@ use arrayvec::ArrayVec;
 use std::marker::Model;
 use thiserror::Error;
 
-/// Bytes of which there are at most `N`, stored inline; never allocates. Contracts see them as a list.
+/// A byte buffer of capacity `N`, stored inline; never allocates. In contracts, a list.
 #[derive(Clone, Debug, Drop)]
 pub struct Buffer<const N: usize> {
     items: ArrayVec<u8, N>,
@@ -21,7 +21,7 @@ pub type RecordFrame = Buffer<4160>;
 /// A line of a trace: up to 8,400 bytes.
 pub type Line = Buffer<8400>;
 
-/// The bytes do not fit into what is left of a buffer.
+/// The bytes exceed the remaining capacity of a buffer.
 #[derive(Clone, Copy, Debug, PartialEq, Eq, Error)]
 #[error("the buffer is full")]
 pub struct Full;
@@ -52,7 +52,7 @@ impl<const N: usize> Buffer<N> {
         self.items.as_slice()
     }
 
-    /// The bytes, for writing. What is left there is what the buffer holds then.
+    /// The bytes, mutably.
     pub fn as_mut_slice(&mut self) -> &mut [u8]
         ensures* writes_back { sem 𝓛 (LendsAll N.row self.entry result) }
         ensures value { result.now ≡ self.old }

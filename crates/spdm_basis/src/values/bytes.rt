@@ -9,7 +9,7 @@ use thiserror::Error;
 #[error("out of memory")]
 pub struct OutOfMemory;
 
-/// A list of bytes of any length, in memory of its own.
+/// A growable, allocated list of bytes.
 #[derive(Debug, Drop)]
 pub struct Bytes {
     items: Vec<u8>,

@@ -1,7 +1,6 @@
 ghost use Rattle.std.specs.Prelude.{◌≡◌, ◌<◌, ◌≤◌, ◌↔◌, IsSome, IfSome};
 
-/// The number of an endpoint (DSP0236, "Endpoint ID"): from 8 to 254. The numbers below are null and reserved, and 255
-/// is for broadcasts.
+/// An endpoint ID (DSP0236, "Endpoint ID"): 8 to 254. Values below 8 are null or reserved, and 255 is broadcast.
 #[derive(Clone, Copy, Debug, PartialEq, Eq)]
 pub struct Eid {
     number: u8,
@@ -10,7 +9,7 @@ pub struct Eid {
 }
 
 impl Eid {
-    /// The endpoint of this number, and `None` exactly when the number is below 8 or is 255.
+    /// The endpoint ID with this value; `None` exactly when it is below 8 or is 255.
     pub fn new(number: u8) -> Option<Eid>
         ensures range { IsSome result ↔ ((8 ≤ number) × (number < 255)) }
         ensures value { IfSome result (λ eid. eid.number ≡ number) }
@@ -21,7 +20,7 @@ impl Eid {
         Some(Eid { number })
     }
 
-    /// The number.
+    /// The value.
     pub fn number(&self) -> u8
         ensures value { result ≡ self.now.number }
         ensures low { 8 ≤ result }

@@ -4,7 +4,7 @@ ghost use Rattle.spdm_basis.specs.Sizes.{is_hash_size};
 use arrayvec::ArrayVec;
 use std::marker::Model;
 
-/// A hash: 32 bytes of SHA-256 or 48 bytes of SHA-384. Contracts see it as a list.
+/// A hash: 32 bytes of SHA-256 or 48 bytes of SHA-384. In contracts, a list.
 #[derive(Clone, Debug, Drop)]
 pub struct HashBytes {
     items: ArrayVec<u8, 48>,

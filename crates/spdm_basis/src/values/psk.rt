@@ -3,7 +3,7 @@ ghost use Rattle.std.specs.Prelude.{◌≡◌, ◌<◌, ◌≤◌, ◌↔◌, le
 use arrayvec::ArrayVec;
 use std::marker::Model;
 
-/// A pre-shared key: 1 to 64 bytes. Contracts see it as a list.
+/// A pre-shared key: 1 to 64 bytes. In contracts, a list.
 #[derive(Clone, Drop)]
 pub struct Psk {
     items: ArrayVec<u8, 64>,

@@ -1,8 +1,8 @@
 ghost use Rattle.std.specs.Prelude.{◌≡◌};
 ghost use Rattle.spdm_basis.specs.SessionIdBytes.{session_id_bytes};
 
-/// The id of a session: the number that the requester chose and the one that the responder chose (DSP0274,
-/// "PSK_EXCHANGE"; DSP0277 joins them to a session id of four bytes).
+/// A session ID: the halves chosen by requester and responder (DSP0274, "PSK_EXCHANGE"; DSP0277 joins them into four
+/// bytes).
 #[derive(Clone, Copy, Debug, PartialEq, Eq)]
 pub struct SessionId {
     /// ReqSessionID.
@@ -12,7 +12,7 @@ pub struct SessionId {
 }
 
 impl SessionId {
-    /// Both numbers, little-endian: ReqSessionID and then RspSessionID.
+    /// Both halves, each little-endian: ReqSessionID and then RspSessionID.
     pub fn bytes(&self) -> [u8; 4]
         ensures { result ≡ session_id_bytes self.now.req self.now.rsp }
     {
