@@ -36,7 +36,7 @@ pub struct Work {
     pub kind: Kind,
     /// How many bytes a message has; of `ends`, how many requesters there are.
     pub size: usize,
-    /// How many messages there are.
+    /// The number of messages.
     pub count: u64,
     ghost small: { size ≤ 65535 },
 }
