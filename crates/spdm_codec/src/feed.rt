@@ -16,10 +16,10 @@ use spdm_grammar::{Malformed, Part, Request, Response};
 use std::marker::Model;
 use thiserror::Error;
 
-/// Why a piece was refused.
+/// Why a piece is refused.
 #[derive(Clone, Copy, Debug, PartialEq, Eq, Error)]
 pub enum FeedFault {
-    /// More than 4,096 bytes would stand.
+    /// The message would exceed 4,096 bytes.
     #[error("the message passes 4096 bytes")]
     TooLong,
     /// The bytes with this piece encode no message, and neither do any longer ones.
@@ -27,8 +27,7 @@ pub enum FeedFault {
     Bad(Malformed),
 }
 
-/// A message that comes in pieces. It stores the bytes inline, never allocates, and reads at each piece again what it
-/// holds.
+/// A message that arrives in pieces. Its bytes are stored inline, and parsed again with each piece. Never allocates.
 #[derive(Drop)]
 pub struct Feed {
     expect: Expect,
@@ -44,7 +43,7 @@ impl Model for Feed {
 }
 
 impl Feed {
-    /// No bytes yet.
+    /// An empty feed.
     pub fn new(expect: Expect) -> Feed
         ensures { result ≡ record { expect = expect; bytes = [] } }
     {

@@ -1,4 +1,4 @@
-//! Reading and writing of the messages of `spdm_grammar`, exactly: a reader answers the value that the whole input
+//! Exact decoding and encoding of the messages of `spdm_grammar`: a reader returns the value that the complete input
 //! encodes, or its first fault, and a writer writes the canonical encoding. No call allocates.
 //!
 //! Read first: `Gives` in `specs/Answer.antt`, when a reader answers what the definitions read.

@@ -7,7 +7,7 @@ use spdm_basis::Frame;
 use spdm_grammar::names::MAX_MESSAGE_SIZE;
 use thiserror::Error;
 
-/// The encoding of a message passes 4,096 bytes.
+/// The encoded message exceeds 4,096 bytes.
 #[derive(Clone, Copy, Debug, PartialEq, Eq, Error)]
 #[error("the message passes 4096 bytes")]
 pub struct TooLong;
