@@ -1,4 +1,4 @@
-//! What holds of the grammar, each law as the contract of a function that does nothing.
+//! What holds of the grammar, each law stated as the contract of an empty function.
 
 ghost use Rattle.std.specs.Prelude.{◌≡◌, ◌≢◌, ◌<◌, ◌↔◌, ◌++◌, [], ℕ, List, Bool, Some, slice_index};
 ghost use Rattle.spdm_grammar.specs.Message.{RequestMessage, ResponseMessage};
