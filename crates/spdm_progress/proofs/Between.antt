@@ -1,4 +1,4 @@
--- Whatever an honest script says between two commands: what is under way goes on or is done.
+-- Whatever an honest script says between two commands: what is in progress goes on or is done.
 use Rattle.std.proofs.Common.{◌≡◌, ◌⊎◌, ◌∙◌, ℕ, zero, suc, List, [], ◌∷◌, ◌++◌, false, Option, Some, None, refl, sym, ap, subst, inl, inr}
 use Rattle.std.proofs.lemmas.Bool.{false≢true}
 use Rattle.spdm_grammar.specs.Lines.{Line}
@@ -11,7 +11,7 @@ use Rattle.world_machine.specs.Trace.{world_from, lines_from}
 use Rattle.world_machine.specs.World.{World, WorldStep, first_waiting, packet_of, delivers, turn, pumps, rests, behind, requester_of, replied, happens, entry_step}
 use Rattle.spdm_progress.specs.Honest.{EndsNone, IsHonest, AreHonest, is_command, HaveNoCommand}
 
--- What is under way goes on in the world after a step; or it is done there, and its line was written.
+-- What is in progress goes on in the world after a step; or it is done there, and its line was written.
 pub data Goes (Going Done : World → Type 0) (line : Line) (s : WorldStep) : Type 0 where
   GoesOn : Going s.after → Goes Going Done line s
   Ends : Done s.after → IsIn s.lines line → Goes Going Done line s

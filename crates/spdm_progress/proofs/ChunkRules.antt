@@ -36,7 +36,7 @@ module _ (max transfer handle : ℕ) (message : List ℕ) (sound : IsCollectable
   abbrev before : ℕ → List ChunkMessage
   before k = chunks_before transfer handle message k
 
-  -- Those before one that there is are under way.
+  -- Those before one that there is are in progress.
   under : (k : ℕ) → k < count → under_way (before k) ≡ before k
   under zero within = refl
   under (suc k) within =

@@ -138,7 +138,7 @@ module _ (q : ReqSetup) (r : RspSetup) (v : RequestMessage) (n : Negotiation) (c
       let most = can.most in
       record { low = omega (arith, transfer, least); large = omega (arith, large); fits = fits; short = omega (arith, fits, most) }
 
-  -- The chunks before this one are under way; the first one starts over.
+  -- The chunks before this one are in progress; the first one starts over.
   abbrev pub AreHeld : (j : ℕ) → List Turn → Type 0
   AreHeld zero turns = Unit {0}
   AreHeld (suc j) turns = under_way (chunks_of turns) ≡ before (suc j)

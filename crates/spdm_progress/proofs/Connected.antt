@@ -1,4 +1,4 @@
--- A connect that is told where no packet waits is under way, so honest delivery completes it.
+-- A connect that is told where no packet waits is in progress, so honest delivery completes it.
 use Rattle.std.proofs.Common.{◌≡◌, ◌∙◌, ◌==◌, ℕ, suc, ◌≤◌, ◌+◌, ◌-◌, ◌⊎◌, cond, eq-eqb, List, [], ◌∷◌, length, Bool, true, false, Some, None, refl, sym, ap, subst, inl, inr, arith}
 use Rattle.std.proofs.lemmas.Bool.{false≢true}
 use Rattle.spdm_grammar.specs.Message.RequestMessage.{GetVersion}

@@ -1,4 +1,4 @@
--- A clear measure under way: its request waits, or so many packets of its answer were given.
+-- A clear measure in progress: its request waits, or so many packets of its answer were given.
 use Rattle.std.proofs.Common.{◌≡◌, ◌⊎◌, ◌∙◌, ℕ, zero, suc, ◌<◌, ◌≤◌, ◌+◌, List, ◌++◌, length, false, None, ap, inl, inr, arith}
 use Rattle.mctp_framing.specs.Cutting.{packet_count}
 use Rattle.spdm_grammar.specs.Lines.{Line}
@@ -112,7 +112,7 @@ module _ (p : Pair) (ends : AreEnds p) (op : ℕ) (n : Negotiation) (can : CanSe
       (λ h d drawn has. measure_answered p.requester p.responder h d x.tag op n drawn can has) world x.waits x.pair in
       record { place = x.waits.place; first = x.waits.first; goes = GoesOn (inr (answering _ x.tag s.value s.before x.small s.good s.idle s.sends s.pair)) }
 
-  -- What an answer under way leads to, by how many packets of it are left.
+  -- What an answer in progress leads to, by how many packets of it are left.
   answer_given : (world : World) (tag : ℕ) (small : tag < 8) (nonce : List ℕ) (whole : length nonce ≡ 32) (done left : ℕ)
       → Coming p ends 0 0 (AsksIt tag) (λ h. IsMeasuredBy p.responder op) (Served n) tag (measurements p.responder op nonce) told (λ h. None) small (fits nonce whole) some (λ h. tt) (hears_it tag nonce whole) done left world → IsGiven IsUnderWay IsDone done_line world
   answer_given world tag small nonce whole done zero x =

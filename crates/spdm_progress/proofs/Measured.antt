@@ -1,4 +1,4 @@
--- A clear measure that is told where no packet waits is under way, so honest delivery completes it.
+-- A clear measure that is told where no packet waits is in progress, so honest delivery completes it.
 use Rattle.std.proofs.Common.{◌≡◌, ◌∙◌, ℕ, ◌+◌, List, [], ◌∷◌, length, true, false, Some, None, refl, sym, ap, subst, inl, arith}
 use Rattle.spdm_grammar.specs.Lines.{Line}
 use Rattle.spdm_machine.specs.Packets.{packets_to, wear_limit}

@@ -1,5 +1,5 @@
--- A connect under way: which of its six packets waits, and what both ends hold; and what pumps, queued data and time do
--- to it.
+-- A connect in progress: which of its six packets waits, and what both ends hold; and what pumps, queued data and time
+-- do to it.
 use Rattle.std.proofs.Common.{[], ◌≡◌, ◌⊎◌, ℕ, suc, ◌<◌, ◌≤◌, List, length, Option, Some, None, sym, subst, inl, inr, arith}
 use Rattle.spdm_grammar.specs.Lines.{Line}
 use Rattle.spdm_grammar.specs.Message.{OfferMessage}

@@ -1,4 +1,4 @@
-//! What honest delivery completes, each law as the contract of a function that does nothing.
+//! What honest delivery completes, each law stated as the contract of an empty function.
 
 ghost use Rattle.spdm_progress.specs.Connecting.{
   ConnectCompletes,
