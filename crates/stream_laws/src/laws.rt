@@ -1,5 +1,5 @@
-//! What holds of a requester and a responder on streams of frames, each law as the contract of a function that does
-//! nothing.
+//! What holds of a requester and a responder on streams of frames, each law stated as the contract of an empty
+//! function.
 
 ghost use Rattle.stream_laws.specs.Laws.{EveryCarriageIsAWorld, FirstIsDriven, ReadConfigurationKeepsLimits, ResponderIsServed, ScriptWorldsAreSuch, StreamsHold};
 
