@@ -21,7 +21,7 @@ use Rattle.world_machine.specs.Setup.{Configuration}
 
 -- ---- What is kept.
 
--- The bodies that are gathered in both directions, and the round under way.
+-- The bodies that are gathered in both directions, and the round in progress.
 abbrev pub pair_of : JudgedPair → Pair
 pair_of seen = record { eid = seen.eid; requests = seen.requests; answers = seen.answers; round = seen.round }
 

@@ -84,8 +84,8 @@ impl Checker {
         self.pairs.iter().position(|pair| pair.eid.number() == eid)
     }
 
-    /// The next packet of the capture: it conforms after those before it, or it does not conform, and then why. Nothing
-    /// is said of what is kept then. An `Err` is allocation failure.
+    /// The next packet of the capture: it conforms after those before it, or it does not conform, and then why. The
+    /// state is then unspecified. An `Err` is allocation failure.
     pub fn take(&mut self, packet: &[u8]) -> Result<Result<(), Why>, OutOfMemory>
         ensures { (w : Configuration) (older : List (List ℕ)) → AreSound w
             → IsChecker self.old w older → length older < 2 ^ 64 - 2

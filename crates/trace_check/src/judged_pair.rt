@@ -16,7 +16,7 @@ use spdm_grammar::Why;
 use std::alloc::Global;
 use spdm_grammar::names::MAX_BODY_SIZE;
 
-/// A requester of a capture and the responder: the bodies that are gathered in both directions, the round under way,
+/// A requester of a capture and the responder: the bodies that are gathered in both directions, the round in progress,
 /// what the two ends hold, and what the responder knows of the requester. It judges the packets between them. Allocates
 /// only when constructed.
 #[derive(Drop)]
