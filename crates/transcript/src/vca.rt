@@ -4,8 +4,8 @@ use spdm_basis::Buffer;
 use std::marker::Model;
 
 /// The messages of a negotiation, one after the other: GET_VERSION, VERSION, GET_CAPABILITIES, CAPABILITIES,
-/// NEGOTIATE_ALGORITHMS and ALGORITHMS, whole and as sent (DSP0274, "VCA"). It holds up to 8,768 bytes. Contracts see
-/// it as a list.
+/// NEGOTIATE_ALGORITHMS and ALGORITHMS, whole and as sent (DSP0274, "VCA"). It holds up to 8,768 bytes. In contracts, a
+/// list.
 #[derive(Clone, Drop)]
 pub struct Vca {
     messages: Buffer<8768>,
