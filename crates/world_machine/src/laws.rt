@@ -1,4 +1,4 @@
-//! What holds of the definitions at every world, each law as the contract of a function that does nothing.
+//! What holds of the definitions at every world, each law stated as the contract of an empty function.
 
 ghost use Rattle.world_machine.specs.Laws.{ChanceStays};
 
