@@ -4,8 +4,8 @@ use Rattle.std.specs.Prelude.{Result, Ok}
 use Rattle.requester_core.specs.Led.{IsAnswered, IsLed}
 use Rattle.requester_core.specs.Talk.{Seen}
 use Rattle.requester_core.specs.Waiting.{IsClearRequest, kind_of}
-use Rattle.requester_core.specs.declared.clear.led.Led as seen_led
-use Rattle.requester_core.specs.declared.clear.led.Led.TheVariants as seen
+use Rattle.requester_core.specs.declared.clear.reply_outcome.ReplyOutcome as seen_led
+use Rattle.requester_core.specs.declared.clear.reply_outcome.ReplyOutcome.TheVariants as seen
 use Rattle.requester_core.specs.declared.clear.waiting.Asked.TheVariants as asks
 use Rattle.requester_machine.specs.Answers.{answer_led}
 use Rattle.requester_machine.specs.ClearAnswers.{read_led, reading_of}
@@ -57,7 +57,7 @@ measurements_asked q h _ op a k = absurd a
 pub any_free : Free
 any_free = record { id = 0; context = []; opaque = []; pad = [] }
 
-pub answered_by : (q : ReqSetup) (h : History) (place : ℕ) (request : RequestMessage) (answer : List ℕ) (led : seen_led.Led) (old new : Seen) (out : List ℕ)
+pub answered_by : (q : ReqSetup) (h : History) (place : ℕ) (request : RequestMessage) (answer : List ℕ) (led : seen_led.ReplyOutcome) (old new : Seen) (out : List ℕ)
     → ((f : Free) → IsLed h (read_led q h f place request answer (reading_of h request answer)) led old new out) → IsAnswered q h place request answer led old new out
 answered_by q h place request answer (seen.Ignored cause) old new out is = is
 answered_by q h place request answer (seen.Rests told) old new out is = is
@@ -67,7 +67,7 @@ answered_by q h place request answer (seen.More tag) old new out is = is
 answered_by q h place request answer seen.Exchange old new out is = absurd (is any_free)
 
 -- By the response that it reads as.
-pub answered_as : (q : ReqSetup) (h : History) (place : ℕ) (request : RequestMessage) (answer : List ℕ) (value : ResponseMessage) (leads : Result Led ReqIgnored) (led : seen_led.Led) (old new : Seen) (out : List ℕ)
+pub answered_as : (q : ReqSetup) (h : History) (place : ℕ) (request : RequestMessage) (answer : List ℕ) (value : ResponseMessage) (leads : Result Led ReqIgnored) (led : seen_led.ReplyOutcome) (old new : Seen) (out : List ℕ)
     → reading_of h request answer ≡ Ok value → ((f : Free) → answer_led q h f place request answer value ≡ leads) → IsLed h leads led old new out → IsAnswered q h place request answer led old new out
 answered_as q h place request answer value leads led old new out reads is leads_to =
     answered_by q h place request answer led old new out (λ f. subst (λ (r : Result Led ReqIgnored). IsLed h r led old new out) (sym (ap (read_led q h f place request answer) reads ∙ is f)) leads_to)

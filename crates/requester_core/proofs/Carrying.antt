@@ -4,8 +4,8 @@ use Rattle.std.specs.Prelude.{◌==◌, ◌/◌, ◌%◌, Ok}
 use Rattle.std.proofs.Math.Nat.{div-le_self}
 use Rattle.requester_core.specs.Led.{IsAnswered, IsCarried, IsLed}
 use Rattle.requester_core.specs.Talk.{Seen}
-use Rattle.requester_core.specs.declared.clear.led.Led as seen_led
-use Rattle.requester_core.specs.declared.clear.led.Led.TheVariants as seen
+use Rattle.requester_core.specs.declared.clear.reply_outcome.ReplyOutcome as seen_led
+use Rattle.requester_core.specs.declared.clear.reply_outcome.ReplyOutcome.TheVariants as seen
 use Rattle.chunking.specs.Cutting.{chunk_count}
 use Rattle.requester_machine.specs.ClearAnswers.{Carried, ack_carries, carried_led}
 use Rattle.requester_machine.specs.ClearAnswers.Carried.{Whole}
@@ -21,7 +21,7 @@ use Rattle.spdm_grammar.specs.declared.names.TheConstants.{MAX_MESSAGE_SIZE}
 use Rattle.requester_core.proofs.Answered.{any_free}
 use Rattle.requester_machine.proofs.Pieces.{not_last}
 
-pub carried_by : (q : ReqSetup) (h : History) (request : RequestMessage) (carried : Carried) (led : seen_led.Led) (old new : Seen) (out : List ℕ)
+pub carried_by : (q : ReqSetup) (h : History) (request : RequestMessage) (carried : Carried) (led : seen_led.ReplyOutcome) (old new : Seen) (out : List ℕ)
     → ((f : Free) → IsLed h (carried_led q h f request carried) led old new out) → IsCarried q h request carried led old new out
 carried_by q h request carried (seen.Ignored cause) old new out is = is
 carried_by q h request carried (seen.Rests told) old new out is = is
@@ -31,7 +31,7 @@ carried_by q h request carried (seen.More tag) old new out is = absurd (is any_f
 carried_by q h request carried seen.Exchange old new out is = absurd (is any_free)
 
 -- A whole answer.
-pub whole_carried : (q : ReqSetup) (h : History) (request : RequestMessage) (answer : List ℕ) (place : ℕ) (led : seen_led.Led) (old new : Seen) (out : List ℕ)
+pub whole_carried : (q : ReqSetup) (h : History) (request : RequestMessage) (answer : List ℕ) (place : ℕ) (led : seen_led.ReplyOutcome) (old new : Seen) (out : List ℕ)
     → IsAnswered q h place request answer led old new out → IsCarried q h request (Whole answer place) led old new out
 whole_carried q h request answer place (seen.Ignored cause) old new out is = is
 whole_carried q h request answer place (seen.Rests told) old new out is = is

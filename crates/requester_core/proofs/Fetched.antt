@@ -30,8 +30,8 @@ use Rattle.spdm_grammar.specs.declared.messages.malformed.Malformed.{Malformed}
 use Rattle.requester_core.specs.Gathering.{Gathered, Gathers, IsGathered, IsGatheredFor, Leaves, is_other}
 use Rattle.requester_core.specs.Led.{IsAnswered, IsCarried, IsLed, IsTaken, changes_nothing, is_large, is_no_get}
 use Rattle.requester_core.specs.Talk.{Seen}
-use Rattle.requester_core.specs.declared.clear.led.Led as seen_led
-use Rattle.requester_core.specs.declared.clear.led.Led.TheVariants as seen
+use Rattle.requester_core.specs.declared.clear.reply_outcome.ReplyOutcome as seen_led
+use Rattle.requester_core.specs.declared.clear.reply_outcome.ReplyOutcome.TheVariants as seen
 use Rattle.requester_core.proofs.Answered.{any_free}
 use Rattle.requester_core.proofs.NoGets.{no_get_gathers}
 use Rattle.requester_core.proofs.Taken.{carried_leads}
@@ -77,7 +77,7 @@ other_get q h request handle number before _ no_error no_chunk = refl
 
 -- ---- What is gathered.
 
-pub gathered_as : (q : ReqSetup) (h : History) (sent : Sent) (request : RequestMessage) (m : List ℕ) (led : seen_led.Led) (old new : Seen) (out : List ℕ) (before after : keeping.Kept)
+pub gathered_as : (q : ReqSetup) (h : History) (sent : Sent) (request : RequestMessage) (m : List ℕ) (led : seen_led.ReplyOutcome) (old new : Seen) (out : List ℕ) (before after : keeping.Kept)
     → IsTaken q h sent request m led old new out → Leaves q (carried_by q h m sent.aim) led before after → is_large led ≡ false → Gathered q h sent request m led before after
 gathered_as q h sent request m (seen.Ignored cause) old new out before after taken leaves other = leaves
 gathered_as q h sent request m (seen.Rests told) old new out before after taken leaves other = λ f led ok.
@@ -98,7 +98,7 @@ gathered_as q h sent request m (seen.More tag) old new out before after taken le
 gathered_as q h sent request m seen.Exchange old new out before after taken leaves other = leaves
 
 -- The collector was cleared for a large response.
-pub large_gathered : (q : ReqSetup) (h : History) (sent : Sent) (request : RequestMessage) (m : List ℕ) (led : seen_led.Led) (old new : Seen) (out : List ℕ) (before after cleared : keeping.Kept)
+pub large_gathered : (q : ReqSetup) (h : History) (sent : Sent) (request : RequestMessage) (m : List ℕ) (led : seen_led.ReplyOutcome) (old new : Seen) (out : List ℕ) (before after cleared : keeping.Kept)
     → IsTaken q h sent request m led old new out → Leaves q (carried_by q h m sent.aim) led before after → is_large led ≡ true → cleared.max ≡ after.max → keeping.StandsFor cleared [] → Gathered q h sent request m led before cleared
 large_gathered q h sent request m (seen.Ignored cause) old new out before after cleared taken leaves large max clear = absurd (false≢true large)
 large_gathered q h sent request m (seen.Rests told) old new out before after cleared taken leaves large max clear = absurd (false≢true large)
@@ -114,7 +114,7 @@ large_gathered q h sent request m (seen.Large tag) old new out before after clea
 -- ---- What is left of it.
 
 -- All of it, where nothing changed.
-pub kept_leaves : (q : ReqSetup) (carried : Carried) (led : seen_led.Led) (before after : keeping.Kept) → changes_nothing led ≡ true → after ≡ before → Leaves q carried led before after
+pub kept_leaves : (q : ReqSetup) (carried : Carried) (led : seen_led.ReplyOutcome) (before after : keeping.Kept) → changes_nothing led ≡ true → after ≡ before → Leaves q carried led before after
 kept_leaves q carried (seen.Ignored cause) before after none same = same
 kept_leaves q carried (seen.Rests told) before after none same = absurd (false≢true none)
 kept_leaves q carried (seen.Sends tag) before after none same = absurd (false≢true none)
@@ -123,7 +123,7 @@ kept_leaves q carried (seen.More tag) before after none same = absurd (false≢t
 kept_leaves q carried seen.Exchange before after none same = same
 
 -- A whole answer changed something.
-pub other_leaves : (q : ReqSetup) (h : History) (place : ℕ) (request : RequestMessage) (answer : List ℕ) (carried : Carried) (led : seen_led.Led) (old new : Seen) (out : List ℕ) (before after : keeping.Kept)
+pub other_leaves : (q : ReqSetup) (h : History) (place : ℕ) (request : RequestMessage) (answer : List ℕ) (carried : Carried) (led : seen_led.ReplyOutcome) (old new : Seen) (out : List ℕ) (before after : keeping.Kept)
     → IsAnswered q h place request answer led old new out → changes_nothing led ≡ false → after.max ≡ q.max → Leaves q carried led before after
 other_leaves q h place request answer carried (seen.Ignored cause) old new out before after is some max = absurd (false≢true (sym some))
 other_leaves q h place request answer carried (seen.Rests told) old new out before after is some max = max
@@ -133,7 +133,7 @@ other_leaves q h place request answer carried (seen.More tag) old new out before
 other_leaves q h place request answer carried seen.Exchange old new out before after is some max = absurd (false≢true (sym some))
 
 -- The collector was not touched,
-pub answered_leaves : (q : ReqSetup) (h : History) (place : ℕ) (request : RequestMessage) (answer : List ℕ) (carried : Carried) (led : seen_led.Led) (old new : Seen) (out : List ℕ) (g : keeping.Kept)
+pub answered_leaves : (q : ReqSetup) (h : History) (place : ℕ) (request : RequestMessage) (answer : List ℕ) (carried : Carried) (led : seen_led.ReplyOutcome) (old new : Seen) (out : List ℕ) (g : keeping.Kept)
     → IsAnswered q h place request answer led old new out → g.max ≡ q.max → Leaves q carried led g g
 answered_leaves q h place request answer carried (seen.Ignored cause) old new out g is max = refl
 answered_leaves q h place request answer carried (seen.Rests told) old new out g is max = max
@@ -143,7 +143,7 @@ answered_leaves q h place request answer carried (seen.More tag) old new out g i
 answered_leaves q h place request answer carried seen.Exchange old new out g is max = refl
 
 -- where the message leads to this,
-pub led_leaves : (q : ReqSetup) (h : History) (leads : Result Led ReqIgnored) (carried : Carried) (led : seen_led.Led) (old new : Seen) (out : List ℕ) (g : keeping.Kept) → IsLed h leads led old new out → g.max ≡ q.max → Leaves q carried led g g
+pub led_leaves : (q : ReqSetup) (h : History) (leads : Result Led ReqIgnored) (carried : Carried) (led : seen_led.ReplyOutcome) (old new : Seen) (out : List ℕ) (g : keeping.Kept) → IsLed h leads led old new out → g.max ≡ q.max → Leaves q carried led g g
 led_leaves q h leads carried (seen.Ignored cause) old new out g is max = refl
 led_leaves q h leads carried (seen.Rests told) old new out g is max = max
 led_leaves q h leads carried (seen.Sends tag) old new out g is max = max
@@ -152,7 +152,7 @@ led_leaves q h leads carried (seen.More tag) old new out g is max = absurd is
 led_leaves q h leads carried seen.Exchange old new out g is max = absurd is
 
 -- and where a message that calls for a further one asks for no chunk.
-pub carried_leaves : (q : ReqSetup) (h : History) (request : RequestMessage) (carried : Carried) (led : seen_led.Led) (old new : Seen) (out : List ℕ) (g : keeping.Kept)
+pub carried_leaves : (q : ReqSetup) (h : History) (request : RequestMessage) (carried : Carried) (led : seen_led.ReplyOutcome) (old new : Seen) (out : List ℕ) (g : keeping.Kept)
     → IsCarried q h request carried led old new out → ((next : Sent) → carried ≡ Further next → is_no_get next.aim ≡ true) → g.max ≡ q.max → Leaves q carried led g g
 carried_leaves q h request carried (seen.Ignored cause) old new out g is asks max = refl
 carried_leaves q h request carried (seen.Rests told) old new out g is asks max = max

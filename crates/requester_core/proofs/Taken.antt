@@ -3,8 +3,8 @@ use Rattle.std.proofs.Common.{◌≡◌, ◌∙◌, ◌∷◌, ap, sym, subst, �
 use Rattle.std.specs.Prelude.{Result, Ok, Err}
 use Rattle.requester_core.specs.Led.{Follows, IsCarried, IsLed, IsTaken, SendsNext, Stands}
 use Rattle.requester_core.specs.Talk.{Seen, Shows}
-use Rattle.requester_core.specs.declared.clear.led.Led as seen_led
-use Rattle.requester_core.specs.declared.clear.led.Led.TheVariants as seen
+use Rattle.requester_core.specs.declared.clear.reply_outcome.ReplyOutcome as seen_led
+use Rattle.requester_core.specs.declared.clear.reply_outcome.ReplyOutcome.TheVariants as seen
 use Rattle.requester_core.specs.declared.clear.waiting.Way.TheVariants as ways
 use Rattle.requester_machine.proofs.ClearLeads.{clear_leads}
 use Rattle.requester_machine.proofs.Holds.{awaited}
@@ -68,7 +68,7 @@ get_aim (InSession id ask) request handle number asks way = absurd (cc asks)
 -- ---- What comes of the message.
 
 -- What is kept follows where the message led to something.
-follows_led : (h : History) (leads : Result Led ReqIgnored) (told : seen_led.Led) (old new : Seen) (out : List ℕ) (led : Led) → IsLed h leads told old new out → leads ≡ Ok led → Follows h led new
+follows_led : (h : History) (leads : Result Led ReqIgnored) (told : seen_led.ReplyOutcome) (old new : Seen) (out : List ℕ) (led : Led) → IsLed h leads told old new out → leads ≡ Ok led → Follows h led new
 follows_led h leads (seen.Ignored cause) old new out led is ok = absurd (let no : Err cause ≡ Ok led = sym is.0 ∙ ok in cc no)
 follows_led h leads (seen.Rests event) old new out led is ok = (let same : is.0 ≡ led = (let e : Ok is.0 ≡ Ok led = sym is.1 ∙ ok in cc e) in subst (λ (l : Led). Follows h l new) same is.2.follows)
 follows_led h leads (seen.Sends tag) old new out led is ok = (let same : is.0 ≡ led = (let e : Ok is.0 ≡ Ok led = sym is.1 ∙ ok in cc e) in subst (λ (l : Led). Follows h l new) same is.4.follows)
@@ -76,7 +76,7 @@ follows_led h leads (seen.Large tag) old new out led is ok = (let same : is.0 �
 follows_led h leads (seen.More tag) old new out led is ok = absurd is
 follows_led h leads seen.Exchange old new out led is ok = absurd is
 
-pub stands_led : (q : ReqSetup) (h : History) (f : Free) (sent : Sent) (request : RequestMessage) (m : List ℕ) (told : seen_led.Led) (old new : Seen) (out : List ℕ) → Holds q h → outstanding h ≡ Some sent → asked_in sent.aim ≡ Some request
+pub stands_led : (q : ReqSetup) (h : History) (f : Free) (sent : Sent) (request : RequestMessage) (m : List ℕ) (told : seen_led.ReplyOutcome) (old new : Seen) (out : List ℕ) → Holds q h → outstanding h ≡ Some sent → asked_in sent.aim ≡ Some request
     → IsLed h (clear_led q h f sent.aim request m) told old new out → Stands q h m (clear_led q h f sent.aim request m) new
 stands_led q h f sent request m told old new out holds waits asks is = λ led tag d ok. record {
   holds = clear_holds q h f tag m led d sent request waits asks (clear_leads q h f sent.aim m request led asks ok) holds;
@@ -87,7 +87,7 @@ pub carried_leads : (q : ReqSetup) (h : History) (f : Free) (sent : Sent) (reque
 unfolding clear_led
 carried_leads q h f sent request m carried is = ap (carried_led q h f request) is
 
-led_taken : (q : ReqSetup) (h : History) (sent : Sent) (request : RequestMessage) (m : List ℕ) (carried : Carried) (told : seen_led.Led) (old new : Seen) (out : List ℕ) → Holds q h → outstanding h ≡ Some sent → asked_in sent.aim ≡ Some request
+led_taken : (q : ReqSetup) (h : History) (sent : Sent) (request : RequestMessage) (m : List ℕ) (carried : Carried) (told : seen_led.ReplyOutcome) (old new : Seen) (out : List ℕ) → Holds q h → outstanding h ≡ Some sent → asked_in sent.aim ≡ Some request
     → carried_by q h m sent.aim ≡ carried → ((f : Free) → IsLed h (carried_led q h f request carried) told old new out)
     → (f : Free) → IsLed h (clear_led q h f sent.aim request m) told old new out × Stands q h m (clear_led q h f sent.aim request m) new
 led_taken q h sent request m carried told old new out holds waits asks is leads = λ f.
@@ -101,7 +101,7 @@ more_stands q h f sent request m next its_tag new out holds waits asks is sends 
   shows = (let same : goes_on Nothing next ≡ led = (let e : Ok (goes_on Nothing next) ≡ Ok led = sym is ∙ ok in cc e) in subst (λ (l : Led). Shows new (TookClear tag m l d ∷ h)) same (sends.follows tag m d));
 }
 
-pub taken : (q : ReqSetup) (h : History) (sent : Sent) (request : RequestMessage) (m : List ℕ) (carried : Carried) (told : seen_led.Led) (old new : Seen) (out : List ℕ) → Holds q h → outstanding h ≡ Some sent → asked_in sent.aim ≡ Some request
+pub taken : (q : ReqSetup) (h : History) (sent : Sent) (request : RequestMessage) (m : List ℕ) (carried : Carried) (told : seen_led.ReplyOutcome) (old new : Seen) (out : List ℕ) → Holds q h → outstanding h ≡ Some sent → asked_in sent.aim ≡ Some request
     → carried_by q h m sent.aim ≡ carried → IsCarried q h request carried told old new out → IsTaken q h sent request m told old new out
 taken q h sent request m carried (seen.Ignored cause) old new out holds waits asks is leads = led_taken q h sent request m carried (seen.Ignored cause) old new out holds waits asks is leads
 taken q h sent request m carried (seen.Rests event) old new out holds waits asks is leads = led_taken q h sent request m carried (seen.Rests event) old new out holds waits asks is leads

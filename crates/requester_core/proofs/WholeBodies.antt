@@ -41,8 +41,8 @@ use Rattle.requester_core.specs.Led.{IsExchange}
 use Rattle.requester_core.specs.Talk.{Seen}
 use Rattle.requester_core.specs.Waiting.{kind_of}
 use Rattle.requester_core.specs.declared.clear.heard.Heard.TheVariants as told
-use Rattle.requester_core.specs.declared.clear.led.Led as seen_led
-use Rattle.requester_core.specs.declared.clear.led.Led.TheVariants as seen
+use Rattle.requester_core.specs.declared.clear.reply_outcome.ReplyOutcome as seen_led
+use Rattle.requester_core.specs.declared.clear.reply_outcome.ReplyOutcome.TheVariants as seen
 use Rattle.requester_core.specs.declared.clear.waiting.Asked.{Asked}
 use Rattle.requester_core.specs.declared.clear.waiting.Asked.TheVariants as asks
 use Rattle.requester_core.proofs.Answered.{any_free}
@@ -166,7 +166,7 @@ rest_heard q h owner tag body _ event old new out rests = λ f d.
     record { led = r.led; event = r.event; next = r.next; sessions = r.sessions; entered = r.entered }
 
 -- What the clear part says of it, in terms of the whole body.
-pub clear_heard : (q : ReqSetup) (h : History) (owner : Bool) (tag : ℕ) (body : List ℕ) (sent : Sent) (request : RequestMessage) (led : seen_led.Led) (old new : Seen) (out : List ℕ) → Holds q h → outstanding h ≡ Some sent → asked_in sent.aim ≡ Some request
+pub clear_heard : (q : ReqSetup) (h : History) (owner : Bool) (tag : ℕ) (body : List ℕ) (sent : Sent) (request : RequestMessage) (led : seen_led.ReplyOutcome) (old new : Seen) (out : List ℕ) → Holds q h → outstanding h ≡ Some sent → asked_in sent.aim ≡ Some request
     → ((f : Free) (d : Draw) → hears q h owner tag body f d ≡ clear_outcome tag (drop 1 body) d (clear_led q h f sent.aim request (drop 1 body)))
     → led_specs.IsTaken q h sent request (drop 1 body) led old new out → IsHeard q h owner tag body (heard_of (kind_of request) led) old new out
 clear_heard q h owner tag body sent request (seen.Ignored cause) old new out holds waits asks is taken =
@@ -228,7 +228,7 @@ rest_gathers : (q : ReqSetup) (h : History) (owner : Bool) (tag : ℕ) (body : L
 rest_gathers q h owner tag body (asks.Exchange id summary) event old new gathers = gathers
 rest_gathers q h owner tag body _ event old new gathers = gathers
 
-pub clear_gathers : (q : ReqSetup) (h : History) (owner : Bool) (tag : ℕ) (body : List ℕ) (sent : Sent) (request : RequestMessage) (asked : Asked) (led : seen_led.Led) (old new : keeping.Kept)
+pub clear_gathers : (q : ReqSetup) (h : History) (owner : Bool) (tag : ℕ) (body : List ℕ) (sent : Sent) (request : RequestMessage) (asked : Asked) (led : seen_led.ReplyOutcome) (old new : keeping.Kept)
     → ((f : Free) (d : Draw) → hears q h owner tag body f d ≡ clear_outcome tag (drop 1 body) d (clear_led q h f sent.aim request (drop 1 body)))
     → Gathered q h sent request (drop 1 body) led old new → IsRegathered q h owner tag body (heard_of asked led) old new
 clear_gathers q h owner tag body sent request asked (seen.Ignored cause) old new is gathered = gathered

@@ -3,8 +3,8 @@ use Rattle.std.specs.Prelude.{⊤, ◌≡◌, ◌==◌, not, if◌then◌else◌
 use Rattle.chunking.specs.Keeping as keeping
 use Rattle.requester_core.specs.Led.{IsCarried}
 use Rattle.requester_core.specs.Talk.{Seen}
-use Rattle.requester_core.specs.declared.clear.led.Led as seen_led
-use Rattle.requester_core.specs.declared.clear.led.Led.TheVariants as seen
+use Rattle.requester_core.specs.declared.clear.reply_outcome.ReplyOutcome as seen_led
+use Rattle.requester_core.specs.declared.clear.reply_outcome.ReplyOutcome.TheVariants as seen
 use Rattle.requester_machine.specs.ClearAnswers.{Carried, clear_led}
 use Rattle.requester_machine.specs.ClearAnswers.Carried.{Further}
 use Rattle.requester_machine.specs.Commands.{Free}
@@ -40,7 +40,7 @@ pub record Gathers (q : ReqSetup) (outstanding : Option Sent) (gathered : keepin
 
 -- What a message that is this leaves of what was gathered: all of it where nothing changed, and what the next message
 -- asks for a chunk after.
-abbrev pub Leaves : ReqSetup → Carried → seen_led.Led → (old new : keeping.Kept) → Type 0
+abbrev pub Leaves : ReqSetup → Carried → seen_led.ReplyOutcome → (old new : keeping.Kept) → Type 0
 Leaves q carried (seen.Ignored cause) old new = new ≡ old
 Leaves q carried seen.Exchange old new = new ≡ old
 Leaves q carried (seen.More tag) old new = (next : Sent) × (carried ≡ Further next)
@@ -49,14 +49,14 @@ Leaves q carried _ old new = new.max ≡ q.max
 
 -- A message came to CHUNK_GET that is this to a request.
 pub record IsFetched (q : ReqSetup) (h : History) (request : RequestMessage) (carried : Carried)
-    (led : seen_led.Led) (old new : Seen) (before after : keeping.Kept) (out : List ℕ) : Type 0
+    (led : seen_led.ReplyOutcome) (old new : Seen) (before after : keeping.Kept) (out : List ℕ) : Type 0
   where
     pub carries : IsCarried q h request carried led old new out
     pub leaves : Leaves q carried led before after
 
 -- What a message in the clear to the outstanding one leaves of what was gathered: all of it where nothing changed, and
 -- else what is gathered while the next message is outstanding.
-abbrev pub Gathered : ReqSetup → History → Sent → RequestMessage → List ℕ → seen_led.Led
+abbrev pub Gathered : ReqSetup → History → Sent → RequestMessage → List ℕ → seen_led.ReplyOutcome
     → (old new : keeping.Kept) → Type 0
 Gathered q h sent request m (seen.Ignored cause) old new = new ≡ old
 Gathered q h sent request m seen.Exchange old new = new ≡ old

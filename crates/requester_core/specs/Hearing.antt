@@ -4,8 +4,8 @@ use Rattle.requester_core.specs.Gathering.{Gathers}
 use Rattle.requester_core.specs.Talk.{Seen, StandsFor}
 use Rattle.requester_core.specs.declared.clear.heard.Heard as seen_heard
 use Rattle.requester_core.specs.declared.clear.heard.Heard.TheVariants as heard
-use Rattle.requester_core.specs.declared.clear.led.Led as seen_led
-use Rattle.requester_core.specs.declared.clear.led.Led.TheVariants as seen
+use Rattle.requester_core.specs.declared.clear.reply_outcome.ReplyOutcome as seen_led
+use Rattle.requester_core.specs.declared.clear.reply_outcome.ReplyOutcome.TheVariants as seen
 use Rattle.requester_core.specs.declared.clear.waiting.Asked.{Asked}
 use Rattle.requester_core.specs.declared.clear.waiting.Asked.TheVariants as asks
 use Rattle.chunking.specs.Keeping as keeping
@@ -45,7 +45,7 @@ rested (asks.Exchange id summary) told = heard.Closes id told
 rested _ told = heard.Rests told
 
 -- What is reported of a body that is a message in the clear to a request that asks this.
-abbrev pub heard_of : Asked → seen_led.Led → seen_heard.Heard
+abbrev pub heard_of : Asked → seen_led.ReplyOutcome → seen_heard.Heard
 heard_of asked (seen.Ignored cause) = heard.Ignored cause
 heard_of asked (seen.Rests told) = rested asked told
 heard_of asked (seen.Sends tag) = heard.Sends tag

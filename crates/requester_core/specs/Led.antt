@@ -1,8 +1,8 @@
 -- What comes of a message in the clear.
 use Rattle.std.specs.Prelude.{◌≡◌, ◌∷◌, ℕ, List, [], Bool, true, false, Some, None, Result, Ok, Err}
 use Rattle.requester_core.specs.Talk.{Seen, Shows, StandsFor}
-use Rattle.requester_core.specs.declared.clear.led.Led as seen_led
-use Rattle.requester_core.specs.declared.clear.led.Led.TheVariants as seen
+use Rattle.requester_core.specs.declared.clear.reply_outcome.ReplyOutcome as seen_led
+use Rattle.requester_core.specs.declared.clear.reply_outcome.ReplyOutcome.TheVariants as seen
 use Rattle.requester_machine.specs.Answers.{goes_on}
 use Rattle.requester_machine.specs.ClearAnswers.{Carried, carried_by, carried_led, clear_led, read_led, reading_of}
 use Rattle.requester_machine.specs.ClearAnswers.Carried.{Further, Whole}
@@ -23,13 +23,13 @@ use Rattle.spdm_grammar.specs.declared.told.event.ReqIgnored.{ReqIgnored}
 use Rattle.spdm_machine.specs.Keys.{Draw}
 
 -- Nothing changed.
-abbrev pub changes_nothing : seen_led.Led → Bool
+abbrev pub changes_nothing : seen_led.ReplyOutcome → Bool
 changes_nothing (seen.Ignored cause) = true
 changes_nothing seen.Exchange = true
 changes_nothing _ = false
 
 -- It calls for the first chunk of a large response.
-abbrev pub is_large : seen_led.Led → Bool
+abbrev pub is_large : seen_led.ReplyOutcome → Bool
 is_large (seen.Large tag) = true
 is_large _ = false
 
@@ -64,7 +64,7 @@ abbrev pub IsFirstGet : Aim → Type 0
 IsFirstGet aim = (request : RequestMessage) × (handle : ℕ) × (aim ≡ ForChunk request handle 0 [])
 
 -- By what is told: the message is ignored, and nothing changes; or it leads to this.
-abbrev pub IsLed : History → Result Led ReqIgnored → seen_led.Led → (old new : Seen)
+abbrev pub IsLed : History → Result Led ReqIgnored → seen_led.ReplyOutcome → (old new : Seen)
     → (out : List ℕ) → Type 0
 IsLed h leads (seen.Ignored cause) old new out = (leads ≡ Err cause) × (new ≡ old)
 IsLed h leads (seen.Rests told) old new out = (led : Led) × (leads ≡ Ok led) × Rests h led told new
@@ -87,14 +87,14 @@ pub record IsExchange (h : History) (request : RequestMessage) (answer : List �
 
 -- A whole answer to a request came, at this place of its message.
 abbrev pub IsAnswered : ReqSetup → History → (place : ℕ) → RequestMessage → (answer : List ℕ)
-    → seen_led.Led → (old new : Seen) → (out : List ℕ) → Type 0
+    → seen_led.ReplyOutcome → (old new : Seen) → (out : List ℕ) → Type 0
 IsAnswered q h place request answer seen.Exchange old new out =
     IsExchange h request answer old new out
 IsAnswered q h place request answer led old new out = (f : Free)
     → IsLed h (read_led q h f place request answer (reading_of h request answer)) led old new out
 
 -- A message came that is this to a request.
-abbrev pub IsCarried : ReqSetup → History → RequestMessage → Carried → seen_led.Led
+abbrev pub IsCarried : ReqSetup → History → RequestMessage → Carried → seen_led.ReplyOutcome
     → (old new : Seen) → (out : List ℕ) → Type 0
 IsCarried q h request carried seen.Exchange old new out = (answer : List ℕ) × (place : ℕ)
     × (carried ≡ Whole answer place) × IsExchange h request answer old new out
@@ -110,7 +110,7 @@ Stands q h m leads new = (led : Led) (tag : ℕ) (d : Draw) → leads ≡ Ok led
 
 -- A message in the clear came to the outstanding one, which asks this: it leads to what it leads to in the definitions
 -- under any free values; or it brings the PSK_EXCHANGE_RSP that is awaited, which is written, and nothing changes.
-abbrev pub IsTaken : ReqSetup → History → Sent → RequestMessage → List ℕ → seen_led.Led
+abbrev pub IsTaken : ReqSetup → History → Sent → RequestMessage → List ℕ → seen_led.ReplyOutcome
     → (old new : Seen) → (out : List ℕ) → Type 0
 IsTaken q h sent request m seen.Exchange old new out = (answer : List ℕ) × (place : ℕ)
     × (carried_by q h m sent.aim ≡ Whole answer place) × IsExchange h request answer old new out

@@ -20,7 +20,7 @@ ghost use Rattle.requester_core.specs.Waiting.{kind_of, way_of};
 ghost use Rattle.requester_core.specs.declared.clear.waiting.Way.TheVariants as ways;
 
 use crate::clear::bodies::error_in;
-use crate::{Asked, Led, Setup, Talk, Waiting, Way};
+use crate::{Asked, ReplyOutcome, Setup, Talk, Waiting, Way};
 use chunking::Collector;
 use spdm_basis::Frame;
 use spdm_grammar::{ReqIgnored, Response};
@@ -78,7 +78,7 @@ impl Talk {
         piece: &Piece,
         ack: &Ack<'_>,
         out: &mut Frame,
-    ) -> Led
+    ) -> ReplyOutcome
         ensures { (q : ReqSetup) (h : History) (request : RequestMessage) → IsSetUp setup.now q
             → Shows self.old h → IsAwaited q h request → kind_of request ≡ asked
             → self.old.outgoing.request ≡ canonical_request request
@@ -95,7 +95,7 @@ impl Talk {
             result self.old self.new out.new }
     {
         if let Some(cause) = ack.fault(piece) {
-            return Led::Ignored(cause);
+            return ReplyOutcome::Ignored(cause);
         }
         if ack.early {
             return self.refuse(asked, error_in(ack.response).unwrap_or(0));
@@ -108,7 +108,7 @@ impl Talk {
             number: piece.number.saturating_add(1),
         };
         let transfer = self.negotiating.common().to_responder.transfer;
-        Led::Sends {
+        ReplyOutcome::Sends {
             tag: self.outgoing.send(asked, way, transfer, out),
         }
     }
@@ -122,7 +122,7 @@ impl Talk {
         number: u16,
         message: &[u8],
         out: &mut Frame,
-    ) -> Led
+    ) -> ReplyOutcome
         ensures { (q : ReqSetup) (h : History) (request : RequestMessage) → IsSetUp setup.now q
             → Shows self.old h → IsAwaited q h request → kind_of request ≡ asked
             → self.old.outgoing.request ≡ canonical_request request
@@ -135,7 +135,7 @@ impl Talk {
     {
         let response = match self.read(asked, message) {
             Ok(response) => response,
-            Err(fault) => return Led::Ignored(ReqIgnored::Malformed(fault.at)),
+            Err(fault) => return ReplyOutcome::Ignored(ReqIgnored::Malformed(fault.at)),
         };
         match response {
             Response::Error { code, .. } => self.refuse(asked, code),
@@ -160,7 +160,7 @@ impl Talk {
                 };
                 self.on_ack(setup, asked, &piece, &ack, out)
             }
-            _ => Led::Ignored(ReqIgnored::Malformed(1)),
+            _ => ReplyOutcome::Ignored(ReqIgnored::Malformed(1)),
         }
     }
 
@@ -173,7 +173,7 @@ impl Talk {
         gathered: &mut Collector,
         message: &[u8],
         out: &mut Frame,
-    ) -> Led
+    ) -> ReplyOutcome
         ensures { (q : ReqSetup) (h : History) (sent : Sent) (request : RequestMessage)
             → IsSetUp setup.now q → StandsFor self.old q h → outstanding h ≡ Some sent
             → Gathers q (outstanding h) gathered.old → asked_in sent.aim ≡ Some request
@@ -200,7 +200,7 @@ impl Talk {
         gathered: &mut Collector,
         message: &[u8],
         out: &mut Frame,
-    ) -> Led
+    ) -> ReplyOutcome
         ensures { (q : ReqSetup) (h : History) (sent : Sent) (request : RequestMessage)
             → IsSetUp setup.now q → StandsFor self.old q h → outstanding h ≡ Some sent
             → Gathers q (outstanding h) gathered.old → asked_in sent.aim ≡ Some request
@@ -213,7 +213,7 @@ impl Talk {
                 self.on_way(setup, asked, way, gathered, message, out)
             }
             Waiting::Nothing | Waiting::InSession { .. } => {
-                Led::Ignored(ReqIgnored::NothingOutstanding)
+                ReplyOutcome::Ignored(ReqIgnored::NothingOutstanding)
             }
         }
     }
@@ -227,7 +227,7 @@ impl Talk {
         gathered: &mut Collector,
         message: &[u8],
         out: &mut Frame,
-    ) -> Led
+    ) -> ReplyOutcome
         ensures taken { (q : ReqSetup) (h : History) (sent : Sent) (request : RequestMessage)
             → IsSetUp setup.now q → StandsFor self.old q h → outstanding h ≡ Some sent
             → Gathers q (outstanding h) gathered.old → asked_in sent.aim ≡ Some request

@@ -27,7 +27,7 @@ ghost use Rattle.requester_core.specs.Talk.{Shows, StandsFor};
 ghost use Rattle.requester_core.specs.Waiting.{IsClearRequest, kind_of};
 
 use crate::clear::commands::is_too_long;
-use crate::{Asked, Led, Setup, Talk, Way};
+use crate::{Asked, ReplyOutcome, Setup, Talk, Way};
 use negotiate::{Common, agrees, choose_version, common, own_offer};
 use spdm_basis::Frame;
 use spdm_codec::read_response;
@@ -72,24 +72,24 @@ impl Talk {
     }
 
     // The request was refused with an ERROR of this code.
-    pub(crate) fn refuse(&mut self, asked: Asked, code: u8) -> Led
+    pub(crate) fn refuse(&mut self, asked: Asked, code: u8) -> ReplyOutcome
         ensures { (h : History) (request : RequestMessage) (out : List ℕ) → Shows self.old h
             → IsClearRequest request → kind_of request ≡ asked
             → IsLed h (Ok (is_refused code (Refuses request))) result self.old self.new out }
     {
         self.negotiating.refuse(asked.negotiates());
         self.outgoing.rest();
-        Led::Rests(Event::Refused(code))
+        ReplyOutcome::Rests(Event::Refused(code))
     }
 
     // The negotiation stops.
-    fn stop(&mut self, why: Stop) -> Led
+    fn stop(&mut self, why: Stop) -> ReplyOutcome
         ensures { (h : History) (out : List ℕ) → Shows self.old h
             → IsLed h (Ok (stopped why)) result self.old self.new out }
     {
         self.negotiating.stop();
         self.outgoing.rest();
-        Led::Rests(Event::Stopped(why))
+        ReplyOutcome::Rests(Event::Stopped(why))
     }
 
     // Whether an ERROR of this code calls for a large response.
@@ -110,7 +110,7 @@ impl Talk {
         code: u8,
         extended: &[u8],
         out: &mut Frame,
-    ) -> Led
+    ) -> ReplyOutcome
         ensures { (h : History) (request : RequestMessage) → Shows self.old h
             → self.old.outgoing.request ≡ canonical_request request
             → IsClearRequest request → kind_of request ≡ asked
@@ -123,7 +123,7 @@ impl Talk {
                 handle: first_byte(extended),
                 number: 0,
             };
-            return Led::Large {
+            return ReplyOutcome::Large {
                 tag: self.outgoing.send(asked, way, 0, out),
             };
         }
@@ -137,7 +137,7 @@ impl Talk {
         answer: &[u8],
         entries: &[u8],
         out: &mut Frame,
-    ) -> Led
+    ) -> ReplyOutcome
         ensures { (q : ReqSetup) (h : History) → IsSetUp setup.now q → Shows self.old h
             → self.old.outgoing.request ≡ canonical_request GetVersion
             → IsUpTo GetVersion (negotiation_of h) → length answer.now ≤ MAX_MESSAGE_SIZE
@@ -151,7 +151,7 @@ impl Talk {
             .take_version(self.outgoing.request(), answer);
         self.outgoing
             .keep(&Request::GetCapabilities(setup.caps()), 0);
-        Led::Sends {
+        ReplyOutcome::Sends {
             tag: self.outgoing.send(Asked::Capabilities, Way::Whole, 0, out),
         }
     }
@@ -163,7 +163,7 @@ impl Talk {
         answer: &[u8],
         theirs: &Caps,
         out: &mut Frame,
-    ) -> Led
+    ) -> ReplyOutcome
         ensures { (q : ReqSetup) (h : History) (caps : Caps) → IsSetUp setup.now q
             → Shows self.old h
             → caps ≡ requester_caps q
@@ -181,7 +181,13 @@ impl Talk {
     }
 
     // What both ends can do was settled by CAPABILITIES: the own algorithms are offered.
-    fn offer(&mut self, setup: &Setup<'_>, answer: &[u8], common: Common, out: &mut Frame) -> Led
+    fn offer(
+        &mut self,
+        setup: &Setup<'_>,
+        answer: &[u8],
+        common: Common,
+        out: &mut Frame,
+    ) -> ReplyOutcome
         ensures { (q : ReqSetup) (h : History) (caps theirs : Caps) → IsSetUp setup.now q
             → Shows self.old h → caps ≡ requester_caps q
             → self.old.outgoing.request ≡ canonical_request (GetCapabilities caps)
@@ -201,7 +207,7 @@ impl Talk {
         self.negotiating
             .take_capabilities(self.outgoing.request(), answer, common);
         self.outgoing.keep(&Request::NegotiateAlgorithms(offer), 0);
-        Led::Sends {
+        ReplyOutcome::Sends {
             tag: self.outgoing.send_request(transfer, Asked::Algorithms, out),
         }
     }
@@ -212,7 +218,7 @@ impl Talk {
         setup: &Setup<'_>,
         answer: &[u8],
         reply: &AlgReply<'_>,
-    ) -> Led
+    ) -> ReplyOutcome
         ensures { (q : ReqSetup) (h : History) (offer : OfferMessage) (out : List ℕ)
             → IsSetUp setup.now q → Shows self.old h
             → self.old.outgoing.request ≡ canonical_request (NegotiateAlgorithms offer)
@@ -234,11 +240,11 @@ impl Talk {
         self.negotiating
             .take_algorithms(self.outgoing.request(), answer, choice);
         self.outgoing.rest();
-        Led::Rests(Event::Done(Finished::Connected))
+        ReplyOutcome::Rests(Event::Done(Finished::Connected))
     }
 
     // MEASUREMENTS: the command is done.
-    pub(crate) fn on_measurements(&mut self, op: u8, measured: &Measured<'_>) -> Led
+    pub(crate) fn on_measurements(&mut self, op: u8, measured: &Measured<'_>) -> ReplyOutcome
         ensures { (h : History) (answer out : List ℕ) → Shows self.old h
             → length answer ≤ MAX_MESSAGE_SIZE
             → reading_of h (GetMeasurements op) answer
@@ -249,6 +255,6 @@ impl Talk {
         self.brought.clear();
         let _ = self.brought.extend(measured.block_bytes);
         self.outgoing.rest();
-        Led::Rests(Event::Done(Finished::Measured(measured_number(op, measured))))
+        ReplyOutcome::Rests(Event::Done(Finished::Measured(measured_number(op, measured))))
     }
 }

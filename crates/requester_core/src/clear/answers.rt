@@ -13,7 +13,7 @@ ghost use Rattle.requester_core.specs.Setup.{IsSetUp};
 ghost use Rattle.requester_core.specs.Talk.{Shows, StandsFor};
 ghost use Rattle.requester_core.specs.Waiting.{kind_of};
 
-use crate::{Asked, Led, Setup, Talk};
+use crate::{Asked, ReplyOutcome, Setup, Talk};
 use spdm_basis::Frame;
 use spdm_grammar::{ReqIgnored, Response};
 
@@ -45,7 +45,7 @@ impl Talk {
         response: Response<'_>,
         place: usize,
         out: &mut Frame,
-    ) -> Led
+    ) -> ReplyOutcome
         requires { place ≤ 6 }
         ensures { (q : ReqSetup) (h : History) (request : RequestMessage) → IsSetUp setup.now q
             → Shows self.old h → IsAwaited q h request → kind_of request ≡ asked
@@ -72,9 +72,9 @@ impl Talk {
             }
             (Asked::Exchange { .. }, Response::PskExchangeRsp(_)) => {
                 put(answer, out);
-                Led::Exchange
+                ReplyOutcome::Exchange
             }
-            _ => Led::Ignored(ReqIgnored::Malformed(place + 1)),
+            _ => ReplyOutcome::Ignored(ReqIgnored::Malformed(place + 1)),
         }
     }
 
@@ -87,7 +87,7 @@ impl Talk {
         answer: &[u8],
         place: usize,
         out: &mut Frame,
-    ) -> Led
+    ) -> ReplyOutcome
         requires { place ≤ 6 }
         ensures { (q : ReqSetup) (h : History) (request : RequestMessage) → IsSetUp setup.now q
             → Shows self.old h → IsAwaited q h request → kind_of request ≡ asked
@@ -98,7 +98,7 @@ impl Talk {
     {
         match self.read(asked, answer) {
             Ok(response) => self.on_response(setup, asked, answer, response, place, out),
-            Err(fault) => Led::Ignored(ReqIgnored::Malformed(place_of(fault.at, place))),
+            Err(fault) => ReplyOutcome::Ignored(ReqIgnored::Malformed(place_of(fault.at, place))),
         }
     }
 }

@@ -17,7 +17,7 @@ ghost use Rattle.requester_core.specs.Setup.{IsSetUp};
 ghost use Rattle.requester_core.specs.Talk.{Shows};
 ghost use Rattle.requester_core.specs.Waiting.{kind_of};
 
-use crate::{Asked, Led, Setup, Talk, Way};
+use crate::{Asked, ReplyOutcome, Setup, Talk, Way};
 use chunking::{Collected, Collector};
 use spdm_basis::Frame;
 use spdm_grammar::{ChunkFault, ChunkView, ReqIgnored, Response};
@@ -60,7 +60,7 @@ impl Talk {
         chunk: ChunkView<'_>,
         gathered: &mut Collector,
         out: &mut Frame,
-    ) -> Led
+    ) -> ReplyOutcome
         ensures { (q : ReqSetup) (h : History) (request : RequestMessage)
             (before : List ChunkMessage) → IsSetUp setup.now q → Shows self.old h
             → IsAwaited q h request → kind_of request ≡ asked
@@ -75,8 +75,8 @@ impl Talk {
     {
         let before = gathered.copy();
         match gathered.take(chunk) {
-            Collected::Refused(fault) => Led::Ignored(ReqIgnored::Chunk(fault)),
-            Collected::More => Led::More {
+            Collected::Refused(fault) => ReplyOutcome::Ignored(ReqIgnored::Chunk(fault)),
+            Collected::More => ReplyOutcome::More {
                 tag: self.fetch(asked, chunk.handle, chunk.number, out),
             },
             Collected::Whole(answer) => {
@@ -99,7 +99,7 @@ impl Talk {
         gathered: &mut Collector,
         message: &[u8],
         out: &mut Frame,
-    ) -> Led
+    ) -> ReplyOutcome
         ensures { (q : ReqSetup) (h : History) (request : RequestMessage)
             (before : List ChunkMessage) → IsSetUp setup.now q → Shows self.old h
             → IsAwaited q h request → kind_of request ≡ asked
@@ -113,15 +113,15 @@ impl Talk {
     {
         let response = match self.read(asked, message) {
             Ok(response) => response,
-            Err(fault) => return Led::Ignored(ReqIgnored::Malformed(fault.at)),
+            Err(fault) => return ReplyOutcome::Ignored(ReqIgnored::Malformed(fault.at)),
         };
         match response {
             Response::Error { code, .. } => self.refuse(asked, code),
             Response::ChunkResponse(chunk) => match other_chunk(handle, number, chunk) {
-                Some(fault) => Led::Ignored(ReqIgnored::Chunk(fault)),
+                Some(fault) => ReplyOutcome::Ignored(ReqIgnored::Chunk(fault)),
                 None => self.on_chunk(setup, asked, chunk, gathered, out),
             },
-            _ => Led::Ignored(ReqIgnored::Malformed(1)),
+            _ => ReplyOutcome::Ignored(ReqIgnored::Malformed(1)),
         }
     }
 }

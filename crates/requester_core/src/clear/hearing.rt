@@ -7,7 +7,7 @@ ghost use Rattle.requester_core.specs.Setup.{IsSetUp};
 ghost use Rattle.requester_core.specs.Talk.{StandsFor};
 
 use crate::clear::bodies::{error_in, is_clear, message_in};
-use crate::{Asked, Heard, Led, Setup, Talk, Waiting};
+use crate::{Asked, Heard, ReplyOutcome, Setup, Talk, Waiting};
 use chunking::Collector;
 use spdm_basis::Frame;
 use spdm_grammar::{Event, ReqIgnored};
@@ -34,16 +34,18 @@ impl Asked {
     }
 }
 
-impl Led {
+impl ReplyOutcome {
     // What is reported of a body with a message to a request that asks this.
     fn heard(self, asked: Asked) -> Heard
         ensures { result ≡ heard_of asked self }
     {
         match self {
-            Led::Ignored(cause) => Heard::Ignored(cause),
-            Led::Rests(told) => asked.rested(told),
-            Led::Sends { tag } | Led::Large { tag } | Led::More { tag } => Heard::Sends { tag },
-            Led::Exchange => Heard::Exchange {
+            ReplyOutcome::Ignored(cause) => Heard::Ignored(cause),
+            ReplyOutcome::Rests(told) => asked.rested(told),
+            ReplyOutcome::Sends { tag }
+            | ReplyOutcome::Large { tag }
+            | ReplyOutcome::More { tag } => Heard::Sends { tag },
+            ReplyOutcome::Exchange => Heard::Exchange {
                 id: asked.exchange_id(),
             },
         }

@@ -6,7 +6,7 @@ use Rattle.requester_core.proofs.Early.{fault_near}
 use Rattle.requester_core.proofs.Leading.{next_led, piece_small, small_sends}
 use Rattle.requester_core.specs.Led.{IsCarried, SendsNext}
 use Rattle.requester_core.specs.Outgoing.{IsCut, message_for, tag_after}
-use Rattle.requester_core.specs.declared.clear.led.Led.TheVariants as seen
+use Rattle.requester_core.specs.declared.clear.reply_outcome.ReplyOutcome.TheVariants as seen
 use Rattle.requester_core.specs.declared.clear.waiting.Waiting.TheVariants as waits
 use Rattle.requester_core.specs.declared.clear.waiting.Way.{Way}
 use Rattle.requester_core.specs.Talk.{Seen, Shows}

@@ -2,7 +2,7 @@ use spdm_grammar::{Event, ReqIgnored};
 
 /// The outcome of a message in the clear.
 #[derive(Clone, Copy, Debug, PartialEq, Eq)]
-pub enum Led {
+pub enum ReplyOutcome {
     /// It is ignored, and nothing changed.
     Ignored(ReqIgnored),
     /// This is reported, and nothing is outstanding any more.
@@ -18,7 +18,7 @@ pub enum Led {
     Exchange,
 }
 
-impl Led {
+impl ReplyOutcome {
     ghost use Rattle.std.specs.Prelude.{◌≡◌};
     ghost use Rattle.requester_core.specs.Led.{changes_nothing, is_large};
 
@@ -26,13 +26,13 @@ impl Led {
     pub(crate) fn changes_nothing(&self) -> bool
         ensures { result ≡ changes_nothing self.now }
     {
-        matches!(self, Led::Ignored(_) | Led::Exchange)
+        matches!(self, ReplyOutcome::Ignored(_) | ReplyOutcome::Exchange)
     }
 
     // Whether it calls for the first chunk of a large response.
     pub(crate) fn is_large(&self) -> bool
         ensures { result ≡ is_large self.now }
     {
-        matches!(self, Led::Large { .. })
+        matches!(self, ReplyOutcome::Large { .. })
     }
 }
