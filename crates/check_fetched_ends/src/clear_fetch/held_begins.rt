@@ -132,7 +132,7 @@ pub fn begins_held(
         party
             .answerer
             .connection
-            .pass_unseen(tag, message, reply, exchange);
+            .skip_large_response(tag, message, reply, exchange);
         let change = party.change(None, None, None);
         table.take(&mut party.places, party.number, &change)?;
         return Ok(BegunHeld::Passed);

@@ -7,7 +7,7 @@ impl Standing {
     ghost use Rattle.responder_core.specs.Standing.{StandsFor};
     ghost use Rattle.responder_core.specs.UnseenRequests.{IsUnseenTurn};
 
-    fn pass_unseen(&mut self)
+    fn skip_large_response(&mut self)
         ensures { (t : Turn) (older : List Turn) → IsUnseenTurn t → StandsFor self.old older
             → StandsFor self.new (t ∷ older) }
     {
@@ -22,11 +22,11 @@ impl Requests {
     ghost use Rattle.responder_core.specs.Coming.{StandsFor};
     ghost use Rattle.responder_core.specs.UnseenRequests.{IsUnseenTurn};
 
-    fn pass_unseen(&mut self)
+    fn skip_large_response(&mut self)
         ensures { (r : RspSetup) (t : Turn) (older : List Turn) → IsUnseenTurn t
             → StandsFor self.old r older → StandsFor self.new r (t ∷ older) }
     {
-        self.standing.pass_unseen();
+        self.standing.skip_large_response();
         self.collector.clear();
     }
 }
@@ -42,13 +42,13 @@ impl ClearPart {
     ghost use Rattle.responder_core.specs.ClearPart.{StandsFor};
     ghost use Rattle.responder_core.specs.UnseenRequests.{IsTurnOf, IsUnseenTurn};
 
-    fn pass_unseen(&mut self, tag: u8, message: &[u8], reply: &[u8])
+    fn skip_large_response(&mut self, tag: u8, message: &[u8], reply: &[u8])
         ensures { (r : RspSetup) (h : History) (t : Turn) (d : Draw) (exchange : Bool)
             → length message.now ≤ MAX_MESSAGE_SIZE → length reply.now ≤ MAX_MESSAGE_SIZE
             → IsUnseenTurn t → IsTurnOf t message.now reply.now exchange → StandsFor self.old r h
             → StandsFor self.new r (Clear tag t d ∷ h) }
     {
-        self.requests.pass_unseen();
+        self.requests.skip_large_response();
         self.kept.keep(tag, message, reply);
     }
 }
@@ -77,7 +77,7 @@ impl Sessions {
         self.ended.clear();
     }
 
-    fn pass_unseen(&mut self, exchange: bool)
+    fn skip_large_response(&mut self, exchange: bool)
         ensures { (r : RspSetup) (h : History) (tag : ℕ) (t : Turn) (d : Draw) → IsUnseenTurn t
             → takes PSK_EXCHANGE t ≡ exchange → StandsFor self.old r h
             → StandsFor self.new r (Clear tag t d ∷ h) }
@@ -104,13 +104,13 @@ impl Connection {
     /// GET_MEASUREMENTS, or PSK_EXCHANGE if `exchange` is set. It is stored with its response, no large response is
     /// pending, and PSK_EXCHANGE removes a session in its handshake and begins none. Message and response have at most
     /// 4,096 bytes.
-    pub fn pass_unseen(&mut self, tag: u8, message: &[u8], reply: &[u8], exchange: bool)
+    pub fn skip_large_response(&mut self, tag: u8, message: &[u8], reply: &[u8], exchange: bool)
         ensures { (r : RspSetup) (h : History) (t : Turn) (d : Draw)
             → length message.now ≤ MAX_MESSAGE_SIZE → length reply.now ≤ MAX_MESSAGE_SIZE
             → IsUnseenTurn t → IsTurnOf t message.now reply.now exchange → StandsFor self.old r h
             → StandsFor self.new r (Clear tag t d ∷ h) }
     {
-        self.clear.pass_unseen(tag, message, reply);
-        self.sessions.pass_unseen(exchange);
+        self.clear.skip_large_response(tag, message, reply);
+        self.sessions.skip_large_response(exchange);
     }
 }

@@ -129,8 +129,8 @@ returns-then-not-heard-clause-told c = λ w q older rows k route keeps below byt
     let its = turn_is w q older k route answer byte limits carries turn type large free in
     let exchange : takes PSK_EXCHANGE t ≡ (c.byte_at-code.result == PSK_EXCHANGE) = its.exchange ∙ ap (λ (n : ℕ). n == PSK_EXCHANGE) (sym code) in
     let is_turn : IsTurnOf t c.behind_type-message.result.now c.behind_type-reply.result.now (c.byte_at-code.result == PSK_EXCHANGE) = record { message = its.message ∙ sym message; reply = its.reply ∙ sym reply; exchange = exchange } in
-    let left = c.pass_unseen.ensures r k.responder t no_draw asked_few given_few (unseen_turn w q older k route answer byte limits carries turn type large free) is_turn standing in
-    let stood = subst (λ (n : ℕ). connected.StandsFor c.pass_unseen.new.self r (Clear n t no_draw ∷ k.responder)) (sym tag) left in
+    let left = c.skip_large_response.ensures r k.responder t no_draw asked_few given_few (unseen_turn w q older k route answer byte limits carries turn type large free) is_turn standing in
+    let stood = subst (λ (n : ℕ). connected.StandsFor c.skip_large_response.new.self r (Clear n t no_draw ∷ k.responder)) (sym tag) left in
     let views = c.change-change.ensures.views r (Clear turn.round.tag t no_draw ∷ k.responder) stood (omega (arith, small)) in
     let there = passed w q older k route answer byte limits carries turn type large free in
     let accepts : accepted_from k turn.round.tag answer ≡ None = accepts_none w q older k route answer byte limits carries turn type large free (kept_asks_none w q older k keeps) in
@@ -142,7 +142,7 @@ returns-then-not-heard-clause-told c = λ w q older rows k route keeps below byt
     (c.take.ensures.table w (length older) (restored k) (restored f.kept) rows change step few number stands party.places) in
     let places = subst (λ (x : Result Unit OutOfMemory). OnOk x (rows_of.StandFor c.take.new.places (restored f.kept) (rows_between (restored k) (restored f.kept) rows))) it
     (c.take.ensures.places w (length older) (restored k) (restored f.kept) rows change step stands party.places) in
-    let last : Party = record c.args.party.now { asker = c.hears-heard.new.self; answerer = record c.tells_large.new.self { connection = c.pass_unseen.new.self }; places = c.take.new.places } in
+    let last : Party = record c.args.party.now { asker = c.hears-heard.new.self; answerer = record c.tells_large.new.self { connection = c.skip_large_response.new.self }; places = c.take.new.places } in
     let asker = subst (λ (n : ℕ). IsAsker c.hears-heard.new.self q (heard_kept k (behind w q older k route answer byte limits carries turn type large) n turn.round answer)) (sym tag ∙ turn.answers.1)
     (c.hears-heard.ensures.kept w q older k (behind w q older k route answer byte limits carries turn type large) turn.round carries below turn.answers.0 tag party.asker) in (
       f.kept,

@@ -1,7 +1,7 @@
 use Rattle.std.proofs.Common.{subst, sym}
 use Rattle.responder_core.proofs.UnseenRequests.{standing_passes}
 use Rattle.responder_core.specs.Standing.{Seen, StandsFor}
-use Rattle.responder_core.proofs.clear.standing.Standing.pass_unseen.Goals as goal
+use Rattle.responder_core.proofs.clear.standing.Standing.skip_large_response.Goals as goal
 
 pub returns : goal.returns
 returns c = λ t older u stands.

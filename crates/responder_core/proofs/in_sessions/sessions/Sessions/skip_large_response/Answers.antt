@@ -1,6 +1,6 @@
 use Rattle.std.proofs.Common.{◌∙◌}
 use Rattle.responder_core.proofs.UnseenRequests.{sessions_pass}
-use Rattle.responder_core.proofs.in_sessions.sessions.Sessions.pass_unseen.Goals as goal
+use Rattle.responder_core.proofs.in_sessions.sessions.Sessions.skip_large_response.Goals as goal
 
 pub returns-then-exchange : goal.returns-then-exchange
 returns-then-exchange c = λ r h tag t d u is stands. c.leave_handshake.ensures r h tag t d u (is ∙ c.if-exchange.true) stands
