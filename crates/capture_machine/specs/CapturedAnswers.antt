@@ -60,7 +60,7 @@ MayLeadTo r h tag body outcome =
     × (length (answer_to r h body f) ≤ MAX_MESSAGE_SIZE)
     × (on_body r h tag body f no_draw ≡ outcome)
 
--- The same, after sessions were dropped unseen.
+-- The same, after sessions were dropped without a trace.
 abbrev pub MayLeadAfter : RspSetup → History → (dropped : List ℕ) → ℕ → List ℕ → Outcome → Type 0
 MayLeadAfter r h dropped tag body outcome = MayDrop h dropped × MayLeadTo r (with_dropped h dropped) tag body outcome
 

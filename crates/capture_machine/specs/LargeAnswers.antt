@@ -92,7 +92,7 @@ abbrev pub with_large : Option ℕ → List ℕ → History → History
 with_large place answer [] = []
 with_large place answer (entry ∷ older) = if is_unseen_in place entry then seen answer entry ∷ older else entry ∷ with_large place answer older
 
--- The history with sessions that were dropped unseen just before the request of that answer.
+-- The history with sessions that were dropped without a trace just before the request of that answer.
 abbrev pub dropped_before_large : Option ℕ → List ℕ → History → History
 dropped_before_large place ids [] = []
 dropped_before_large place ids (entry ∷ older) =
