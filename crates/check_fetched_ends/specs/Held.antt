@@ -1,5 +1,5 @@
--- A large response that is fetched in the clear, as the program keeps it: the connection stands as before its request,
--- and what came since is held beside it. This project's own.
+-- A large response that is fetched in the clear, as the program represents it: the connection stands as before its
+-- request, and what came since is held beside it. This project's own.
 use Rattle.std.specs.Prelude.{◌≡◌, ◌≢◌, ◌≤◌, ◌<◌, ◌+◌, ◌++◌, ◌∷◌, ℕ, List, Option, Some, None, drop, length, slice_index, Bool, true, false, if◌then◌else◌, nat_lt}
 use Rattle.check_responder.specs.AnswerKeys as answer_keys
 use Rattle.check_requester.specs.Asker.{IsAsker}

@@ -1,5 +1,5 @@
--- A large response that is fetched in a session, as the program keeps it: the connection judges with some bytes in its
--- place. This project's own.
+-- A large response that is fetched in a session, as the program represents it: the connection judges with some bytes in
+-- its place. This project's own.
 use Rattle.std.specs.Prelude.{◌≡◌, ◌≤◌, ◌<◌, ◌-◌, ◌==◌, ◌++◌, ◌↔◌, ℕ, List, drop, length, slice_index, Bool, true, false, if◌then◌else◌, Option, Some, None, unwrap_or}
 use Rattle.check_responder.specs.AnswerKeys.{will_take}
 use Rattle.check_ends.specs.Party.{IsBeside}

@@ -35,7 +35,7 @@ pub(crate) fn rsp_id_in(response: &[u8]) -> u16
     LittleEndian::read_u16(&id)
 }
 
-// The session with this RspSessionID is gone, where it may have been dropped unseen.
+// The session with this RspSessionID is gone, where it may have been dropped without a trace.
 fn drop_timed(connection: &mut Connection, id: u16)
     ensures { (r : RspSetup) (h : History) → connected.StandsFor connection.old r h
         → connected.StandsFor connection.new r (with_dropped h (dropped_for h (Some id))) }
