@@ -1,4 +1,4 @@
--- What the program keeps of a large response that is fetched. This project's own.
+-- The program's representation of a large response that is fetched. This project's own.
 use Rattle.std.specs.Prelude.{◌≡◌}
 use Rattle.check_late_laws.specs.Fetching.{Fetching, bytes_of, number_of, size_of}
 use Rattle.check_late_laws.specs.declared.large_answer.LargeAnswer.{LargeAnswer}

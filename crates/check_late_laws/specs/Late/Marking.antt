@@ -1,5 +1,5 @@
--- Which sessions were touched since the newest request in the clear that was taken, as the program keeps it. This project's
--- own.
+-- Which sessions were touched since the newest request in the clear that was taken, as the program represents it. This
+-- project's own.
 use Rattle.std.specs.Prelude.{◌≡◌, ◌≤◌, ◌==◌, ◌||◌, ◌-◌, ◌∷◌, nat_lt, if◌then◌else◌, ℕ, Bool, false, slice_index_or}
 use Rattle.check_late_laws.specs.Late.Passed.{IsBehind, touched}
 use Rattle.check_late_laws.specs.declared.late_fetch.marks.Marks.{Marks}
