@@ -76,7 +76,7 @@ abbrev pub answered_by : Outcome → Option ℕ
 answered_by (Adds (Sealed tag sealed t reply d)) = Some (id_in_record sealed)
 answered_by _ = None
 
--- What an answer changes that goes whole, after sessions were dropped unseen.
+-- What an answer changes that goes whole, after sessions were dropped without a trace.
 abbrev pub WholeAnswerChanges : Type 0
 WholeAnswerChanges = (d next : Dialogue) (ids : List ℕ) (o : Outcome) → next.responder ≡ after (with_dropped d.responder ids) o
     → (begun_between d next ≡ begun_by o) × (answered_between d next ≡ answered_by o)

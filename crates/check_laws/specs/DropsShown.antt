@@ -12,7 +12,7 @@ use Rattle.capture_machine.specs.CapturedAnswers.{AnswersPlainly, belongs_to, is
 use Rattle.capture_machine.specs.LargeAnswers.{judging}
 use Rattle.capture_machine.specs.Rounds.{Dialogue, Round, no_draw}
 
--- The session of this id is live and timed, so it may have been dropped unseen.
+-- The session of this id is live and timed, so it may have been dropped without a trace.
 abbrev pub may_be_dropped : History → ℕ → Bool
 may_be_dropped h id = is_live (session_of id h) && is_timed (session_of id h)
 

@@ -1,4 +1,4 @@
--- What the program keeps of a capture's order, and what it tells of a packet. This project's own.
+-- The program's representation of a capture's order, and what it tells of a packet. This project's own.
 use Rattle.std.specs.Prelude.{◌≡◌, ◌≢◌, ◌∷◌, ◌==◌, ℕ, List, [], map, if◌then◌else◌, Option, Some, None, Bool, Result, Ok, Err}
 use Rattle.std.specs.List.{AllByRecursion}
 use Rattle.mctp_framing.specs.Assembling as assembling

@@ -33,7 +33,7 @@ ends_large h _ = false
 
 -- ---- LargeResponse.
 
--- The first of these sessions that may have been dropped unseen; none where none may.
+-- The first of these sessions that may have been dropped without a trace; none where none may.
 abbrev pub first_dropped : History → (ids : List ℕ) → List ℕ
 first_dropped h [] = []
 first_dropped h (id ∷ ids) = if may_be_dropped h id then id ∷ [] else first_dropped h ids

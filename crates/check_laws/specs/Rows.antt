@@ -1,5 +1,5 @@
--- The table of sessions as the program keeps it: its entries, and for each requester where those stand that a packet
--- may change. This project's own.
+-- The table of sessions as the program represents it: its entries, and for each requester where those stand that a
+-- packet may change. This project's own.
 use Rattle.std.specs.Prelude.{◌≡◌, ◌≢◌, ◌≤◌, ◌<◌, ◌+◌, ◌-◌, ◌^◌, ◌==◌, ◌&&◌, nat_lt, ℕ, suc, zero, List, [], ◌∷◌, ◌++◌, map, reverse, if◌then◌else◌, Bool, true, false, Option, Some, None, is_some, slice_index_or}
 use Rattle.std.specs.List.{AllByRecursion}
 use Rattle.responder_machine.specs.Session.{session_of, is_live}

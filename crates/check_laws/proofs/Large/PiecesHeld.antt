@@ -1,4 +1,4 @@
--- What the program keeps of a large request, chunk by chunk.
+-- The program's representation of a large request, chunk by chunk.
 use Rattle.std.proofs.Common.{◌≡◌, ◌<◌, ◌≤◌, ◌+◌, ◌-◌, ◌*◌, ◌++◌, ℕ, List, refl, sym, ap, ◌∙◌, subst, length, drop, take, min, Bool, true, false, Some, None, arith, add-one, eq-eqb, inl, inr, ne_eqb}
 use Rattle.std.proofs.lemmas.Bool.{cases_order}
 use Rattle.std.proofs.lemmas.Grind.{div_ceil_times}

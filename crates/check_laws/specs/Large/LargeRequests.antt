@@ -1,4 +1,4 @@
--- What the program keeps of a large request that is in progress, and what it tells of a request meanwhile. This
+-- The program's representation of a large request that is in progress, and what it tells of a request meanwhile. This
 -- project's own.
 use Rattle.std.specs.Prelude.{◌≡◌, ◌↔◌, ◌+◌, ℕ, List, true, Option, Some, None, is_some}
 use Rattle.spdm_grammar.specs.Requests.{canonical_request}

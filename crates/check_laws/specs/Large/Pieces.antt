@@ -1,4 +1,5 @@
--- What the program keeps of a large request that is sent in chunks, and what it tells of a chunk. This project's own.
+-- The program's representation of a large request that is sent in chunks, and what it tells of a chunk. This project's
+-- own.
 use Rattle.std.specs.Prelude.{◌≡◌, ◌≤◌, ◌+◌, ◌*◌, ℕ, List, ◌∷◌, slice_index, take, true, false, Option, Some, None}
 use Rattle.chunking.specs.Cutting.{chunk_end}
 use Rattle.check_laws.specs.Keeping.{Kept}
