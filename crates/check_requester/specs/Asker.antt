@@ -1,5 +1,5 @@
--- What the program keeps of a requester of a capture, and what it tells of a body that goes on from it. This project's
--- own.
+-- The program's representation of a requester of a capture, and what it tells of a body that goes on from it. This
+-- project's own.
 use Rattle.std.specs.Prelude.{◌≡◌, ◌≤◌, ◌==◌, ◌&&◌, ℕ, List, Bool, true, false, Some, None, Option, is_some, length, slice_index}
 use Rattle.requester_core.specs.Joined.{StandsFor}
 use Rattle.requester_core.specs.declared.joined.Asking.{Asking}
