@@ -39,7 +39,7 @@ pub(crate) fn id_begun(response: &[u8]) -> Option<u16>
     }
 }
 
-// Beside four established sessions the first that may have been dropped unseen.
+// Beside four established sessions the first that may have been dropped without a trace.
 fn first_of_held(connection: &Connection) -> Option<u16>
     ensures { (r : RspSetup) (h : History) → StandsFor connection.now r h
         → IsDropped (first_of_held h) result }
