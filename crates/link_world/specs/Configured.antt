@@ -1,4 +1,4 @@
--- Why a configuration sets up no world. This project's own.
+-- Why a configuration yields no world. This project's own.
 use Rattle.std.specs.Prelude.{◌⊎◌, ℕ, List, [], ◌∷◌, Some, None}
 use Rattle.script_ends.specs.Configured.{HasRequesterFault, HasResponderFault}
 use Rattle.link_world.specs.declared.fault.WorldFault.{WorldFault}
@@ -18,7 +18,7 @@ abbrev pub HaveNoFault : (responder : ℕ) → List ReqPart → Type 0
 HaveNoFault responder [] = Unit {0}
 HaveNoFault responder (q ∷ others) = HasRequesterFault responder q None × HaveNoFault responder others
 
--- The cause of a fault: the responder's comes before those of the requesters. Allocation failure may come at any time.
+-- The cause of a fault: the responder's precedes those of the requesters. An allocation failure may occur at any time.
 abbrev pub IsCause : ScriptConfig → WorldFault → Type 0
 IsCause c (Responder fault) = HasResponderFault c (Some fault)
 IsCause c (Requester fault) = HasResponderFault c None × HaveFirstFault c.responder.eid.number c.requesters fault

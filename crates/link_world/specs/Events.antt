@@ -6,7 +6,7 @@ use Rattle.std.specs.Prelude.{ℕ, Bool, true, false}
 use Rattle.world_machine.specs.Happenings.{Entry, Happening}
 use Rattle.world_machine.specs.Happenings.Happening.{Deliver, Inject, Lose, Pump, Reply, Show, Tick, Told}
 
--- A command is told to the requester that it names; all else happens on the link or at the responder.
+-- A command goes to the requester that it names; all else happens on the link or at the responder.
 abbrev pub happening_of : LinkEvent → Happening
 happening_of (event.Connect q) = Told q tell.Connect
 happening_of (event.Retry q) = Told q tell.Retry
@@ -28,7 +28,7 @@ happening_of event.Show = Show
 abbrev pub entry_of : (line : ℕ) → LinkEvent → Entry
 entry_of line what = record { line = line; happening = happening_of what }
 
--- The ends are shown.
+-- The endpoints are shown.
 abbrev pub is_show : LinkEvent → Bool
 is_show event.Show = true
 is_show _ = false

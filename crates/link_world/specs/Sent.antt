@@ -1,11 +1,11 @@
--- The packets that were sent, as the program keeps them: one after the other in one memory.
+-- The packets that were sent, as the program represents them: one after the other in one memory.
 use Rattle.std.specs.Prelude.{⊤, ◌≡◌, ◌≢◌, ◌≤◌, ℕ, zero, suc, List, [], ◌∷◌, map, length, slice_range, false}
 use Rattle.link_world.specs.declared.sent.Place.{Place}
 use Rattle.link_world.specs.declared.sent.SendFault.{SendFault}
 use Rattle.link_world.specs.declared.sent.SendFault.TheVariants.{LinkFull, OutOfMemory}
 use Rattle.world_machine.specs.World.{SentPacket}
 
--- How many packets a link takes. This project's own.
+-- How many packets a link holds. This project's own.
 abbrev pub packet_limit : ℕ
 packet_limit = 65536
 
@@ -16,12 +16,12 @@ packet_in bytes p = record { bytes = slice_range bytes p.start p.end; waits = p.
 abbrev pub sent_of : List ℕ → List Place → List SentPacket
 sent_of bytes places = map (packet_in bytes) places
 
--- The places lie within so many bytes.
+-- The spans lie within n bytes.
 abbrev pub AreWithin : ℕ → List Place → Type 0
 AreWithin count [] = ⊤
 AreWithin count (p ∷ others) = (p.start ≤ p.end) × (p.end ≤ count) × AreWithin count others
 
--- None of the first so many waits.
+-- None of the first n packets waits.
 abbrev pub NoneWaits : ℕ → List Place → Type 0
 NoneWaits zero places = ⊤
 NoneWaits (suc count) [] = ⊤

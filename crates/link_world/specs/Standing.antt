@@ -1,4 +1,4 @@
--- The whole world, as the program keeps it.
+-- The whole world, as the program represents it.
 use Rattle.std.specs.Prelude.{◌≡◌, ◌≢◌, ◌≤◌, ◌+◌, ◌-◌, ◌^◌, ◌==◌, ◌++◌, min, ℕ, List, [], ◌∷◌, length, map, Bool, true, false, Option, Some, None, Result, Ok, Err}
 use Rattle.std.specs.List.{AllByRecursion}
 use Rattle.link_world.specs.Written.{before_full, has_full, text_of}
@@ -52,7 +52,7 @@ abbrev pub taken_in : List Requesting → List Connection → ℕ
 taken_in requesters connections =
     over_requesters (λ a. asked.all_taken a.history) requesters + over_connections (λ c. all_taken c.history) connections
 
--- A count as the program keeps it: it saturates at `u64::MAX`.
+-- A count as the program represents it: it saturates at `u64::MAX`.
 abbrev pub counted : ℕ → ℕ
 counted n = min n (2 ^ 64 - 1)
 

@@ -1,4 +1,4 @@
--- The whole world, as the program keeps it: the link of a world.
+-- The whole world, as the program represents it: the link of a world.
 use Rattle.link_world.specs.Standing.{IsLink}
 use Rattle.link_world.specs.declared.world.World as program
 use Rattle.world_machine.specs.World.{World}

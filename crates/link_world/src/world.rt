@@ -56,8 +56,8 @@ impl World {
         World::resume(alloc, config, 0)
     }
 
-    /// The same after `boot` earlier boots with the same seed: at most 2^24 - 2. Each boot has draws of its own. Faults
-    /// as for `new`.
+    /// The initial world after `boot` earlier boots with the same seed: at most 2^24 - 2. Each boot has draws of its
+    /// own. Faults as for `new`.
     pub fn resume(alloc: Global, config: &ScriptConfig, boot: u32) -> Result<World, WorldFault>
         requires seed { IsSome config.now.seed }
         requires boot { boot ≤ 2 ^ 24 - 2 }
