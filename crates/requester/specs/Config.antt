@@ -1,4 +1,4 @@
--- Why a requester is not made of a configuration. This project's own limits.
+-- Why a configuration of a requester is rejected. This project's own limits.
 use Rattle.std.specs.Prelude.{[], ◌∷◌, Bool, Option, Some, None, ◌≡◌, ◌==◌, ◌||◌, not, nat_lt, length}
 use Rattle.negotiate.specs.OwnSizes.{may_be_own}
 use Rattle.spdm_basis.specs.Tests.{first_of_tests}
@@ -22,7 +22,7 @@ config_fault c = first_of_tests (
     ∷ (is_out_of_range c, SizeRange)
     ∷ [])
 
--- Why a configuration is refused: its first fault; or there was no memory, and it has none.
+-- Why a configuration is rejected: its first fault; or memory ran out, and it has none.
 abbrev pub IsCause : ReqConfig → ReqConfigFault → Type 0
 IsCause c OutOfMemory = config_fault c ≡ None
 IsCause c fault = config_fault c ≡ Some fault

@@ -1,4 +1,4 @@
--- The whole requester, as the program keeps it.
+-- The whole requester, as the program represents it.
 use Rattle.std.specs.Prelude.{◌≡◌, ◌≤◌, ◌+◌, ◌-◌, ◌*◌, ◌^◌, ℕ, List, false, Option, Some, None, Result, Ok, Err, length}
 use Rattle.requester_core.specs.Joined as joined
 use Rattle.mctp_framing.specs.Assembling as assembling
@@ -19,7 +19,7 @@ use Rattle.spdm_machine.specs.Packets.{body_limit, fields_in, wear_limit}
 abbrev pub last_first : ℕ
 last_first = (2 ^ 24 - 2) * 2 ^ 40
 
--- It is kept of this requester.
+-- The program's requester stands for this one of the definitions.
 pub record StandsFor (seen : Requester) (a : Requesting) : Type 0 where
   pub part : IsPart seen.part a.setup
   pub seed : seen.draws.seed ≡ a.seed
@@ -38,14 +38,14 @@ abbrev pub fault_in : Result Unit CommandFault → Option CommandFault
 fault_in (Ok done) = None
 fault_in (Err fault) = Some fault
 
--- A command led to this step: its fault is told, its packets are sent, and what is kept is that of the requester after
--- it.
+-- A command is this step: its fault is reported, its packets are sent, and the program's requester stands for the one
+-- after it.
 pub record IsTold (step : CommandStep) (told : Result Unit CommandFault) (sends : List (List ℕ)) (new : Requester) : Type 0 where
   pub fault : fault_in told ≡ step.fault
   pub sent : sends ≡ step.sent
   pub stands : StandsFor new step.after
 
--- A packet led to this step.
+-- A packet is this step.
 pub record IsGiven (step : PacketStep) (told : Event) (sends : List (List ℕ)) (new : Requester) : Type 0 where
   pub event : told ≡ step.event
   pub sent : sends ≡ step.sent
@@ -57,7 +57,8 @@ pub record IsCounted (seen : Requester) (a : Requesting) : Type 0 where
   pub count : seen.taken ≡ length a.given + a.commands + 1
   pub stands : StandsFor (record seen { taken = length a.given + a.commands }) a
 
--- A whole body has this outcome: it is told, it is sent, and what is kept is that of the history after it.
+-- A complete body has this outcome: what is reported and sent is the outcome's, and the program's state stands for the
+-- history after it.
 pub record IsHeard (q : ReqSetup) (h : History) (outcome : Outcome) (told : Event) (sends : List (List ℕ)) (new : Asking) : Type 0 where
   pub event : event_of outcome ≡ Some told
   pub sent : sends ≡ packets_of_sent q (sent_by outcome)
