@@ -1,4 +1,4 @@
--- A requester as the program keeps it, with every free value handed in, and what comes of a command and of a body.
+-- A requester as the program represents it, with every free value handed in, and what comes of a command and of a body.
 use Rattle.std.specs.Prelude.{◌≡◌, ◌∷◌, ℕ, List, Bool, true, false, Option, Some, None, Result, Ok, Err}
 use Rattle.requester_core.specs.Gathering.{Gathers}
 use Rattle.requester_core.specs.Sessions as sessions

@@ -1,5 +1,5 @@
--- What a requester sends, as the program keeps it: the next tag and handle, what is waited for, and the request in the
--- clear that is outstanding.
+-- What a requester sends, as the program represents it: the next tag and handle, what is waited for, and the request in
+-- the clear that is outstanding.
 use Rattle.std.specs.Prelude.{⊤, ◌≡◌, ◌≤◌, ◌<◌, ◌+◌, ◌%◌, ℕ, List, if◌then◌else◌, Option, Some, None}
 use Rattle.requester_core.specs.Waiting.{is_first, waiting_of}
 use Rattle.requester_core.specs.declared.clear.waiting.Waiting.{Waiting}

@@ -1,4 +1,4 @@
--- The sessions of a requester, as the program keeps them.
+-- The sessions of a requester, as the program represents them.
 use Rattle.std.specs.Prelude.{⊤, ◌≡◌, ◌==◌, ◌||◌, ◌-◌, nat_lt, if◌then◌else◌, ℕ, Option, Some, None, slice_index_or}
 use Rattle.requester_core.specs.Slot.{IsSlotOf}
 use Rattle.requester_core.specs.declared.in_sessions.sessions.Sessions.{Sessions}

@@ -1,4 +1,4 @@
--- The session of one ReqSessionID, as the program keeps it.
+-- The session of one ReqSessionID, as the program represents it.
 use Rattle.std.specs.Prelude.{◌≡◌, ◌⊎◌, ℕ, List, [], if◌then◌else◌, Option, Some, None}
 use Rattle.requester_core.specs.declared.in_sessions.slot.Slot.{Slot}
 use Rattle.requester_core.specs.declared.in_sessions.slot.Slot.TheVariants as slot

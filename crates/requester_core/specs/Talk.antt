@@ -1,4 +1,4 @@
--- The clear part of a requester, as the program keeps it. What is gathered of a large response stands beside it.
+-- The clear part of a requester, as the program represents it. What is gathered of a large response stands beside it.
 use Rattle.std.specs.Prelude.{◌≡◌, ℕ, List}
 use Rattle.requester_core.specs.Negotiating as negotiating
 use Rattle.requester_core.specs.Negotiating.{IsUpToSent}

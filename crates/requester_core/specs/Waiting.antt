@@ -1,4 +1,4 @@
--- What a requester waits for, as the program keeps it, read off the outstanding message.
+-- What a requester waits for, as the program represents it, read off the outstanding message.
 use Rattle.std.specs.Prelude.{◌==◌, ℕ, Bool, false, Option, Some, None}
 use Rattle.requester_core.specs.declared.clear.waiting.Asked.{Asked}
 use Rattle.requester_core.specs.declared.clear.waiting.Asked.TheVariants as asks

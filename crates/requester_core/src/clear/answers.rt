@@ -36,7 +36,8 @@ fn put(bytes: &[u8], out: &mut Frame)
 }
 
 impl Talk {
-    // The whole answer to what is asked reads as this response. It begins at this place of its message, near its front.
+    // Handles the complete response to the outstanding request, of at most 4,096 bytes. It begins at this offset of its
+    // message, near the front.
     fn on_response(
         &mut self,
         setup: &Setup<'_>,
@@ -78,8 +79,8 @@ impl Talk {
         }
     }
 
-    /// The whole answer to what is asked came, of at most 4,096 bytes. It begins at this place of its message, near its
-    /// front.
+    /// Handles the complete response to the outstanding request, of at most 4,096 bytes. It begins at this offset of
+    /// its message, near the front.
     pub(crate) fn on_answer(
         &mut self,
         setup: &Setup<'_>,

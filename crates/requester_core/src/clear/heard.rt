@@ -8,12 +8,12 @@ pub enum Heard {
     /// It is an ERROR of this code in the clear, while a record is outstanding. It is not protected, and nothing
     /// changed.
     Warned(u8),
-    /// It was taken. This is reported, and nothing is outstanding any more.
+    /// It was accepted. This is reported, and nothing is outstanding any more.
     Rests(Event),
-    /// It was taken, and refuses PSK_EXCHANGE: the session with this ReqSessionID is gone. This is reported, and
+    /// It was accepted, and refuses PSK_EXCHANGE: the session with this ReqSessionID is removed. This is reported, and
     /// nothing is outstanding any more.
     Closes { id: u16, told: Event },
-    /// It was taken. A further message in the clear was sent, with this tag.
+    /// It was accepted. A further clear message was sent, with this tag.
     Sends { tag: u8 },
     /// It brings the PSK_EXCHANGE_RSP that the session with this ReqSessionID awaits, whose verify data the session
     /// compares. That is written, and nothing changed.

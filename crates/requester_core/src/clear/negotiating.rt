@@ -125,7 +125,7 @@ impl Negotiating {
         }
     }
 
-    /// VERSION was taken. The messages of a negotiation fit.
+    /// VERSION was accepted. The messages of a negotiation always fit.
     pub fn take_version(&mut self, request: &[u8], answer: &[u8])
         ensures { length self.old.messages + length request.now + length answer.now ≤ 8768
             → self.new ≡ record self.old {
@@ -137,7 +137,7 @@ impl Negotiating {
         keep(&mut self.messages, request, answer);
     }
 
-    /// CAPABILITIES were taken: both ends can do this together.
+    /// CAPABILITIES was accepted, with these common capabilities.
     pub fn take_capabilities(&mut self, request: &[u8], answer: &[u8], common: Common)
         ensures { length self.old.messages + length request.now + length answer.now ≤ 8768
             → self.new ≡ record self.old {
@@ -151,7 +151,7 @@ impl Negotiating {
         self.common = common;
     }
 
-    /// ALGORITHMS were taken: these were chosen.
+    /// ALGORITHMS was accepted, with this choice.
     pub fn take_algorithms(&mut self, request: &[u8], answer: &[u8], choice: Choice)
         ensures { length self.old.messages + length request.now + length answer.now ≤ 8768
             → self.new ≡ record self.old {

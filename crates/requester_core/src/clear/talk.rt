@@ -12,8 +12,8 @@ use spdm_grammar::{Choice, Phase};
 use std::marker::Model;
 use transcript::Vca;
 
-/// The clear part of a requester: the negotiation, what is sent, and the last application data or measurement record
-/// that came. What is gathered of a large response stands beside it.
+/// The clear part of a requester: the negotiation, the sending side, and the application data or measurement record
+/// received last. The part received of a large response is kept separately.
 #[derive(Drop)]
 pub struct Talk {
     pub(crate) negotiating: Negotiating,

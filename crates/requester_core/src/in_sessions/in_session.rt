@@ -39,8 +39,8 @@ impl Talk {
         None
     }
 
-    /// A record of the session with this ReqSessionID is sent, on a command, PSK_EXCHANGE_RSP or a record that was
-    /// taken: its tag.
+    /// Registers a sent record of the session with this ReqSessionID: on a command, PSK_EXCHANGE_RSP or an accepted
+    /// record. Returns its tag.
     pub fn send_record(&mut self, id: u16) -> u8
         ensures told { (q : ReqSetup) (h : History) (command : Command) (f : Free) (d : Draw)
             (sent : Sent) (ask : Ask) → StandsFor self.old q h
@@ -55,7 +55,7 @@ impl Talk {
         self.outgoing.send_record(id)
     }
 
-    /// A record was taken that brought no data, and nothing is outstanding any more.
+    /// Registers an accepted record without data; nothing is outstanding any more.
     pub fn rest(&mut self)
         ensures { (q : ReqSetup) (h : History) (owner : Bool) (tag : ℕ) (body : List ℕ) (f : Free)
             (d : Draw) (entry : Entry) → StandsFor self.old q h
@@ -65,8 +65,8 @@ impl Talk {
         self.outgoing.rest();
     }
 
-    /// A record was taken that brought these bytes, application data or a measurement record, and nothing is
-    /// outstanding any more.
+    /// Registers an accepted record with these bytes, application data or a measurement record; nothing is outstanding
+    /// any more.
     pub fn bring(&mut self, bytes: &[u8])
         ensures { (q : ReqSetup) (h : History) (owner : Bool) (tag : ℕ) (body : List ℕ) (f : Free)
             (d : Draw) (entry : Entry) → HasSizes q → StandsFor self.old q h

@@ -6,9 +6,9 @@ use spdm_grammar::Event;
 pub enum SessionLed {
     /// It does not open, and nothing changed.
     Ignored(RecordFault),
-    /// It answers what was asked, and this is told: the session is open.
+    /// It answers the request, and this is reported: the session is open.
     Rests(Event),
-    /// This is reported, and the session is gone.
+    /// This is reported, and the session is removed.
     Ends(Event),
     /// A further record is sent.
     Sends,

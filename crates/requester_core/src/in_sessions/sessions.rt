@@ -142,7 +142,8 @@ impl Sessions {
         *self = Sessions::none();
     }
 
-    // Asks something of the session with this ReqSessionID.
+    // Sends a request in the session with this ReqSessionID, in a record with this padding of at most 16 bytes, while
+    // nothing is outstanding and the phase is Negotiated.
     fn ask_at(&mut self, id: u16, ask: Ask<'_>, pad: &[u8]) -> Result<(), CommandFault>
         requires pad { length pad.now ≤ 16 }
         ensures own { (psk : List ℕ) (s : Steps) → IsSlotOf (slot_of self.old id) psk s
@@ -157,7 +158,7 @@ impl Sessions {
         self.slots[usize::from(id) - 1].ask(ask, pad)
     }
 
-    /// Asks something of the session with this ReqSessionID, in a record with this padding of at most 16 bytes, while
+    /// Sends a request in the session with this ReqSessionID, in a record with this padding of at most 16 bytes, while
     /// nothing is outstanding and the phase is Negotiated.
     pub fn ask(&mut self, id: u16, ask: Ask<'_>, pad: &[u8]) -> Result<(), CommandFault>
         requires pad { length pad.now ≤ 16 }
@@ -343,7 +344,7 @@ impl Sessions {
         }
     }
 
-    /// PSK_EXCHANGE was refused with an ERROR: the session with this ReqSessionID is gone.
+    /// PSK_EXCHANGE was refused with an ERROR: the session with this ReqSessionID is removed.
     pub fn close(&mut self, id: u16)
         ensures { (q : ReqSetup) (h : History) (f : Free) (owner : Bool) (tag : ℕ) (body : List ℕ)
             (d : Draw) (led : Led) → hears q h owner tag body f d

@@ -119,7 +119,7 @@ impl Slot {
         !matches!(self, Slot::Empty)
     }
 
-    /// The answer to PSK_EXCHANGE came, and PSK_FINISH has this padding.
+    /// Handles the response to PSK_EXCHANGE; PSK_FINISH has this padding.
     pub(crate) fn accept(&mut self, answer: &[u8], pad: &[u8]) -> Result<(), OpenFault>
         requires { length pad.now ≤ 16 }
         ensures { (psk : List ℕ) (n : Negotiation) (exchange : List ℕ)
@@ -144,7 +144,7 @@ impl Slot {
         }
     }
 
-    /// Asks something of the session.
+    /// Sends a request in the session.
     pub(crate) fn ask(&mut self, ask: Ask<'_>, pad: &[u8]) -> Result<(), CommandFault>
         requires { length pad.now ≤ 16 }
         ensures { (psk : List ℕ) (s : Steps) → IsSlotOf self.old psk s → FitsWaits Rests s

@@ -60,7 +60,7 @@ impl Asking {
     }
 
     /// Whether a record opens as the next one of the session that it names; its inner message then overwrites `out`.
-    /// This tells of numbers up to 65,535.
+    /// Covers sequence numbers up to 65,535.
     pub fn open_next(&self, sealed: &[u8], out: &mut RecordFrame) -> bool
         ensures few { (q : ReqSetup) (h : History) → StandsFor self.now q h → length h < 2 ^ 64 - 1
             → request_next (session_named h sealed.now) ≤ 65535
@@ -72,8 +72,8 @@ impl Asking {
         self.sessions.open_next(sealed, out)
     }
 
-    /// The same without the outstanding message, where that was sent by itself in response to the last message: a
-    /// record opens in its place where it names the session of that.
+    /// Same as `open_next`, but as if the outstanding message, which was sent in response to the last message, had not
+    /// been: a record opens in its place if it names the same session.
     pub fn open_before(&self, sealed: &[u8], out: &mut RecordFrame) -> bool
         ensures { (q : ReqSetup) (bare : History) (sent : Sent) → TookFor bare sent.aim
             → length bare < 2 ^ 64 - 1 → StandsFor self.now q (with_next (Some sent) bare)

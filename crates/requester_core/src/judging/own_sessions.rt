@@ -85,7 +85,7 @@ impl Sessions {
     }
 
     /// Whether a record opens as the next one of the session that it names; its inner message then overwrites `out`.
-    /// This tells of numbers up to 65,535.
+    /// Covers sequence numbers up to 65,535.
     pub fn open_next(&self, sealed: &[u8], out: &mut RecordFrame) -> bool
         ensures few { (q : ReqSetup) (h : History) → StandsFor self.now q h → length h < 2 ^ 64 - 1
             → request_next (session_named h sealed.now) ≤ 65535
@@ -100,7 +100,8 @@ impl Sessions {
         }
     }
 
-    /// The same without the outstanding record, where that was sent by itself in response to the last message.
+    /// Same as `open_next`, but as if the outstanding record, which was sent in response to the last message, had not
+    /// been.
     pub fn open_before(&self, sealed: &[u8], out: &mut RecordFrame) -> bool
         ensures { (q : ReqSetup) (bare : History) (sent : Sent) (id : ℕ) (ask : message.Ask)
             → TookLast bare id → sent.aim ≡ InSession id ask → length bare < 2 ^ 64 - 1
