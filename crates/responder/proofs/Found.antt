@@ -77,7 +77,7 @@ none_found p given eid n (x ∷ xs) (c ∷ cs) are none =
 
 -- ---- A packet of one.
 
--- What the program keeps of the other requesters is that of these packets too.
+-- The program's representation of the other requesters is that of these packets too.
 abbrev pub OthersStand : RspPart → (given after : List PacketFields) → (eid : ℕ) → Type 0
 OthersStand p given after eid = (x : Peer) (d : Connection) → peers.StandsFor x p given d → d.setup.peer ≢ eid → peers.StandsFor x p after d
 

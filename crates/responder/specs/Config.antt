@@ -1,4 +1,4 @@
--- Why a responder is not made of a configuration. This project's own limits.
+-- Why a configuration of a responder is rejected. This project's own limits.
 use Rattle.std.specs.Prelude.{ℕ, List, [], ◌∷◌, Bool, false, Option, Some, None, ◌≡◌, ◌==◌, ◌||◌, not, nat_lt, length, bytes_eq}
 use Rattle.std.specs.List.{list_any}
 use Rattle.std.specs.Option.{option_map, option_or}

@@ -1,4 +1,4 @@
--- What the program keeps of a requester.
+-- The program's representation of a requester.
 use Rattle.std.specs.Prelude.{◌≡◌, ◌∷◌, ℕ, List, Some, None}
 use Rattle.responder_core.specs.Connected as connected
 use Rattle.mctp_framing.specs.Assembling as assembling
@@ -16,7 +16,8 @@ use Rattle.spdm_grammar.specs.declared.told.heard.Heard.{Heard}
 use Rattle.spdm_grammar.specs.declared.told.heard.ReplyFault.{ReplyFault}
 use Rattle.spdm_machine.specs.Keys.{draw_of}
 
--- It is kept of this connection, at a responder with this set-up that was given these packets, the newest first.
+-- The program's state stands for this connection, at a responder with this configuration that received these packets,
+-- the newest first.
 pub record StandsFor (seen : Peer) (p : RspPart) (given : List PacketFields) (c : Connection) : Type 0 where
   pub setup : c.setup ≡ towards p (known_of seen.known)
   pub receiver : seen.assembler.receiver ≡ receiver_of p.eid seen.known.eid.number

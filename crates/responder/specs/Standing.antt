@@ -1,4 +1,4 @@
--- The whole responder, as the program keeps it.
+-- The whole responder, as the program represents it.
 use Rattle.std.specs.Prelude.{◌≡◌, ◌≢◌, ◌≤◌, ◌+◌, ◌-◌, ◌*◌, ◌^◌, ◌==◌, Bool, ℕ, List, [], ◌∷◌, length, Option, Some, None}
 use Rattle.std.specs.List.{AllByRecursion}
 use Rattle.responder_core.specs.Sessions.{IsViewOf}
@@ -20,7 +20,7 @@ use Rattle.responder_machine.specs.Heard.{views_of}
 abbrev pub has_eid : ℕ → Peer → Bool
 has_eid eid x = x.known.eid.number == eid
 
--- This is kept of each requester, in the order of the connections.
+-- Each requester's state stands for its connection, in the order of the connections.
 abbrev pub ArePeers : List Peer → RspPart → (given : List PacketFields) → List Connection → Type 0
 ArePeers [] p given [] = Unit {0}
 ArePeers [] p given (c ∷ others) = ⊥
@@ -32,7 +32,7 @@ abbrev pub AreApart : List Connection → Type 0
 AreApart [] = Unit {0}
 AreApart (c ∷ others) = AllByRecursion (λ (d : Connection). d.setup.peer ≢ c.setup.peer) others × AreApart others
 
--- It is what some end came to that was given something.
+-- It is reachable from some endpoint's initial state.
 pub record IsReached (r : Responding) : Type 0 where
   pub end : RspEnd
   pub all : List Given
@@ -43,7 +43,7 @@ pub record IsReached (r : Responding) : Type 0 where
 abbrev pub last_first : ℕ
 last_first = (2 ^ 24 - 2) * 2 ^ 40
 
--- It is kept of this responder.
+-- The program's responder stands for this one of the definitions.
 pub record StandsFor (seen : Responder) (r : Responding) : Type 0 where
   pub part : IsPart seen.part r.part
   pub seed : seen.shared.draws.seed ≡ r.seed
@@ -55,7 +55,8 @@ pub record StandsFor (seen : Responder) (r : Responding) : Type 0 where
   pub reached : IsReached r
   pub first : r.first ≤ last_first
 
--- A packet led to this step: it is told, it is sent, and what is kept is that of the responder after it.
+-- A packet is this step: what is reported and sent is the step's, and the program's responder stands for the one after
+-- it.
 pub record IsStep (step : RspStep) (tells : Heard) (sends : List (List ℕ)) (new : Responder) : Type 0 where
   pub told : tells ≡ step.heard
   pub sent : sends ≡ step.sent
