@@ -1,4 +1,4 @@
--- Sessions that wait, and sessions that were dropped unseen.
+-- Sessions that wait, and sessions that were dropped without a trace.
 use Rattle.std.proofs.Common.{refl, ◌∙◌, ◌≡◌, ◌≢◌, ℕ, zero, suc, [], ◌∷◌, true, false, Bool, Option, None, ap, sym, subst, arith}
 use Rattle.std.proofs.lemmas.Bool.{false≢true, eq-eqb, eqb-false}
 use Rattle.std.proofs.lemmas.Bool.Decides.{nat_tests}

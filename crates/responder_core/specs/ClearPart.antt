@@ -1,4 +1,4 @@
--- The clear part of a connection, as the program keeps it.
+-- The clear part of a connection, as the program represents it.
 use Rattle.std.specs.Prelude.{◌≡◌, ℕ, List, Bool, false, Option}
 use Rattle.responder_core.specs.Coming as coming
 use Rattle.responder_core.specs.Coming.{IsBegun}

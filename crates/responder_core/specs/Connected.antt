@@ -1,4 +1,4 @@
--- A responder's connection with one requester, as the program keeps it.
+-- A responder's connection with one requester, as the program represents it.
 use Rattle.std.specs.Prelude.{◌≡◌, ◌==◌, ℕ, List, drop, Bool, true, false}
 use Rattle.responder_core.specs.ClearPart as clear_parts
 use Rattle.responder_core.specs.Sessions as sessions

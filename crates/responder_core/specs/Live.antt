@@ -1,4 +1,4 @@
--- A live session of a connection, as the program keeps it.
+-- A live session of a connection, as the program represents it.
 use Rattle.std.specs.Prelude.{◌≡◌, ℕ, List, [], Bool, true, false, Option, Some, None}
 use Rattle.responder_core.specs.declared.in_sessions.live.Live.{Live}
 use Rattle.responder_machine.specs.Answer.{Free}

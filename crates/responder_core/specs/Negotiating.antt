@@ -1,4 +1,4 @@
--- How far a negotiation has come, as the program keeps it.
+-- How far a negotiation has come, as the program represents it.
 use Rattle.std.specs.Prelude.{◌≡◌, ◌≤◌, ℕ, List, [], length}
 use Rattle.negotiate.specs.declared.shared.Common.{Common}
 use Rattle.responder_machine.specs.History.{negotiation_of, phase_of}

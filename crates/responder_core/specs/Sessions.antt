@@ -1,4 +1,4 @@
--- The sessions of a connection, as the program keeps them.
+-- The sessions of a connection, as the program represents them.
 use Rattle.std.specs.Prelude.{◌≡◌, ◌≢◌, ◌≤◌, ◌==◌, ◌&&◌, ◌||◌, ◌-◌, nat_lt, if◌then◌else◌, ℕ, List, [], Bool, true, false, length, Option, None, Some, slice_index_or}
 use Rattle.responder_core.specs.Live.{IsSlotOf, IsTakenIn}
 use Rattle.responder_core.specs.declared.in_sessions.live.Live.{Live}

@@ -1,4 +1,4 @@
--- The clear part of a connection without its large request, as the program keeps it.
+-- The clear part of a connection without its large request, as the program represents it.
 use Rattle.std.specs.Prelude.{ℕ, List, []}
 use Rattle.responder_core.specs.Negotiating as negotiating
 use Rattle.responder_rules.specs.LargeAnswer as large_answer

@@ -9,7 +9,7 @@ ghost use Rattle.spdm_machine.specs.Keys.{Draw};
 ghost use Rattle.responder_core.specs.ClearPart.{Seen, StandsFor};
 
 /// What is kept of the clear part is kept over every other entry of the history: records, queued application data,
-/// seconds that pass, and sessions that were dropped unseen.
+/// seconds that pass, and sessions that were dropped without a trace.
 pub fn others_keep_the_clear_part()
     ensures sealed { (seen : Seen) (r : RspSetup) (h : History) (tag : ℕ) (bytes : List ℕ)
         (t : Turn) (reply : List ℕ) (d : Draw) → StandsFor seen r h

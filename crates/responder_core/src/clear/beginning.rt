@@ -88,7 +88,7 @@ impl Standing {
 }
 
 impl ClearPart {
-    /// How it stands but for large requests.
+    /// The state apart from large requests.
     pub fn standing(&self) -> &Standing
         ensures value { result.now ≡ self.now.requests.standing }
         ensures stands { (r : RspSetup) (h : History) → clear_parts.StandsFor self.now r h

@@ -1,6 +1,6 @@
 use spdm_grammar::ErrorCode;
 
-/// Where a PSK_EXCHANGE came that begins a session.
+/// How a PSK_EXCHANGE that begins a session arrived.
 #[derive(Clone, Copy, Debug, PartialEq, Eq)]
 pub enum Begun {
     /// In a message of its own.
@@ -14,7 +14,7 @@ pub enum Begun {
 pub enum Came {
     /// It is refused with this code.
     Refused(ErrorCode),
-    /// It is answered; whether a draw was taken for its nonce.
+    /// It is answered; `drawn` tells whether its nonce used a draw.
     Answered { drawn: bool },
     /// It begins a session, whose PSK_EXCHANGE_RSP is still to be made.
     Begins(Begun),

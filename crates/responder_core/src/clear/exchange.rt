@@ -14,7 +14,7 @@ use spdm_grammar::Exchange;
 // What stands in PSK_EXCHANGE_RSP beside its summary, context, opaque data and verify data.
 const FIELDS_LEN: usize = 12;
 
-/// The length of the PSK_EXCHANGE_RSP that answers an exchange at this place, told before any key is made.
+/// The length of the PSK_EXCHANGE_RSP to an exchange at this place, computed before any key is derived.
 pub fn exchange_rsp_len(place: &Place, exchange: &Exchange<'_>, free: &FreeValues<'_>) -> usize
     ensures most { result < 2 ^ 32 }
     ensures value { (r : RspSetup) (p : places.Place) (m : List ℕ) (f : Free) → IsPlace place.now p

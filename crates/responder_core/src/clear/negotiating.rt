@@ -121,14 +121,14 @@ impl Negotiating {
         &self.messages
     }
 
-    /// The bytes of its messages so far, one after the other; in phase Negotiated the whole VCA.
+    /// Its messages so far, concatenated; in phase Negotiated the complete VCA.
     pub fn messages(&self) -> &[u8]
         ensures { result.now ≡ self.now.messages }
     {
         self.messages.as_slice()
     }
 
-    /// GET_VERSION was taken with this answer: all of the negotiation before it is void.
+    /// GET_VERSION was accepted with this response: discards the negotiation so far.
     pub fn take_version(&mut self, request: &[u8], answer: &[u8])
         ensures { (r : RspSetup) (p : places.Place) (f : Free) (turns : List Turn) (t : Turn)
             (large : Option ℕ) → request_at p request.now ≡ Some GetVersion
@@ -143,7 +143,7 @@ impl Negotiating {
         self.choice = NO_CHOICE;
     }
 
-    /// GET_CAPABILITIES was taken in phase Versioned with this answer: both ends can do this together.
+    /// GET_CAPABILITIES was accepted in phase Versioned with this response and these common capabilities.
     pub fn take_capabilities(&mut self, request: &[u8], answer: &[u8], common: Common)
         ensures { (r : RspSetup) (p : places.Place) (f : Free) (caps : Caps) (turns : List Turn)
             (t : Turn) (large : Option ℕ) → StandsFor self.old turns
@@ -159,7 +159,7 @@ impl Negotiating {
         self.common = common;
     }
 
-    /// NEGOTIATE_ALGORITHMS was taken in phase Capable with this answer: these algorithms were chosen.
+    /// NEGOTIATE_ALGORITHMS was accepted in phase Capable with this response and this choice of algorithms.
     pub fn take_algorithms(&mut self, request: &[u8], answer: &[u8], choice: Choice)
         ensures { (r : RspSetup) (p : places.Place) (f : Free) (offer : OfferMessage)
             (turns : List Turn) (t : Turn) (large : Option ℕ) → StandsFor self.old turns

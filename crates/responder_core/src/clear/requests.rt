@@ -30,7 +30,7 @@ use spdm_grammar::names::request_code::GET_MEASUREMENTS;
 use spdm_grammar::{ChunkFault, ChunkView, ErrorCode};
 use std::marker::Model;
 
-/// The requests of the clear part of a connection: how it stands, and the large request that arrives in chunks.
+/// The request state of the clear part of a connection, and the large request that arrives in chunks.
 #[derive(Drop)]
 pub struct Requests {
     pub(crate) standing: Standing,
@@ -97,7 +97,7 @@ impl Requests {
         self.whole.as_slice()
     }
 
-    /// The bytes so far of the large request that arrives in chunks; none where none does.
+    /// The bytes received so far of the chunked large request; empty if there is none.
     pub fn under_way(&self) -> &[u8]
         ensures { (r : RspSetup) (turns : List Turn) → StandsFor self.now r turns
             → result.now ≡ joined (under_way (chunks_of turns)) }
@@ -105,7 +105,7 @@ impl Requests {
         self.collector.under_way()
     }
 
-    /// How the clear part stands.
+    /// The state of the clear part.
     pub fn standing(&self) -> &Standing
         ensures { result.now ≡ self.now.standing }
     {

@@ -10,8 +10,8 @@ use responder_rules::{LargeAnswer, Place, Where};
 use spdm_grammar::Stage;
 use std::marker::Model;
 
-/// How the clear part of a connection stands, but for its large request: the negotiation, and the large response that
-/// is still to be given.
+/// The state of the clear part of a connection, apart from its large request: the negotiation, and the large response
+/// that is still to be sent.
 #[derive(Drop)]
 pub struct Standing {
     pub(crate) negotiating: Negotiating,

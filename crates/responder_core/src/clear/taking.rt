@@ -74,8 +74,8 @@ fn settle_large(large: &mut LargeAnswer, place: &Place, code: u8, answer: &[u8],
 }
 
 impl Standing {
-    /// A request was taken at this place, with this whole answer of at most 4,096 bytes. Where that is sent in chunks
-    /// it has this handle.
+    /// Records an accepted request at this place, with its complete response of at most 4,096 bytes; if that is sent in
+    /// chunks it has this handle.
     pub fn take(
         &mut self,
         place: &Place,
@@ -97,8 +97,8 @@ impl Standing {
         settle_large(&mut self.large, place, code_of(request), answer, handle);
     }
 
-    /// PSK_EXCHANGE was taken at this place, with this whole answer of at most 4,096 bytes. Where that is sent in
-    /// chunks it has this handle.
+    /// Records an accepted PSK_EXCHANGE at this place, with its complete response of at most 4,096 bytes; if that is
+    /// sent in chunks it has this handle.
     pub fn take_exchange(&mut self, place: &Place, answer: &[u8], handle: u8)
         requires { length answer.now ≤ MAX_MESSAGE_SIZE }
         ensures { (r : RspSetup) (turns : List Turn) (held : ℕ) (m : List ℕ) (f : Free)
@@ -111,7 +111,7 @@ impl Standing {
         settle_large(&mut self.large, place, PSK_EXCHANGE, answer, handle);
     }
 
-    /// A chunk of a large request was taken, and no request with it: it drops the pending large response.
+    /// Records a chunk of an incomplete large request: it discards the pending large response.
     pub fn take_nothing(&mut self)
         ensures { (turns : List Turn) (t : Turn) → StandsFor self.old turns → is_taken t ≡ true
             → t.effect ≡ NoEffect → StandsFor self.new (t ∷ turns) }

@@ -40,8 +40,8 @@ impl Connection {
     ghost use Rattle.responder_machine.specs.History.Entry.{Dropped};
     ghost use Rattle.responder_machine.specs.Setup.{RspSetup};
 
-    /// Sets the session with this RspSessionID aside, if there is one: what is left stands as if it had been dropped
-    /// unseen.
+    /// Sets the session with this RspSessionID aside, if there is one: what is left is as if it had been dropped
+    /// without a trace.
     pub fn set_aside(&mut self, id: u16) -> Option<Live>
         ensures stands { (r : RspSetup) (h : History) → StandsFor self.old r h
             → StandsFor self.new r (Dropped id ∷ h) }

@@ -151,8 +151,8 @@ impl Connection {
     ghost use Rattle.responder_core.specs.Pending.{GoesLarge, IsUncounted, history_unseen};
     ghost use Rattle.spdm_grammar.specs.declared.names.request_code.TheConstants.{GET_MEASUREMENTS};
 
-    /// The MEASUREMENTS that were to go by LargeResponse in answer to the clear message that came last were never seen:
-    /// they stand with no bytes, are not pending, and took no handle.
+    /// The chunked MEASUREMENTS in response to the last clear message were never seen: they are stored as empty, are
+    /// not pending, and used no handle.
     pub fn forget_clear(&mut self)
         ensures { (r : RspSetup) (h : History) (tag : ℕ) (t : Turn) (d : Draw) → GoesLarge t
             → StandsFor self.old r (Clear tag t d ∷ h)
@@ -161,8 +161,8 @@ impl Connection {
         self.clear.forget();
     }
 
-    /// The MEASUREMENTS that went by LargeResponse last in the session with this RspSessionID were never seen, though
-    /// chunks of them may have been given: they stand with no bytes, are not pending, and took no handle.
+    /// The last chunked MEASUREMENTS in the session with this RspSessionID were never seen, though chunks of them may
+    /// have been sent: they are stored as empty, are not pending, and used no handle.
     pub fn forget_in(&mut self, id: u16)
         ensures { (r : RspSetup) (h : History)
             → is_some (large_of (turns_of (session_of id h))) ≡ true
@@ -172,8 +172,8 @@ impl Connection {
         self.sessions.forget(id);
     }
 
-    /// A large response of the session with this RspSessionID was never seen, and other messages were taken there
-    /// since: it took no handle.
+    /// A large response in the session with this RspSessionID was never seen, and later messages were received there:
+    /// it used no handle.
     pub fn uncount_in(&mut self, id: u16)
         ensures { (r : RspSetup) (h k : History) → IsUncounted id h k → StandsFor self.old r h
             → StandsFor self.new r k }

@@ -79,17 +79,17 @@ impl Connection {
         self.sessions.ended.copy()
     }
 
-    /// Puts a last record of the ended session in the place of the one that is kept, or of none: PSK_EXCHANGE that is
-    /// handed in late forgets it, and where it came before END_SESSION it does not.
+    /// Replaces the stored last record of the ended session, if any: a PSK_EXCHANGE that is handed in late discards it,
+    /// and must not where it arrived before END_SESSION.
     pub fn put_ended(&mut self, last: EndedRecord)
         ensures { self.new ≡ with_ended self.old last }
     {
         self.sessions.ended = last;
     }
 
-    /// The MEASUREMENTS that answer the newest record of the session with this RspSessionID were never seen, and are
-    /// pending again: these bytes stand for them, which are sent in chunks under this handle, and no chunk of them was
-    /// given. `forget_in` undoes it.
+    /// The MEASUREMENTS in response to the newest record of the session with this RspSessionID were never seen, and are
+    /// pending again: these bytes stand for them, to be sent in chunks under this handle, and no chunk was sent.
+    /// `forget_in` undoes it.
     pub fn make_pending(&mut self, id: u16, answer: &[u8], handle: u8)
         requires { length answer.now ≤ MAX_MESSAGE_SIZE }
         ensures { (r : RspSetup) (h : History)

@@ -25,7 +25,7 @@ impl Sessions {
     ghost use Rattle.responder_core.specs.SeenTerms.{AreTermsIn};
     ghost use Rattle.responder_core.specs.Sessions.{StandsFor};
 
-    /// What the session with this RspSessionID stands under; `None` if there is none.
+    /// The terms of the session with this RspSessionID; `None` if there is none.
     pub fn terms(&self, id: u16) -> Option<SessionTerms>
         ensures { (r : RspSetup) (h : History) → StandsFor self.now r h
             → AreTermsIn result (session_of id h) }
@@ -57,7 +57,7 @@ impl Connection {
         self.clear.standing().common()
     }
 
-    /// The length that the large request in progress in the clear tells; 0 where none is.
+    /// The announced length of the clear large request in progress; 0 if there is none.
     pub fn told(&self) -> u32
         ensures value { (r : RspSetup) (h : History) → StandsFor self.now r h
             → result ≡ told_size (under_way (chunks_of (clear_turns h))) }
@@ -66,7 +66,7 @@ impl Connection {
         self.clear.requests().told()
     }
 
-    /// What the session with this RspSessionID stands under; `None` if there is none.
+    /// The terms of the session with this RspSessionID; `None` if there is none.
     pub fn session_terms(&self, id: u16) -> Option<SessionTerms>
         ensures { (r : RspSetup) (h : History) → StandsFor self.now r h
             → AreTermsIn result (session_of id h) }

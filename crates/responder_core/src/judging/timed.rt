@@ -21,7 +21,7 @@ impl Sessions {
     ghost use Rattle.responder_machine.specs.Setup.{RspSetup};
     ghost use Rattle.responder_core.specs.Sessions.{StandsFor, is_timed_in};
 
-    /// Whether there is a session with this RspSessionID that is timed, and so may be dropped unseen.
+    /// Whether there is a session with this RspSessionID that is timed, and so may be dropped without a trace.
     pub fn is_timed(&self, id: u16) -> bool
         ensures { (r : RspSetup) (h : History) → StandsFor self.now r h
             → result ≡ is_timed_in (session_of id h) }
@@ -41,7 +41,7 @@ impl Connection {
     ghost use Rattle.responder_core.specs.Connected.{StandsFor};
     ghost use Rattle.responder_core.specs.Sessions.{is_timed_in};
 
-    /// Whether there is a session with this RspSessionID that is timed, and so may be dropped unseen.
+    /// Whether there is a session with this RspSessionID that is timed, and so may be dropped without a trace.
     pub fn is_timed(&self, id: u16) -> bool
         ensures { (r : RspSetup) (h : History) → StandsFor self.now r h
             → result ≡ is_timed_in (session_of id h) }
