@@ -10,7 +10,7 @@ use Rattle.spdm_grammar.specs.declared.names.request_code.TheConstants.{GET_VERS
 
 -- What came: a clear message with its tag; a record with its tag, the turn of what was sealed in it, and the record
 -- sent in answer; application data queued for the requester; seconds that passed. Each message stands with the draw
--- that stood next. In the history of a capture alone there are sessions that were dropped unseen.
+-- that stood next. In the history of a capture alone there are sessions that were dropped without a trace.
 pub data Entry : Type 0 where
   Clear : (tag : ℕ) → (turn : Turn) → (draw : Draw) → Entry
   Sealed : (tag : ℕ) → (sealed : List ℕ) → (turn : Turn) → (reply : List ℕ) → (draw : Draw) → Entry

@@ -39,7 +39,7 @@ abbrev pub ChosenIsAllowed : Type 0
 ChosenIsAllowed = (r : RspSetup) (h : History) (p : Place) (d : Draw) → IsMade r h → length d.bytes ≡ 32 → length r.opaque ≤ 1024
     → IsAllowed h p (chosen r h p d)
 
--- What the responder does with a body is what any responder may do with it, without a session dropped unseen.
+-- What the responder does with a body is what any responder may do with it, without a session dropped without a trace.
 abbrev pub DoesWhatItMay : Type 0
 DoesWhatItMay = (r : RspSetup) (h : History) (tag : ℕ) (body : List ℕ) (d : Draw) → IsMade r h → length d.bytes ≡ 32 → length r.opaque ≤ 1024
     → ResponderMay r h [] tag body d (responder_does r h tag body d)

@@ -27,12 +27,12 @@ pub record IsAllowed (h : History) (p : Place) (f : Free) : Type 0 where
   pub reply : length f.reply ≤ 1024
   pub pad : length f.pad ≤ 16
 
--- Sessions that may have been dropped unseen just before a message: each is timed.
+-- Sessions that may have been dropped without a trace just before a message: each is timed.
 abbrev pub MayDrop : History → List ℕ → Type 0
 MayDrop h [] = Unit {0}
 MayDrop h (id ∷ ids) = (is_live (session_of id h) ≡ true) × (is_timed (session_of id h) ≡ true) × MayDrop (Dropped id ∷ h) ids
 
--- The history after the sessions of these ids were dropped unseen, one after another.
+-- The history after the sessions of these ids were dropped without a trace, one after another.
 abbrev pub with_dropped : History → List ℕ → History
 with_dropped h [] = h
 with_dropped h (id ∷ ids) = with_dropped (Dropped id ∷ h) ids
@@ -53,6 +53,6 @@ on_body r h tag body f d =
 abbrev pub BodyMay : RspSetup → History → ℕ → List ℕ → Draw → Outcome → Type 0
 BodyMay r h tag body d outcome = (f : Free) × IsAllowed h (place_for h body) f × (on_body r h tag body f d ≡ outcome)
 
--- The same, after sessions were dropped unseen.
+-- The same, after sessions were dropped without a trace.
 abbrev pub ResponderMay : RspSetup → History → (dropped : List ℕ) → ℕ → List ℕ → Draw → Outcome → Type 0
 ResponderMay r h dropped tag body d outcome = MayDrop h dropped × BodyMay r (with_dropped h dropped) tag body d outcome
