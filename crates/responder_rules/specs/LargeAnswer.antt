@@ -1,4 +1,4 @@
--- A large response of a place that is sent in chunks, as the program keeps it.
+-- A large response of a place that is sent in chunks, as the program represents it.
 use Rattle.std.specs.Prelude.{◌≡◌, ◌+◌, ◌||◌, not, if◌then◌else◌, ℕ, List, [], ◌∷◌, drop, Bool, true, false, Option, Some, None}
 use Rattle.chunking.specs.Cutting.{chunks_of}
 use Rattle.responder_machine.specs.Answer.{chunk_answer}
