@@ -3,7 +3,7 @@ ghost use Rattle.std.specs.Prelude.{◌≡◌};
 use session_keys::same_bytes;
 use spdm_basis::RecordFrame;
 
-/// The last record that was taken, with the record that answered it, in place; none before the first.
+/// The last accepted record with its response, stored inline; none before the first.
 #[derive(Drop)]
 pub struct LastRecord {
     pub is_taken: bool,
@@ -17,7 +17,7 @@ impl LastRecord {
     ghost use Rattle.responder_session.specs.Kept.{kept_record};
     ghost use Rattle.responder_session.specs.Reply.{last_reply};
 
-    /// No record was taken yet.
+    /// No record was accepted yet.
     pub fn none() -> LastRecord
         ensures { kept_record result ≡ None }
     {
@@ -28,14 +28,14 @@ impl LastRecord {
         }
     }
 
-    /// Whether a record is the last one that was taken.
+    /// Whether a record repeats the last accepted one.
     pub fn repeats(&self, sealed: &[u8]) -> bool
         ensures { result ≡ repeats (kept_record self.now) sealed.now }
     {
         self.is_taken && same_bytes(self.sealed.as_slice(), sealed)
     }
 
-    /// A record of at most 4,160 bytes was taken; its reply stands already.
+    /// Stores an accepted record of at most 4,160 bytes; its response is already stored.
     pub fn keep(&mut self, sealed: &[u8])
         requires { length sealed.now ≤ 4160 }
         ensures { self.new ≡ record self.old { is_taken = true; sealed = sealed.now } }

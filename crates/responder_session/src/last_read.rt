@@ -59,9 +59,9 @@ impl RspSession {
     ghost use Rattle.responder_session.specs.LastRead.{last_opened, reads_last, reply_opened};
     ghost use Rattle.responder_session.specs.Session.{StandsFor, IsEnded};
 
-    /// Whether these are the last record that was taken and its reply, and both open under the present keys, by the
-    /// numbers before the next ones: so it is unless the record changed a key. Their inner messages then overwrite
-    /// `inner` and `reply`. Nothing changes.
+    /// Whether these are the last accepted record and its response, and both open under the present keys with the
+    /// sequence numbers before the next ones, which holds unless the record changed a key. Their inner messages then
+    /// overwrite `inner` and `reply`. Nothing changes.
     pub fn read_last(
         &self,
         sealed: &[u8],

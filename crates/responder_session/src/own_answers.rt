@@ -112,8 +112,8 @@ impl RspSession {
         }
     }
 
-    /// Opens a record as the next one of the requester, and overwrites `inner` with its inner message. Nothing changes.
-    /// A fault tells why it does not open.
+    /// Opens a record as the next one from the requester, and overwrites `inner` with its inner message. Nothing
+    /// changes. The fault tells why it does not open.
     pub fn read_request(&self, sealed: &[u8], inner: &mut RecordFrame) -> Result<(), RecordFault>
         ensures fault { (psk : List ℕ) (s : Events) → StandsFor self.now psk s → MatchResult result
             (λ _. opening_fault psk s sealed.now ≡ None)
@@ -129,7 +129,7 @@ impl RspSession {
         }
     }
 
-    /// Whether a record is the last one that was taken.
+    /// Whether a record repeats the last accepted one.
     pub fn repeats_last(&self, sealed: &[u8]) -> bool
         ensures live { (psk : List ℕ) (s : Events) → StandsFor self.now psk s
             → result ≡ repeats (last_of s) sealed.now }
@@ -139,7 +139,7 @@ impl RspSession {
         self.kept.last.repeats(sealed)
     }
 
-    /// Whether a record is the last one that was taken, or opens as the next one of the requester. `inner` is scratch
+    /// Whether a record repeats the last accepted one, or opens as the next one from the requester. `inner` is scratch
     /// space.
     pub fn belongs(&self, sealed: &[u8], inner: &mut RecordFrame) -> bool
         ensures live { (psk : List ℕ) (s : Events) → StandsFor self.now psk s

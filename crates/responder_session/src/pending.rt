@@ -40,8 +40,8 @@ impl RspSession {
         self.large.forget();
     }
 
-    /// The MEASUREMENTS that answer the newest record were never seen, and are pending again: these bytes stand for
-    /// them, which are sent in chunks under this handle, and no chunk of them was given. `forget_pending` undoes it.
+    /// The MEASUREMENTS in response to the newest record were never seen, and are pending again: these bytes stand for
+    /// them, to be sent in chunks under this handle, and no chunk was sent. `forget_pending` undoes it.
     pub fn make_pending(&mut self, answer: &[u8], handle: u8)
         requires { length answer.now ≤ MAX_MESSAGE_SIZE }
         ensures { (r : RspSetup) (s : Events) → HasSizes r (session_terms s).common
@@ -53,7 +53,7 @@ impl RspSession {
         self.large.begin(answer, transfer, handle);
     }
 
-    /// A large response of the session was never seen, and other messages were taken since: it took no handle.
+    /// A large response in the session was never seen, and later messages were received: it used no handle.
     pub fn uncount(&mut self)
         ensures { (psk : List ℕ) (s e : Events) → IsUncounted s e → StandsFor self.old psk s
             → StandsFor self.new psk e }

@@ -17,7 +17,7 @@ impl RspVerifying {
     ghost use Rattle.responder_session.specs.Took.{IsTook};
     ghost use Rattle.responder_session.specs.Verifying.{StandsFor};
 
-    /// A view of the session, where fewer than 2^64 application messages were taken.
+    /// A view of the session, where fewer than 2^64 application messages were received.
     pub fn view(&self) -> SessionView
         ensures { (psk : List ℕ) (s : Events) → StandsFor self.now psk s → taken_of s < 2 ^ 64
             → result ≡ view_of s }
