@@ -68,7 +68,7 @@ abbrev pub run_text : Result Script ScriptFault → List ℕ
 run_text (Ok script) = written_in script
 run_text (Err f) = []
 
--- The line that tells what a world came to.
+-- The summary line of a world.
 abbrev pub summary_of : (seed count : ℕ) → Totals → List ℕ
 summary_of seed count t = summary_text seed count t.packets t.taken t.live
 
@@ -127,7 +127,7 @@ full_by (Some Check) text = None
 
 -- ---- What is answered.
 
--- A bad line is told; else the line at which the link is full; else all is done.
+-- The first bad line, else the line at which the link is full, else success.
 abbrev pub outcome_for : Option BadLine → Option ℕ → Outcome
 outcome_for (Some bad) full = BadScript bad.line bad.fault
 outcome_for None (Some line) = LinkFull line
