@@ -1,4 +1,5 @@
--- All requesters of a capture and the responder, as the program keeps them, and what it tells of a packet. This project's own.
+-- All requesters of a capture and the responder, as the program represents them, and what it tells of a packet. This
+-- project's own.
 use Rattle.std.specs.Prelude.{◌≡◌, ◌==◌, ℕ, List, [], ◌∷◌, length, Bool, true, Result, Ok, Err}
 use Rattle.mctp_framing.specs.Packet.{PacketFields, parsed}
 use Rattle.requester_machine.specs.Setup.{ReqSetup}
