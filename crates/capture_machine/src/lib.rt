@@ -1,5 +1,5 @@
 //! Captures as definitions: which packets the ends may send in an order, which packet is the first that they may not,
-//! and why. Nothing here runs. The definitions are in `specs/`, and each function below has a law about them as its
+//! and why. No code runs here. The definitions are in `specs/`, and each function below has a law about them as its
 //! contract.
 //!
 //! Read first: `Conforms` in `specs/Capture.antt`, which captures conform. The law to read first is

@@ -1,4 +1,4 @@
--- What is reported of an answer where no large request is in progress, in words of walks.
+-- What is reported of an answer where no large request is in progress, in terms of walks.
 use Rattle.std.proofs.Common.{◌≡◌, ℕ, List, ◌∷◌, refl, sym, subst, Some, None, Ok, Err, Result}
 use Rattle.mctp_framing.specs.Cutting.{RouteFields}
 use Rattle.mctp_framing.specs.Gathering.{Gathered}

@@ -1,4 +1,4 @@
--- What is reported of an answer while a large request is sent, in words of walks.
+-- What is reported of an answer while a large request is sent, in terms of walks.
 use Rattle.std.proofs.Common.{◌≡◌, ◌∙◌, ◌≤◌, ◌<◌, ◌+◌, ◌-◌, ◌^◌, ◌==◌, ◌||◌, ℕ, List, [], ◌∷◌, refl, sym, ap, subst, drop, length, Bool, true, false, cond, Option, Some, None, Err, Result, inl, inr, arith}
 use Rattle.std.proofs.lemmas.Option.{none-some, same_Some}
 use Rattle.mctp_framing.specs.Cutting.{RouteFields}

@@ -1,4 +1,4 @@
--- What is reported of a request by what is kept, while no large one is in progress, in words of walks.
+-- What is reported of a request by what is kept, while no large one is in progress, in terms of walks.
 use Rattle.std.proofs.Common.{◌≡◌, ℕ, List, ◌∷◌, refl, sym, subst, Option, Some, None}
 use Rattle.mctp_framing.specs.Cutting.{RouteFields}
 use Rattle.mctp_framing.specs.Gathering.{Gathered}

@@ -1,4 +1,4 @@
--- What is kept after a request where no large one is in progress, in words of walks.
+-- What is kept after a request where no large one is in progress, in terms of walks.
 use Rattle.std.proofs.Common.{◌≡◌, ◌∙◌, ◌+◌, ℕ, List, ◌∷◌, refl, sym, subst, length, true, false, Option, Some, None, Ok, Err, arith}
 use Rattle.std.proofs.lemmas.Bool.{false≢true}
 use Rattle.mctp_framing.specs.Cutting.{RouteFields}

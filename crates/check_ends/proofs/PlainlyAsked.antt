@@ -1,4 +1,4 @@
--- What is reported of a request that is no first chunk, where no large one is in progress, in words of walks.
+-- What is reported of a request that is no first chunk, where no large one is in progress, in terms of walks.
 use Rattle.std.proofs.Common.{◌≡◌, ◌∙◌, ℕ, List, refl, sym, ap, subst, false, Option, Some, None, Result, Ok, Err, is_some}
 use Rattle.std.proofs.lemmas.Bool.{false≢true}
 use Rattle.mctp_framing.specs.Cutting.{RouteFields}

@@ -1,4 +1,4 @@
--- What is reported of a request and of an answer while a large request is sent, in words of walks.
+-- What is reported of a request and of an answer while a large request is sent, in terms of walks.
 use Rattle.std.proofs.Common.{◌≡◌, ◌∙◌, ◌==◌, ◌||◌, ℕ, List, ◌∷◌, sym, ap, subst, drop, Bool, true, false, cond, Some, inl, inr}
 use Rattle.mctp_framing.specs.Cutting.{RouteFields}
 use Rattle.mctp_framing.specs.Gathering.{Gathered}

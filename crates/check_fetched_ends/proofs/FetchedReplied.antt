@@ -1,4 +1,4 @@
--- What is reported of an answer while a large one is fetched, in words of walks.
+-- What is reported of an answer while a large one is fetched, in terms of walks.
 use Rattle.std.proofs.Common.{◌≡◌, ◌∙◌, ℕ, List, ◌∷◌, sym, subst, Some, inl, inr}
 use Rattle.mctp_framing.specs.Cutting.{RouteFields}
 use Rattle.mctp_framing.specs.Gathering.{Gathered}

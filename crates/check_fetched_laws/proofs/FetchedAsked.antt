@@ -1,4 +1,4 @@
--- What is reported of a request while a large response is fetched, in words of walks.
+-- What is reported of a request while a large response is fetched, in terms of walks.
 use Rattle.std.proofs.Common.{◌≡◌, ◌∙◌, ℕ, List, ◌∷◌, refl, sym, subst, Some}
 use Rattle.mctp_framing.specs.Cutting.{RouteFields}
 use Rattle.mctp_framing.specs.Gathering.{Gathered}

@@ -24,7 +24,7 @@ pub fn message_in(text: &[u8]) -> Option<&[u8]>
     Some(behind_type(inner))
 }
 
-/// What a record holds as the answer to one, overwriting `text`: the length of its inner message as two bytes,
+/// What a record holds as the answer to one, which overwrites `text`: the length of its inner message as two bytes,
 /// little-endian, that message, and the padding. False where the session does not open the record that is answered. The
 /// connection may judge with any bytes as the large response that is fetched. Whether the answer is authentic is not
 /// tested.

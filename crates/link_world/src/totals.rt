@@ -75,7 +75,7 @@ impl Ends {
     ghost use Rattle.world_machine.specs.Totals.{totals_of};
     ghost use Rattle.world_machine.specs.World.{World};
 
-    /// The number of sessions that are open at all endpoints.
+    /// The number of open sessions, over all endpoints.
     pub(crate) fn live(&self) -> u32
         ensures { (w : World) → AreEnds self.now w → result ≡ (totals_of w).live }
     {

@@ -8,7 +8,7 @@ use Rattle.requester_machine.specs.History.{History, negotiation_of, next_handle
 use Rattle.requester_machine.specs.Setup.{ReqSetup}
 use Rattle.requester_machine.specs.Shown.{last_data}
 
--- What is kept, as contracts see it: the negotiation, what is sent, and the last data.
+-- The state in contracts: the negotiation, what is sent, and the last data.
 pub record Seen : Type 0 where
   pub negotiating : negotiating.Seen
   pub outgoing : outgoing.Seen

@@ -19,7 +19,7 @@ use Rattle.spdm_grammar.specs.declared.names.request_code.TheConstants.{PSK_EXCH
 use Rattle.spdm_machine.specs.Bodies.{clear_body}
 use Rattle.spdm_machine.specs.Keys.{Draw}
 
--- What is kept, as contracts see it: what is kept of the requests, and the stored reply.
+-- The state in contracts: what is kept of the requests, and the stored reply.
 pub record Seen : Type 0 where
   pub requests : coming.Seen
   pub kept : Option Kept

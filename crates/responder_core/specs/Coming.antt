@@ -19,8 +19,7 @@ use Rattle.spdm_grammar.specs.Message.{ChunkMessage, ExchangeMessage}
 use Rattle.spdm_grammar.specs.Message.RequestMessage.{ChunkSend, PskExchange}
 use Rattle.spdm_grammar.specs.declared.names.request_code.TheConstants.{PSK_EXCHANGE}
 
--- What is kept, as contracts see it: how the clear part stands, its collector, and the large request that was completed
--- last.
+-- The state in contracts: how the clear part stands, its collector, and the large request that was completed last.
 pub record Seen : Type 0 where
   pub standing : standing.Seen
   pub collector : keeping.Kept

@@ -10,8 +10,8 @@ use Rattle.spdm_grammar.specs.declared.told.phase.Phase.TheVariants.{Fresh, Vers
 use Rattle.spdm_machine.specs.Terms.{no_common, no_negotiation, terms_of}
 use Rattle.transcript.specs.Transcripts.{Negotiation, vca_of}
 
--- What is kept, as contracts see it: the phase, the bytes of the messages that were said, what both ends can do,
--- and the algorithms that were chosen.
+-- The state in contracts: the phase, the bytes of the messages that were said, what both ends can do, and the
+-- algorithms that were chosen.
 pub record Seen : Type 0 where
   pub phase : Phase
   pub messages : List ℕ

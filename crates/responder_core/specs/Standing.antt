@@ -17,7 +17,7 @@ place_at at turns held = record {
   past_handshake = held;
 }
 
--- What is kept, as contracts see it: the negotiation, and the large response.
+-- The state in contracts: the negotiation, and the large response.
 pub record Seen : Type 0 where
   pub negotiating : negotiating.Seen
   pub large : large_answer.Seen

@@ -173,7 +173,7 @@ is_answer_too_long p answer =
 
 -- ---- The table.
 
--- How long a request may be: the own transfer size, and the own max size where it arrived in chunks.
+-- The maximum length of a request: the own transfer size, and the own max size where it arrived in chunks.
 abbrev pub limit_of : RspSetup → Where → ℕ
 limit_of r InClear = r.transfer
 limit_of r InChunks = r.max

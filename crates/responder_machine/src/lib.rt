@@ -1,5 +1,5 @@
 //! The responder of SPDM 1.2 sessions under pre-shared keys as definitions over whole histories: what it refuses, what
-//! it answers, and what is counted of its sessions. Nothing here runs. The definitions are in `specs/`, and each
+//! it answers, and what is counted of its sessions. No code runs here. The definitions are in `specs/`, and each
 //! function below has a law about them as its contract.
 //!
 //! Read first: `responder_hears` in `specs/Responding.antt`, what a responder does with a packet.

@@ -18,7 +18,7 @@ abbrev pub left_by : ℕ → List Turn → Option (List ℕ) → List ChunkMessa
 left_by transfer turns None = []
 left_by transfer turns (Some answer) = drop (given_of turns) (chunks_of transfer (handle_of turns) answer)
 
--- What is kept, as contracts see it: these chunks, and the handle of the next large response.
+-- The state in contracts: these chunks, and the handle of the next large response.
 pub record Seen : Type 0 where
   pub left : List ChunkMessage
   pub next : ℕ

@@ -1,5 +1,5 @@
-//! What scripts lead to: the world that a script sets up, its events and its trace, and what holds of them. Nothing
-//! here runs: the definitions are in `specs/`, and each function below has a law about them as its contract.
+//! What scripts lead to: the world that a script sets up, its events and its trace, and what holds of them. No code
+//! runs here: the definitions are in `specs/`, and each function below has a law about them as its contract.
 //!
 //! Read first: `written_in` in `specs/Scripts.antt`, the trace of a script. The law to read first is `script_agrees`.
 #![tactic(auto)]

@@ -1,4 +1,4 @@
-//! Agreement of the two ends of a pre-shared key, over every schedule. Nothing here runs: the definitions are in
+//! Agreement of the two ends of a pre-shared key, over every schedule. No code runs here: the definitions are in
 //! `specs/`, and each function below has a law about them as its contract.
 //!
 //! `agreement`, `data_prefix`, `matched` and `sealed_once` are laws of worlds: a responder with its requesters and the

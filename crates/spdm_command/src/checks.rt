@@ -12,7 +12,7 @@ use spdm_basis::{Sink, Source};
 use trace_check::{CheckAnswer, CheckFault, check_input};
 use std::alloc::Global;
 
-// The outcome of a capture, as the command's outcome.
+// Converts the outcome of a capture to the command's.
 fn outcome_of(answer: &Result<CheckAnswer, CheckFault>) -> Outcome
     ensures { result ≡ outcome_of answer.now }
 {

@@ -10,7 +10,7 @@ use spdm_basis::{Seeds, Sink, Source};
 use std::alloc::Global;
 use stream_commands::{StreamFault, drive_input, serve_input};
 
-// The outcome of a stream, as the command's outcome.
+// Converts the outcome of a stream to the command's.
 fn outcome_of(answer: &Result<(), StreamFault>) -> Outcome
     ensures { result ≡ outcome_of answer.now }
 {

@@ -1,4 +1,4 @@
-//! Honest delivery completes what a requester is told to do. Nothing here runs: the definitions are in `specs/`, and
+//! Honest delivery completes what a requester is told to do. No code runs here: the definitions are in `specs/`, and
 //! each function below has a law about them as its contract.
 //!
 //! Read first: `OpenCompletes` in `specs/Opening.antt`, what `open` comes to where all is delivered. The law to read

@@ -1,4 +1,4 @@
-//! A requester and a responder that answer streams of frames, as the ends of a world. Nothing here runs: each function
+//! A requester and a responder that answer streams of frames, as the ends of a world. No code runs here: each function
 //! has a law as its contract.
 //!
 //! Read first: `EveryCarriageIsAWorld` in `specs/Laws.antt`, that the ends are those of a world in whatever order

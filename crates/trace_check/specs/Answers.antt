@@ -63,7 +63,7 @@ abbrev pub answer_of : Verdict → CheckAnswer
 answer_of (verdict.Conforms table) = answer.Conforms
 answer_of (verdict.Differs packet why) = answer.Differs packet why
 
--- The fault of a text that is no capture, as it is reported.
+-- The fault of a text that is not a capture, as it is reported.
 abbrev pub fault_of : ScriptFault → CheckFault
 fault_of (script.Line line f) = fault.Line line f
 fault_of (script.TooManyEvents line) = fault.Line line TooManyEvents

@@ -11,7 +11,7 @@ use script_text::{LineFault, ScriptFault, TEXT_LIMIT};
 use spdm_basis::{InFault, OutFault, Sink, Source, read_all};
 use std::alloc::Global;
 
-// Why a text is no capture, as it is reported.
+// Why a text is not a capture.
 fn fault_of(fault: ScriptFault) -> CheckFault
     ensures { result ≡ fault_of fault }
 {
@@ -55,7 +55,7 @@ fn answer_text<K: Sink>(alloc: Global, text: &[u8], sink: &mut K) -> Result<Chec
 }
 
 /// Reads a capture, up to the end of the source, and writes the lines of its verdict. An `Err` is told of the text that
-/// is no capture, of a call that failed, and of allocation failure.
+/// is not a capture, of a call that failed, and of allocation failure.
 pub fn check_input<S: Source, K: Sink>(
     alloc: Global,
     source: &mut S,

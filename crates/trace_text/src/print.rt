@@ -100,7 +100,7 @@ fn hex_digits(byte: u8) -> [u8; 2]
     digits
 }
 
-/// Puts a number after the words of a line.
+/// Appends a number to the words of a line.
 #[tactic(auto, using(crate::proofs::Decimals::decimal_short))]
 pub fn push_number(number: u64, out: &mut Line)
     requires { length out.old + 1 + MOST_DIGITS ≤ LINE_ROOM }
@@ -126,7 +126,7 @@ pub fn push_hex(bytes: &[u8], out: &mut Line)
     }
 }
 
-/// Puts a code after the words of a line.
+/// Appends a code to the words of a line.
 pub fn push_code(code: u8, out: &mut Line)
     requires { length out.old + 3 ≤ LINE_ROOM }
     ensures text { out.new ≡ with_word out.old (code_word code) }
@@ -155,7 +155,7 @@ pub fn begin_requester(q: u8, out: &mut Line)
     push_digits(u64::from(q), out);
 }
 
-/// Puts a requester after the words of a line.
+/// Appends a requester to the words of a line.
 #[tactic(auto, using(crate::proofs::Decimals::decimal_short))]
 pub fn push_requester(q: u8, out: &mut Line)
     requires { length out.old + 2 + MOST_DIGITS ≤ LINE_ROOM }
@@ -176,7 +176,7 @@ pub fn begin_at(number: u32, out: &mut Line)
     push_digits(u64::from(number), out);
 }
 
-/// Puts a hash after the words of a line.
+/// Appends a hash to the words of a line.
 pub fn push_hash(hash: &HashBytes, out: &mut Line)
     requires { length out.old + 98 ≤ LINE_ROOM }
     ensures text { out.new ≡ with_word out.old (hex_word hash.now) }

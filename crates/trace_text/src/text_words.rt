@@ -14,7 +14,7 @@ pub fn end_text_line(text: &mut Bytes) -> Result<(), OutOfMemory>
     text.extend(b"\n")
 }
 
-/// Puts a word after the words of the last line of a text.
+/// Appends a word to the words of the last line of a text.
 pub fn add_word(word: &[u8], text: &mut Bytes) -> Result<(), OutOfMemory>
     ensures { OnOk result (text.new ≡ with_word text.old word.now) }
 {
@@ -34,7 +34,7 @@ fn add_digits(number: u64, text: &mut Bytes) -> Result<(), OutOfMemory>
     text.extend(&[b'0' + (number % 10) as u8])
 }
 
-/// Puts a number after the words of the last line of a text.
+/// Appends a number to the words of the last line of a text.
 pub fn add_number(number: u64, text: &mut Bytes) -> Result<(), OutOfMemory>
     ensures { OnOk result (text.new ≡ with_word text.old (decimal number)) }
 {
@@ -84,7 +84,7 @@ pub fn begin_with_requester(q: u8, text: &mut Bytes) -> Result<(), OutOfMemory>
     add_digits(u64::from(q), text)
 }
 
-/// Puts a requester after the words of the last line of a text.
+/// Appends a requester to the words of the last line of a text.
 pub fn add_requester(q: u8, text: &mut Bytes) -> Result<(), OutOfMemory>
     ensures { OnOk result (text.new ≡ with_word text.old (requester_word q)) }
 {

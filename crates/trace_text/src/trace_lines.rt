@@ -258,7 +258,7 @@ pub fn line_no_packet(number: u32, out: &mut Line)
     end_line(out);
 }
 
-// Puts a session after the words of a line.
+// Appends a session to the words of a line.
 fn push_view(view: &SessionView, out: &mut Line)
     requires { length out.old ≤ 44 }
     ensures text { out.new ≡ with_words out.old (view_words view.now) }

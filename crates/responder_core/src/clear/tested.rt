@@ -26,7 +26,7 @@ use spdm_basis::Frame;
 use spdm_grammar::names::request_code::PSK_EXCHANGE;
 use spdm_grammar::{ErrorCode, Request};
 
-// How long a request may be: the own transfer size, and the own max size where it arrived in chunks.
+// The maximum length of a request: the own transfer size, and the own max size where it arrived in chunks.
 fn limit_of(setup: &Setup<'_>, at: Where) -> u32
     ensures { (r : RspSetup) → IsSetUp setup.now r → result ≡ refusal.limit_of r (where_of at) }
 {
