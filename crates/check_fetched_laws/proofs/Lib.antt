@@ -75,3 +75,4 @@ pub mod SeenGone
 pub mod SizesSeen
 pub mod BehindGet
 pub mod OthersLed
+pub mod StatedLaws

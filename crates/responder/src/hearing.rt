@@ -10,8 +10,8 @@ ghost use Rattle.responder_machine.specs.Setup.{RspSetup};
 
 use crate::body::{SPDM, write_body, write_reply};
 use crate::room::Room;
-use responder_core::{Connection, FreeValues, Setup, record_id};
 use hmac_hkdf::Drawn;
+use responder_core::{Connection, FreeValues, Setup, record_id};
 use responder_session::RecordFree;
 use session_keys::context_of;
 use spdm_basis::Buffer;
