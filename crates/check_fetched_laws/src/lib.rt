@@ -12,6 +12,5 @@ mod pending_bytes;
 
 pub use answer_texts::{message_in, read_answer};
 pub use few_blocks::blocks_are_few;
-pub use late_laws::stands_near;
 pub use laws::{chunk_is_shown, whole_is_shown};
 pub use pending_bytes::{forget_bytes, put_bytes};

@@ -6,7 +6,7 @@ ghost use Rattle.check_laws.specs.Laws.{SealedTells};
 ghost use Rattle.check_laws.specs.Verdict.{OneVerdict};
 ghost use Rattle.check_laws.specs.Walks.{ConformsIsEach};
 
-use world_machine::{beginning_conforms, conforming_has_table, one_reason, one_table};
+use capture_machine::{beginning_conforms, conforming_has_table, one_reason, one_table};
 
 /// Packets conform where all go between two ends that are set up, and each requester has a walk.
 pub fn conforms_is_each()
