@@ -1,15 +1,9 @@
 //! What packets make of the marks of touched sessions, and what leaves them, each law as the contract of a function
 //! that does nothing.
 
-ghost use Rattle.check_fetched_ends.specs.Marked.{AnswerMovesMarks};
 ghost use Rattle.check_fetched_ends.specs.MarkedEnds.{AwaitingMarkedStay, OtherMarkedStay};
 
 use crate::{awaiting_ends_stay, other_ends_stay};
-
-/// What an answer makes of them is told from the responder's history before it and behind it.
-pub fn answer_moves_marks()
-    ensures { AnswerMovesMarks }
-{}
 
 /// A packet between the responder and another requester leaves what is kept of this one, with its marks.
 pub fn other_marked_stay()

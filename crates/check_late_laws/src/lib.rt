@@ -13,17 +13,6 @@ mod laws;
 mod messages;
 
 pub use large_answer::LargeAnswer;
-pub use laws::{
-    begun_is_fetching, chunk_is_shown, fetching_asks, fetching_begins, fetching_ends,
-    fetching_goes, fetching_is_alone, fetching_is_asked, fetching_is_replied, fetching_shows,
-    fetching_stays, fetching_tells_apart, fetching_tells_why, fetching_turns, large_is_of_all,
-    last_is_whole, plain_is_of_all,
-};
-pub use late_fetch::laws::{
-    again_is_newest, again_leaves_others, all_are_past, ended_stays, front_is_near,
-    large_is_in_front, last_is_in_front, last_stays_back, late_completes, led_elsewhere,
-    led_goes_on, near_goes_on, near_is_kept, none_begins_since, refused_leaves_marks,
-    repeat_is_passed, repeat_stands_back, request_was_anew, request_was_led,
-    touch_is_told, untouched_is_told, untouched_stays,
-};
+pub use late_fetch::laws::late_completes;
 pub use late_fetch::marks::Marks;
+pub use laws::{chunk_is_shown, fetching_shows, last_is_whole};

@@ -13,9 +13,9 @@ ghost use Rattle.spdm_machine.specs.Keys.{record_fault};
 ghost use Rattle.check_responder.specs.AnswerKeys.{IsComing, IsComingKey};
 ghost use Rattle.capture_machine.specs.Opening.{opens_next};
 
-use check_laws::is_clear;
 use crate::coming::Coming;
 use crate::opening::Opening;
+use check_laws::is_clear;
 use responder_core::{Connection, record_id};
 use responder_session::AnswerKey;
 use session_keys::{behind_type, byte_at, same_bytes};
@@ -91,11 +91,7 @@ fn taken_key(connection: &Connection, request: &[u8], inner: &mut RecordFrame) -
 
 /// The key of the answer to a body that comes next, had before that is handed in: none where it is no
 /// record that is taken. Fewer than 2^64 - 1 messages came.
-pub fn coming_key(
-    connection: &Connection,
-    body: &[u8],
-    room: &mut RecordFrame,
-) -> Option<AnswerKey>
+pub fn coming_key(connection: &Connection, body: &[u8], room: &mut RecordFrame) -> Option<AnswerKey>
     ensures { (r : RspSetup) (h : History) → connected.StandsFor connection.now r h
         → messages_of h < 2 ^ 64 - 1 → IsComingKey r h body.now result }
 {

@@ -13,8 +13,8 @@ use crate::Requester;
 use crate::part::Part;
 use crate::sending::send;
 use crate::whole::WEAR_LIMIT;
-use requester_core::{Asking, Body};
 use mctp_framing::{Fed, Packet, PacketList, PacketView, Route};
+use requester_core::{Asking, Body};
 use spdm_grammar::{Event, ReqIgnored};
 
 // A whole body came by a route. The packets that are sent next are put in place of what `out` holds; where nothing

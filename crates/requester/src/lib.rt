@@ -12,7 +12,7 @@ mod sending;
 mod telling;
 mod whole;
 
-pub use requester_core::Command;
 pub use config::ReqConfig;
 pub use fault::ReqConfigFault;
+pub use requester_core::Command;
 pub use whole::Requester;

@@ -6,32 +6,32 @@
 //! to begin with is `Asking::command`.
 #![tactic(auto)]
 
-mod clear;
-mod in_sessions;
-mod judging;
 mod body;
+mod clear;
 mod command;
 mod free_values;
+mod in_sessions;
 mod joined;
+mod judging;
 mod reacting;
 mod reaction;
 mod setup;
 mod telling;
 
-pub use clear::again::Again;
 pub use body::Body;
-pub use command::Command;
-pub use free_values::FreeValues;
+pub use clear::again::Again;
 pub use clear::heard::Heard;
-pub use joined::Asking;
 pub use clear::led::Led;
 pub use clear::negotiating::Negotiating;
 pub use clear::outgoing::Outgoing;
-pub use reaction::Reaction;
+pub use clear::talk::Talk;
+pub use clear::waiting::{Asked, Waiting, Way};
+pub use command::Command;
+pub use free_values::FreeValues;
 pub use in_sessions::session_laws::{clear_passes, measure_passes};
 pub use in_sessions::session_led::SessionLed;
 pub use in_sessions::sessions::Sessions;
-pub use setup::Setup;
 pub use in_sessions::slot::Slot;
-pub use clear::talk::Talk;
-pub use clear::waiting::{Asked, Waiting, Way};
+pub use joined::Asking;
+pub use reaction::Reaction;
+pub use setup::Setup;

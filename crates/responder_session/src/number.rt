@@ -1,5 +1,5 @@
-use std::marker::Model;
 use spdm_grammar::names::MAX_RECORDS;
+use std::marker::Model;
 
 /// The number of the next record under a key, from 0 to 65,536: a key seals no more than 65,536
 /// records (DSP0277, "Sequence number"). Contracts see it as a number.
