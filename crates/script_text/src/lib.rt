@@ -1,5 +1,5 @@
-//! Every text that the program reads, and every line that it prints: scripts, captures, configurations,
-//! lives, commands and policies, and the lines of traces and tables.
+//! Every text that the program reads: scripts, captures, configurations, lives, commands and policies; and scripts that
+//! are generated, or written as a text.
 //!
 //! Read first: `script_in` in `specs/ScriptText.antt`, the script that a text stands for, or its
 //! first bad line. The call is `parse_script`.
