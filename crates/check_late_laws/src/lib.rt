@@ -3,7 +3,7 @@
 //! the bytes as they come.
 //!
 //! Read first: `IsFetchingOf` in `specs/Fetching.antt`, of which walks that is kept. The call is
-//! `LargeAnswer::take`; most other functions have a law as their contract. `late_fetch` has what holds where the fetch
+//! `LargeAnswer::take`; the other functions have a law as their contract. `late_fetch` has what holds where the fetch
 //! begins late: `StandsBack` in `specs/Late/Passed.antt`, and its call, `Marks`.
 #![tactic(auto)]
 
