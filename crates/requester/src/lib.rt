@@ -15,4 +15,5 @@ mod whole;
 pub use config::ReqConfig;
 pub use fault::ReqConfigFault;
 pub use requester_core::Command;
+pub use spdm_grammar::{CommandFault, Event, Finished, ReqIgnored, Stop};
 pub use whole::Requester;
