@@ -31,6 +31,7 @@ class Code(antt.Code):
 antt.Code = Code
 name = world.name
 W = "world_machine.specs."
+C = "capture_machine.specs."
 REASONS = "BadPacket UnknownEnd WrongTurn BadRequest BadReply BadVerify BadRecord".split()
 
 
@@ -58,24 +59,24 @@ class Walks:
         R, S, RQ = "responder_machine.specs.", "spdm_grammar.specs.", "requester_machine.specs."
         self.f = Here(
             parsed=g("mctp_framing.specs.Packet.parsed"), gathered_from=g("spdm_machine.specs.Packets.gathered_from"),
-            new_dialogue=g(W + "Rounds.new_dialogue"), dialogue_at=g(W + "Rounds.dialogue_at"),
-            with_dialogue=g(W + "Rounds.with_dialogue"), new_round=g(W + "Rounds.new_round"), towards=g(R + "Setup.towards"), known_of=g(W + "Setup.known_of"),
-            new_draw=g(W + "Rounds.no_draw"), no_draw=None,
+            new_dialogue=g(C + "Rounds.new_dialogue"), dialogue_at=g(C + "Rounds.dialogue_at"),
+            with_dialogue=g(C + "Rounds.with_dialogue"), new_round=g(C + "Rounds.new_round"), towards=g(R + "Setup.towards"), known_of=g(W + "Setup.known_of"),
+            new_draw=g(C + "Rounds.no_draw"), no_draw=None,
             asks=g(RQ + "Asking.asks"), hears=g(RQ + "Hearing.hears"), q_after=g(RQ + "Shown.after"),
             outstanding=g(RQ + "History.outstanding"), sent_count=g(RQ + "History.sent_count"), larges_of=g(RQ + "History.larges_of"), q_terms=g(RQ + "History.connection_terms"),
             q_session=g(RQ + "Session.session_of"), q_session_terms=g(RQ + "Session.session_terms"),
             q_live=g(RQ + "Session.is_live"), q_request_purpose=g(RQ + "Records.request_purpose"), q_request_next=g(RQ + "Session.request_next"),
             live_count=g(RQ + "Commands.live_count"),
-            without_owed=g(W + "CapturedRequests.without_owed"), with_next=g(RQ + "Owed.with_next"),
-            opens_asking=g(W + "Opening.opens_asking"), names=g(RQ + "Named.names"),
-            first_piece=g(W + "LargeRequests.first_piece"), still_sending=g(W + "LargeRequests.still_sending"),
-            with_ack=g(W + "LargeRequests.with_ack"), common_of=g(W + "LargeRequests.common_of"),
-            judging=g(W + "LargeAnswers.judging"), is_large=g(W + "LargeAnswers.is_large"), unseen=g(W + "LargeAnswers.unseen"), is_unseen_in=g(W + "LargeAnswers.is_unseen_in"),
-            place_named=g(W + "LargeAnswers.place_named"), with_large=g(W + "LargeAnswers.with_large"), repeats_large=g(W + "LargeAnswers.repeats_large"),
-            place_again=g(W + "LargeAnswers.place_again"), is_kept_in=g(W + "LargeAnswers.is_kept_in"),
-            place_of=g(W + "LargeAnswers.place_of"), dropped_before_large=g(W + "LargeAnswers.dropped_before_large"),
-            while_fetched=g(W + "LargeAnswers.while_fetched"), gives_last=g(W + "LargeAnswers.gives_last"),
-            tag_in=g(W + "CapturedAnswers.tag_in"), request_body=g(W + "CapturedAnswers.request_in"),
+            without_owed=g(C + "CapturedRequests.without_owed"), with_next=g(RQ + "Owed.with_next"),
+            opens_asking=g(C + "Opening.opens_asking"), names=g(RQ + "Named.names"),
+            first_piece=g(C + "LargeRequests.first_piece"), still_sending=g(C + "LargeRequests.still_sending"),
+            with_ack=g(C + "LargeRequests.with_ack"), common_of=g(C + "LargeRequests.common_of"),
+            judging=g(C + "LargeAnswers.judging"), is_large=g(C + "LargeAnswers.is_large"), unseen=g(C + "LargeAnswers.unseen"), is_unseen_in=g(C + "LargeAnswers.is_unseen_in"),
+            place_named=g(C + "LargeAnswers.place_named"), with_large=g(C + "LargeAnswers.with_large"), repeats_large=g(C + "LargeAnswers.repeats_large"),
+            place_again=g(C + "LargeAnswers.place_again"), is_kept_in=g(C + "LargeAnswers.is_kept_in"),
+            place_of=g(C + "LargeAnswers.place_of"), dropped_before_large=g(C + "LargeAnswers.dropped_before_large"),
+            while_fetched=g(C + "LargeAnswers.while_fetched"), gives_last=g(C + "LargeAnswers.gives_last"),
+            tag_in=g(C + "CapturedAnswers.tag_in"), request_body=g(C + "CapturedAnswers.request_in"),
             MayDrop=g(R + "May.MayDrop"), with_dropped=g(R + "May.with_dropped"), on_body=g(R + "May.on_body"),
             r_after=g(R + "Responder.after"), body_of=g(R + "Responder.body_of"), sent_by=g(R + "Responder.sent_by"),
             session_turn=g(R + "Responder.session_turn"),
@@ -89,9 +90,9 @@ class Walks:
             request_in=g(S + "Requests.request_in"), response_reading=g(S + "Responses.response_reading"),
             key_of=g("key_schedule.specs.Purpose.key_of"), iv_of=g("key_schedule.specs.Purpose.iv_of"),
             opened_text=g("secured_record.specs.Faults.opened_text"),
-            Follows=g(W + "Capture.Follows"), Leads=g(W + "Capture.Leads"), Conforms=g(W + "Capture.Conforms"),
-            IsFirstDifference=g(W + "Capture.IsFirstDifference"), IsReason=g(W + "Difference.IsReason"), IsDifference=g(W + "Difference.IsDifference"),
-            rows_after=g(W + "SessionTable.rows_after"), LeadsShowing=g(W + "SessionTable.LeadsShowing"), HasTable=g(W + "SessionTable.HasTable"), seen=g(W + "SessionTable.seen"),
+            Follows=g(C + "Capture.Follows"), Leads=g(C + "Capture.Leads"), Conforms=g(C + "Capture.Conforms"),
+            IsFirstDifference=g(C + "Capture.IsFirstDifference"), IsReason=g(C + "Difference.IsReason"), IsDifference=g(C + "Difference.IsDifference"),
+            rows_after=g(C + "SessionTable.rows_after"), LeadsShowing=g(C + "SessionTable.LeadsShowing"), HasTable=g(C + "SessionTable.HasTable"), seen=g(C + "SessionTable.seen"),
         )
         self.command = m.command
         self.Told = g(RQ + "History.Entry.Told")
@@ -99,15 +100,15 @@ class Walks:
         self.q_adds = g(RQ + "Asking.Outcome.Adds")
         self.PskExchange = g(S + "Message.RequestMessage.PskExchange")
         self.GetVersion = g(S + "Message.RequestMessage.GetVersion")
-        self.why = [g(W + "Difference.Why." + n) for n in REASONS]
+        self.why = [g(C + "Difference.Why." + n) for n in REASONS]
         self.D, self.T, self.events = [], [], []
         self.kept = {}
         V.TABLES.append(self.kept)
         d = self.d = {}
         self.domains()
         # what hangs on the capture that is walked over, and not on its arguments alone
-        self.of_capture = [W + "Capture.Leads", W + "Capture.Conforms", W + "SessionTable.LeadsShowing", W + "SessionTable.HasTable",
-                           W + "Difference.IsVerifyApart", W + "Difference.IsOtherwiseWrong", W + "Difference.IsReason"]
+        self.of_capture = [C + "Capture.Leads", C + "Capture.Conforms", C + "SessionTable.LeadsShowing", C + "SessionTable.HasTable",
+                           C + "Difference.IsVerifyApart", C + "Difference.IsOtherwiseWrong", C + "Difference.IsReason"]
 
     def fresh_capture(self):
         for n in self.of_capture:

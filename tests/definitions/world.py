@@ -22,7 +22,7 @@ class Machine:
                         for n in "Connect Open Send Beat Update Measure End Retry".split()}
         self.happening = {n: get("world_machine.specs.Happenings.Happening." + n)
                           for n in "Told Reply Deliver Lose Inject Pump Tick Show".split()}
-        self.pick = {n.lower(): get("spdm_grammar.specs.declared.choice.Pick.TheVariants." + n)
+        self.pick = {n.lower(): get("spdm_grammar.specs.declared.messages.choice.Pick.TheVariants." + n)
                      for n in "Small Large Both".split()}
         self.new_world = get("world_machine.specs.World.new_world")
         self.shown_lines = get("world_machine.specs.World.shown_lines")

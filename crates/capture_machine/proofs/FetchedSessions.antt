@@ -45,7 +45,7 @@ code_with w large (TookData x y) = refl
 pub takes_with : (w : List ℕ) (large : Option ℕ) (code : ℕ) (t : Turn) → takes code (turn_with w large t) ≡ takes code t
 takes_with w large code t = ap (λ (n : ℕ). n == code) (code_with w large t.effect)
 
-turns_by : (id : ℕ) (w : List ℕ) (e : Entry) (h : History) (b : Bool) → is_unseen_in (Some id) e ≡ b → clear_turns (with_large (Some id) w h) ≡ clear_turns h
+pub turns_by : (id : ℕ) (w : List ℕ) (e : Entry) (h : History) (b : Bool) → is_unseen_in (Some id) e ≡ b → clear_turns (with_large (Some id) w h) ≡ clear_turns h
     → clear_turns (cond b (seen w e ∷ h) (e ∷ with_large (Some id) w h)) ≡ clear_turns (e ∷ h)
 turns_by id w (Sealed tag m t reply d) h true is before = refl
 turns_by id w (Clear tag t d) h true is before = absurd (false≢true is)
@@ -59,7 +59,7 @@ turns_by id w (Ticked seconds) h false is before = before
 turns_by id w (Dropped which) h false is before = before
 
 -- No clear turn is another.
-turns_fetched : (id : ℕ) (w : List ℕ) (h : History) → clear_turns (with_large (Some id) w h) ≡ clear_turns h
+pub turns_fetched : (id : ℕ) (w : List ℕ) (h : History) → clear_turns (with_large (Some id) w h) ≡ clear_turns h
 turns_fetched id w [] = refl
 turns_fetched id w (e ∷ h) = turns_by id w e h (is_unseen_in (Some id) e) refl (turns_fetched id w h)
 

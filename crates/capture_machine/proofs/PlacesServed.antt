@@ -49,13 +49,13 @@ negotiation_at t ts code =
     (cond (code == NEGOTIATE_ALGORITHMS) (record (negotiation_of ts) { negotiate_algorithms = request_in t.effect; algorithms = answer_in t.effect })
     (negotiation_of ts)))
 
-get_settles : (t : Turn) (ts : List Turn) → takes CHUNK_GET t ≡ true → negotiation_of (t ∷ ts) ≡ negotiation_of ts
+pub get_settles : (t : Turn) (ts : List Turn) → takes CHUNK_GET t ≡ true → negotiation_of (t ∷ ts) ≡ negotiation_of ts
 get_settles t ts gets = ap (negotiation_at t ts) (eqb-true (code_in t.effect) CHUNK_GET gets)
 
-idle_settles : (t : Turn) (ts : List Turn) → IsIdle t → is_taken t ≡ false → negotiation_of (t ∷ ts) ≡ negotiation_of ts
+pub idle_settles : (t : Turn) (ts : List Turn) → IsIdle t → is_taken t ≡ false → negotiation_of (t ∷ ts) ≡ negotiation_of ts
 idle_settles t ts idle refused = ap (λ (x : Effect). negotiation_at t ts (code_in x)) (idle refused)
 
-inside_pending : (b : Bool) (p : Place) → has_pending (cond b (inside p) p) ≡ has_pending p
+pub inside_pending : (b : Bool) (p : Place) → has_pending (cond b (inside p) p) ≡ has_pending p
 inside_pending true p = refl
 inside_pending false p = refl
 

@@ -25,7 +25,7 @@ use Rattle.world_machine.specs.Setup.{Configuration}
 
 -- ---- No command asks for a chunk.
 
-command_none : (q : ReqSetup) (h : History) (f : Free) (command : Command) (s : Sent) → IsSent q h f (kind_of q h f command) s → begins_large s.aim ≡ false → is_for_chunk s.aim ≡ false
+pub command_none : (q : ReqSetup) (h : History) (f : Free) (command : Command) (s : Sent) → IsSent q h f (kind_of q h f command) s → begins_large s.aim ≡ false → is_for_chunk s.aim ≡ false
 command_none q h f Connect s is small = ap (λ (x : Sent). is_for_chunk x.aim) (is.0 small)
 command_none q h f (Open summary) s is small = ap (λ (x : Sent). is_for_chunk x.aim) (is.0 small)
 command_none q h f (Send id bytes) s is small = ap (λ (x : Sent). is_for_chunk x.aim) is
@@ -36,7 +36,7 @@ command_none q h f (Measure (Some id) op) s is small = ap (λ (x : Sent). is_for
 command_none q h f (End id) s is small = ap (λ (x : Sent). is_for_chunk x.aim) is
 command_none q h f Retry s is small = absurd is
 
-tells_none : (q : ReqSetup) (h : History) (command : Command) (body : List ℕ) (after : History) → Tells q h command body after → is_fetching (outstanding after) ≡ false
+pub tells_none : (q : ReqSetup) (h : History) (command : Command) (body : List ℕ) (after : History) → Tells q h command body after → is_fetching (outstanding after) ≡ false
 tells_none q h command body after tells =
     let kind = sent_by_kind q h tells.1.0 command tells.0 no_draw (asked false q h command tells.1.0 no_draw (Told command tells.0 no_draw) tells.1.2).1 in
     ap (λ (l : History). is_fetching (outstanding l)) tells.4 ∙ command_none q h tells.1.0 command tells.0 kind tells.2
@@ -46,13 +46,13 @@ tells_none q h command body after tells =
 abbrev IsKnown : Dialogue → Type 0
 IsKnown d = is_fetching (outstanding d.requester) ≡ true → is_some d.fetching ≡ true
 
-piece_known : (x : Sent) (h : History) → is_for_chunk x.aim ≡ false → is_fetching (outstanding (with_next (Some x) h)) ≡ true → is_fetching (outstanding h) ≡ true
+pub piece_known : (x : Sent) (h : History) → is_for_chunk x.aim ≡ false → is_fetching (outstanding (with_next (Some x) h)) ≡ true → is_fetching (outstanding h) ≡ true
 piece_known x [] none is = is
 piece_known x (Told command sent d ∷ h) none is = is
 piece_known x (TookClear tag m led d ∷ h) none is = absurd (false≢true (sym none ∙ is))
 piece_known x (TookRecord tag id sealed inner led d ∷ h) none is = absurd (false≢true (sym none ∙ is))
 
-sends_known : (d : Dialogue) (body : List ℕ) (after : History) (sending : Option (List ℕ)) → IsKnown d → Sends d body after sending → is_fetching (outstanding after) ≡ true → is_some d.fetching ≡ true
+pub sends_known : (d : Dialogue) (body : List ℕ) (after : History) (sending : Option (List ℕ)) → IsKnown d → Sends d body after sending → is_fetching (outstanding after) ≡ true → is_some d.fetching ≡ true
 unfolding Sends
 sends_known d body after sending here (inl (inl connect, none)) is = absurd (false≢true (sym (tells_none d.setup (without_owed d) Connect body after connect) ∙ is))
 sends_known d body after sending here (inl (inr commands, none)) is = absurd (false≢true (sym (tells_none d.setup d.requester commands.0 body after commands.2) ∙ is))
@@ -61,7 +61,7 @@ sends_known d body after sending here (inr (inr (whole, inl large, at))) is = ab
 sends_known d body after sending here (inr (inr (whole, inr owed, at))) is =
     here (piece_known _ d.requester refl (sym (ap (λ (l : History). is_fetching (outstanding l)) owed.7) ∙ is))
 
-asks_known : (d : Dialogue) (g : Gathered) (next : Dialogue) → IsKnown d → AsksBy d g next → IsKnown next
+pub asks_known : (d : Dialogue) (g : Gathered) (next : Dialogue) → IsKnown d → AsksBy d g next → IsKnown next
 asks_known d (Whole route body) next here c = by_kind c.2
   where
     by_kind : Copies d route.tag body next ⊎ Begins d route.tag body next → IsKnown next
@@ -70,7 +70,7 @@ asks_known d (Whole route body) next here c = by_kind c.2
 asks_known d More next here c = subst IsKnown (sym c) here
 asks_known d (Dropped cause) next here c = absurd c
 
-replies_known : (w : Configuration) (d : Dialogue) (g : Gathered) (next : Dialogue) → IsKnown d → RepliesBy w d g next → IsKnown next
+pub replies_known : (w : Configuration) (d : Dialogue) (g : Gathered) (next : Dialogue) → IsKnown d → RepliesBy w d g next → IsKnown next
 replies_known w d (Whole route body) next here c =
     let k = c.2 in
     let fetching : Option (List ℕ) = k.4.1 in

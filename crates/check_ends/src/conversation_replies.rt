@@ -1,8 +1,9 @@
 use crate::{Conversation, Onward, Party};
+use check_laws::{
+    LargeRequest, Round, SessionTable, ack_accepts_none, answer_asks_none, walks_step,
+};
 use check_responder::{Given, Judged};
-use check_laws::{Round, SessionTable, ack_accepts_none, answer_asks_none, walks_step};
 use responder_core::Setup;
-use check_laws::LargeRequest;
 use spdm_basis::OutOfMemory;
 use spdm_grammar::Why;
 

@@ -1,8 +1,8 @@
-use check_laws::is_get_version;
-use check_requester::is_first_chunk;
 use crate::{Conversation, Party};
-use check_laws::{Round, SessionTable, copy_is_request, round_is_request};
-use check_laws::{LargeRequest, Piece};
+use check_laws::{
+    LargeRequest, Piece, Round, SessionTable, copy_is_request, is_get_version, round_is_request,
+};
+use check_requester::is_first_chunk;
 use spdm_grammar::Why;
 
 // The requests that a requester sends.

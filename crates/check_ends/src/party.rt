@@ -2,12 +2,10 @@ ghost use Rattle.std.specs.Prelude.{◌≡◌, Err, Ok, if◌then◌else◌};
 ghost use Rattle.check_requester.specs.Asker.{is_first_chunk};
 ghost use Rattle.check_ends.specs.declared.onward.Onward.TheVariants as onward;
 
-use check_responder::Coming;
-use check_requester::is_first_chunk;
 use crate::Onward;
-use check_requester::Asker;
-use check_responder::{AnswerKeys, Answerer};
 use check_laws::{Places, Round, SessionTable};
+use check_requester::{Asker, is_first_chunk};
+use check_responder::{AnswerKeys, Answerer, Coming};
 use responder_core::Setup;
 use spdm_basis::RecordFrame;
 use spdm_grammar::Why;

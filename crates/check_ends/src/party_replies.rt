@@ -1,8 +1,7 @@
-use check_responder::why_so;
 use crate::{Onward, Party};
-use check_requester::Heard;
-use check_responder::{Given, Judged};
 use check_laws::{Change, Round, SessionTable};
+use check_requester::Heard;
+use check_responder::{Given, Judged, why_so};
 use responder_core::Setup;
 use responder_session::AnswerKey;
 use spdm_basis::OutOfMemory;

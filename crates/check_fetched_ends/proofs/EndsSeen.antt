@@ -17,7 +17,7 @@ use Rattle.responder_core.specs.declared.connected.Connection.{Connection}
 use Rattle.check_fetched_laws.proofs.Awaited.{IsAwaited, fetched_round}
 use Rattle.check_late_laws.proofs.Late.SeenAlike.{last_alike, live_alike}
 use Rattle.check_late_laws.proofs.Late.SeenSessions.{seen_alike}
-use Rattle.check_late_laws.proofs.Late.StepsMoved.{clear_type}
+use Rattle.check_laws.proofs.StepsOfWalks.{clear_type}
 use Rattle.check_fetched_ends.specs.JudgedEnds.{StandsAs, StandsFor}
 use Rattle.check_fetched_ends.specs.declared.fetch.Fetch.{Fetch}
 use Rattle.check_fetched_ends.specs.declared.fetch.Fetch.TheVariants as fetch

@@ -122,3 +122,4 @@ pub mod OfferKept
 pub mod OfferAwaited
 pub mod FirstTaken
 pub mod PiecesSent
+pub mod StatedLaws

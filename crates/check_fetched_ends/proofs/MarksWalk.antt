@@ -7,7 +7,7 @@ use Rattle.check_laws.proofs.OneWalk.{walks_alike}
 use Rattle.check_laws.specs.Order.{is_answer, is_request}
 use Rattle.check_laws.specs.Walks.{StepsBy, StepsTo, Walks}
 use Rattle.check_fetched_ends.proofs.MarksMoved.{answer_moves}
-use Rattle.check_late_laws.proofs.Late.StepsMoved.{walks_held}
+use Rattle.check_laws.proofs.StepsOfWalks.{walks_held}
 use Rattle.check_fetched_ends.specs.Marked.{AnswerMovesMarks, MarksStand, touched_behind}
 use Rattle.check_late_laws.specs.Late.Marking as marking
 use Rattle.check_late_laws.specs.Late.Passed.{touched}

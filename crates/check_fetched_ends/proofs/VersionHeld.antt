@@ -33,6 +33,7 @@ use Rattle.spdm_grammar.specs.declared.names.request_code.TheConstants.{CHUNK_GE
 use Rattle.capture_machine.specs.LargeAnswers.{is_unseen_effect}
 use Rattle.capture_machine.specs.Rounds.{Dialogue, no_draw}
 use Rattle.world_machine.specs.Setup.{Configuration, known_of}
+use Rattle.check_fetched_laws.proofs.ClearStands.{gets_larges, gets_queue}
 
 -- ---- It is no repeat.
 
@@ -98,31 +99,6 @@ anew_held w q older d (Some marks) tag t gets before left other walk has are uns
       ap repeats has.1 ∙ gets_not n other gets before are stands none,
       ap repeats (late_left marks tag t before left has.0 leaves) ∙ none,
     )
-
--- ---- Nothing of the fetch counts behind it.
-
-gets_queue : (gets : List Entry) (h : History) → AreGets gets → queue_of (gets ++ h) ≡ queue_of h
-gets_queue [] h are = refl
-gets_queue (Clear tag t d ∷ gets) h are = gets_queue gets h are.1
-gets_queue (Sealed tag m t reply d ∷ gets) h are = absurd (false≢true are.0)
-gets_queue (Queued bytes ∷ gets) h are = absurd (false≢true are.0)
-gets_queue (Ticked seconds ∷ gets) h are = absurd (false≢true are.0)
-gets_queue (Dropped id ∷ gets) h are = absurd (false≢true are.0)
-
-small : (a b : Bool) → not (a || b) ≡ true → b ≡ false
-small true b is = absurd (false≢true is)
-small false true is = absurd (false≢true is)
-small false false is = refl
-
-gets_larges : (gets : List Entry) (h : History) → AreGets gets → larges_of (clear_turns (gets ++ h)) ≡ larges_of (clear_turns h)
-gets_larges [] h are = refl
-gets_larges (Clear tag t d ∷ gets) h are =
-    let whole : is_some (handle_in t.effect) ≡ false = small (is_unseen_effect t.effect) (is_some (handle_in t.effect)) (and_second (takes CHUNK_GET t) _ are.0) in
-    ap (λ (b : Bool). cond b (larges_of (clear_turns (gets ++ h)) + 1) (larges_of (clear_turns (gets ++ h)))) whole ∙ gets_larges gets h are.1
-gets_larges (Sealed tag m t reply d ∷ gets) h are = absurd (false≢true are.0)
-gets_larges (Queued bytes ∷ gets) h are = absurd (false≢true are.0)
-gets_larges (Ticked seconds ∷ gets) h are = absurd (false≢true are.0)
-gets_larges (Dropped id ∷ gets) h are = absurd (false≢true are.0)
 
 pub version_held : (late : Option Marks) (tag : ℕ) (t : Turn) (gets : List Entry) (before left h : History) → HasGets late tag t gets before h → AreGets gets → IsUnseenRequest (Clear tag t no_draw) → IsLeftBy (Clear tag t no_draw) before left
     → (seen : Connection) (r : RspSetup) (other : ℕ) → connected.StandsFor seen r (version_entry other ∷ left) → connected.StandsFor seen r (version_entry other ∷ h)

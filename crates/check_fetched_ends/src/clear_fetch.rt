@@ -1,7 +1,6 @@
 //! A large response that is fetched in the clear.
 
 pub mod asked_exchange;
-pub mod asks_laws;
 pub mod handshake_left;
 pub mod held;
 pub mod held_begins;
@@ -13,8 +12,5 @@ pub mod held_replies;
 pub mod held_version;
 pub mod held_whole;
 pub mod late_begins;
-pub mod late_laws;
 pub mod led;
-pub mod refused_laws;
-pub mod same_chunks;
 pub mod shown;

@@ -13,7 +13,7 @@ pub struct JudgedEnds {
 }
 
 impl JudgedEnds {
-    ghost use Rattle.std.specs.Prelude.{◌≡◌, List, []};
+    ghost use Rattle.std.specs.Prelude.{[]};
     ghost use Rattle.requester_machine.specs.Setup.{ReqSetup};
     ghost use Rattle.check_ends.specs.Party.{IsParty};
     ghost use Rattle.check_laws.specs.Keeping.{kept_of};

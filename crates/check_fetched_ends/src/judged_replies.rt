@@ -10,8 +10,8 @@ use responder_core::Setup;
 use session_keys::byte_at;
 use spdm_basis::OutOfMemory;
 use spdm_grammar::Why;
-use spdm_grammar::names::request_code::GET_MEASUREMENTS;
 use spdm_grammar::names::message_type::SPDM;
+use spdm_grammar::names::request_code::GET_MEASUREMENTS;
 
 // Whether a body is a message in the clear.
 pub(crate) fn is_clear(body: &[u8]) -> bool

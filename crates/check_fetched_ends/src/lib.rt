@@ -6,7 +6,6 @@
 #![tactic(auto)]
 
 mod clear_fetch;
-mod session_fetch;
 mod ends_laws;
 mod fetch;
 mod judged_ends;
@@ -16,26 +15,21 @@ mod marked;
 mod marked_ends;
 mod marking;
 mod marks_laws;
+mod session_fetch;
 mod upon;
 
-pub use session_fetch::again_begins::{BegunAgain, begins_again};
-pub use clear_fetch::asks_laws::{
-    answers_tell_asking, clear_asks_on, plain_ends_fetching, session_asks_on, version_asks_none,
-};
-pub use ends_laws::{awaiting_ends_stay, other_ends_stay};
-pub use fetch::Fetch;
 pub use clear_fetch::held::Held;
 pub use clear_fetch::held_begins::{BegunHeld, begins_held};
 pub use clear_fetch::held_replies::replies_held;
+pub use clear_fetch::late_begins::begins_late;
+pub use clear_fetch::shown::Shown;
+pub use ends_laws::{awaiting_ends_stay, other_ends_stay};
+pub use fetch::Fetch;
+pub use judged_ends::JudgedEnds;
+pub use marked::MarkedEnds;
+pub use marks_laws::{awaiting_marked_stay, other_marked_stay};
+pub use session_fetch::again_begins::{BegunAgain, begins_again};
 pub use session_fetch::in_session::InSession;
 pub use session_fetch::in_session_begins::{BegunIn, begins_in_session};
 pub use session_fetch::in_session_replies::replies_in_session;
-pub use judged_ends::JudgedEnds;
-pub use clear_fetch::late_begins::begins_late;
-pub use clear_fetch::late_laws::{late_apart, late_before, late_is_led};
-pub use marked::MarkedEnds;
-pub use marks_laws::{answer_moves_marks, awaiting_marked_stay, other_marked_stay};
-pub use clear_fetch::refused_laws::{none_large_again, refused_again};
-pub use clear_fetch::same_chunks::{same_capabilities, same_common};
-pub use clear_fetch::shown::Shown;
 pub use upon::Upon;

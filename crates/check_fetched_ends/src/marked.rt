@@ -1,12 +1,12 @@
-use crate::judged_replies::is_clear;
 use crate::clear_fetch::late_begins::{begins_late, may_begin_late};
+use crate::judged_replies::is_clear;
 use crate::marked_ends::{is_live_in, moves_behind, repeats_clear, repeats_record};
 use crate::marking::move_marks;
 use crate::{BegunAgain, BegunHeld, Fetch, JudgedEnds, begins_again};
 use check_ends::{Onward, Party};
+use check_late_laws::Marks;
 use check_laws::{Round, SessionTable};
 use responder_core::{Setup, record_id};
-use check_late_laws::Marks;
 use session_keys::behind_type;
 use spdm_basis::OutOfMemory;
 use spdm_grammar::Why;

@@ -1,15 +1,9 @@
-//! What packets make of the marks of touched sessions, and what leaves them, each law stated as the contract of an
-//! empty function.
+//! What packets make of the marks of touched sessions, and what leaves them, each law as the contract of a function
+//! that does nothing.
 
-ghost use Rattle.check_fetched_ends.specs.Marked.{AnswerMovesMarks};
 ghost use Rattle.check_fetched_ends.specs.MarkedEnds.{AwaitingMarkedStay, OtherMarkedStay};
 
 use crate::{awaiting_ends_stay, other_ends_stay};
-
-/// What an answer makes of them is determined by the responder's history before it and after it.
-pub fn answer_moves_marks()
-    ensures { AnswerMovesMarks }
-{}
 
 /// A packet between the responder and another requester leaves what is kept of this one, with its marks.
 pub fn other_marked_stay()
@@ -18,7 +12,7 @@ pub fn other_marked_stay()
     other_ends_stay();
 }
 
-/// A packet after which more of a body is awaited leaves it.
+/// A packet behind which more of a body is awaited leaves it.
 pub fn awaiting_marked_stay()
     ensures { AwaitingMarkedStay }
 {

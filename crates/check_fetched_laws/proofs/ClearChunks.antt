@@ -34,7 +34,7 @@ use Rattle.responder_machine.specs.Setup.{RspSetup}
 use Rattle.responder_machine.specs.Turn.{Turn}
 use Rattle.check_laws.proofs.LeastValues.{least_allowed}
 use Rattle.check_laws.specs.AnswersShown.{least_values}
-use Rattle.check_fetched_laws.proofs.FewBytes.{chunk_few, transfer_few}
+use Rattle.check_late_laws.proofs.Sized.{chunk_few, transfer_few}
 use Rattle.check_fetched_laws.proofs.GetAlike.{answer_is, contents_is, fits, get_code, pending_is}
 use Rattle.check_fetched_laws.specs.ClearChunks.{IsNextGet, NextIsGiven, RepeatIsSame, get_entry, get_message, get_response}
 use Rattle.capture_machine.proofs.FetchedTells.{kept_large, repeat_same}

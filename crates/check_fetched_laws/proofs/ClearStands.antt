@@ -88,7 +88,7 @@ version_ends_all seen r tag h g queue next stands = record {
 
 -- ---- Behind a large answer that was not seen.
 
-gets_queue : (gets : List Entry) (h : History) → AreGets gets → queue_of (gets ++ h) ≡ queue_of h
+pub gets_queue : (gets : List Entry) (h : History) → AreGets gets → queue_of (gets ++ h) ≡ queue_of h
 gets_queue [] h are = refl
 gets_queue (Clear tag t d ∷ gets) h are = gets_queue gets h are.1
 gets_queue (Sealed tag m t reply d ∷ gets) h are = absurd (false≢true are.0)
@@ -96,12 +96,12 @@ gets_queue (Queued bytes ∷ gets) h are = absurd (false≢true are.0)
 gets_queue (Ticked seconds ∷ gets) h are = absurd (false≢true are.0)
 gets_queue (Dropped id ∷ gets) h are = absurd (false≢true are.0)
 
-small : (a b : Bool) → not (a || b) ≡ true → b ≡ false
+pub small : (a b : Bool) → not (a || b) ≡ true → b ≡ false
 small true b is = absurd (false≢true is)
 small false true is = absurd (false≢true is)
 small false false is = refl
 
-gets_larges : (gets : List Entry) (h : History) → AreGets gets → larges_of (clear_turns (gets ++ h)) ≡ larges_of (clear_turns h)
+pub gets_larges : (gets : List Entry) (h : History) → AreGets gets → larges_of (clear_turns (gets ++ h)) ≡ larges_of (clear_turns h)
 gets_larges [] h are = refl
 gets_larges (Clear tag t d ∷ gets) h are =
     let whole : is_some (handle_in t.effect) ≡ false = small (is_unseen_effect t.effect) (is_some (handle_in t.effect)) (and_second (takes CHUNK_GET t) _ are.0) in

@@ -31,7 +31,6 @@ pub mod GetSteps
 pub mod GetAnswers
 pub mod GetBegins
 pub mod GetTurns
-pub mod KnownAsks
 pub mod LargeWalks
 pub mod ClearRound
 pub mod ClearStands
@@ -75,3 +74,4 @@ pub mod SeenGone
 pub mod SizesSeen
 pub mod BehindGet
 pub mod OthersLed
+pub mod StatedLaws

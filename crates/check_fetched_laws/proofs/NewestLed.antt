@@ -11,8 +11,8 @@ use Rattle.check_late_laws.proofs.Late.SeenAlike.SeenAlike.{NoEvent}
 use Rattle.check_late_laws.proofs.Late.SeenSessions.{events_equal, seen_alike}
 use Rattle.check_late_laws.proofs.Late.SessionsQuiet.{none_dropped}
 use Rattle.check_late_laws.proofs.Late.SettledSessions.{IsSettled, settled_sessions}
-use Rattle.check_late_laws.proofs.Late.StepsBegun.{settled, settled_behind, settled_here}
-use Rattle.check_late_laws.proofs.Late.StepsMoved.{completes_since, walks_held}
+use Rattle.check_laws.proofs.BegunAtLast.{settled, settled_behind, settled_here}
+use Rattle.check_laws.proofs.StepsOfWalks.{completes_since, walks_held}
 use Rattle.check_late_laws.proofs.Late.BehindSessions.{dropped_session as session_dropped}
 use Rattle.check_late_laws.proofs.Late.SessionNewest.{again_leaves_others}
 use Rattle.mctp_framing.specs.Gathering.{Gathered}

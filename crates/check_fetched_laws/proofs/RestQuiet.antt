@@ -42,6 +42,8 @@ use Rattle.capture_machine.specs.CapturedAnswers.{Answers, MayLeadTo, is_plain}
 use Rattle.capture_machine.specs.LargeAnswers.{dropped_before_large, effect_with, gives_last, is_large, is_unseen_in, judging, place_named, seen, turn_with, unseen, with_large}
 use Rattle.capture_machine.specs.Rounds.{Dialogue, Round, no_draw}
 use Rattle.world_machine.specs.Setup.{Configuration, known_of}
+use Rattle.check_late_laws.proofs.Late.SessionsQuiet.{none_handled}
+use Rattle.capture_machine.proofs.PlacesServed.{inside_pending}
 
 -- ---- The turns of the clear part.
 
@@ -50,38 +52,6 @@ transfer_at ts = (terms_of (negotiation_of ts)).common.to_requester.transfer
 
 abbrev Quiet : List Turn → Type 0
 Quiet ts = is_some (pending_of (transfer_at ts) ts) ≡ false
-
-abbrev negotiation_at : Turn → List Turn → ℕ → Negotiation
-negotiation_at t ts code =
-    cond (code == GET_VERSION) (record no_negotiation { get_version = request_in t.effect; version = answer_in t.effect })
-    (cond (code == GET_CAPABILITIES) (record (negotiation_of ts) { get_capabilities = request_in t.effect; capabilities = answer_in t.effect })
-    (cond (code == NEGOTIATE_ALGORITHMS) (record (negotiation_of ts) { negotiate_algorithms = request_in t.effect; algorithms = answer_in t.effect })
-    (negotiation_of ts)))
-
-get_settles : (t : Turn) (ts : List Turn) → takes CHUNK_GET t ≡ true → negotiation_of (t ∷ ts) ≡ negotiation_of ts
-get_settles t ts gets = ap (negotiation_at t ts) (eqb-true (code_in t.effect) CHUNK_GET gets)
-
-idle_settles : (t : Turn) (ts : List Turn) → IsIdle t → is_taken t ≡ false → negotiation_of (t ∷ ts) ≡ negotiation_of ts
-idle_settles t ts idle refused = ap (λ (x : Effect). negotiation_at t ts (code_in x)) (idle refused)
-
-not_large : (x : Effect) → is_some (handle_in x) ≡ false → large_in x ≡ None
-not_large NoEffect small = refl
-not_large (Took a m answer None) small = refl
-not_large (Took a m answer (Some handle)) small = absurd (false≢true (sym small))
-not_large (TookData bytes answer) small = refl
-
--- With one chunk more no more is pending.
-more_given : (transfer n : ℕ) (o : Option (List ℕ)) → is_some (still_pending transfer n o) ≡ false → is_some (still_pending transfer (n + 1) o) ≡ false
-more_given transfer n None none = refl
-more_given transfer n (Some w) none = by_test (nat_lt n (chunk_count transfer w)) (nat_lt (n + 1) (chunk_count transfer w)) refl refl none
-  where
-    by_test : (a b : Bool) → nat_lt n (chunk_count transfer w) ≡ a → nat_lt (n + 1) (chunk_count transfer w) ≡ b → is_some (cond a (Some w) None) ≡ false → is_some (cond b (Some w) None) ≡ false
-    by_test true b is next none = absurd (false≢true (sym none))
-    by_test false false is next none = refl
-    by_test false true is next none = absurd (false≢true (sym is ∙ less n (chunk_count transfer w) next))
-      where
-        less : (a c : ℕ) → nat_lt (a + 1) c ≡ true → nat_lt a c ≡ true
-        less a c h = grind (arith, nat_tests)
 
 quiet_next : (t : Turn) (ts : List Turn) → IsIdle t → is_some (handle_in t.effect) ≡ false → Quiet ts → Quiet (t ∷ ts)
 quiet_next t ts idle small quiet = by_taken (is_taken t) refl
@@ -151,11 +121,6 @@ quiet_adds (Queued bytes) h idle small quiet = quiet
 quiet_adds (Ticked seconds) h idle small quiet = quiet
 quiet_adds (Dropped id) h idle small quiet = quiet
 
-none_handled : (x : Effect) → is_some (handle_in (effect_with [] None x)) ≡ false
-none_handled NoEffect = refl
-none_handled (Took a m answer large) = refl
-none_handled (TookData bytes answer) = refl
-
 quiet_unseen : (e : Entry) (h : History) → IdleIn e → QuietIn h → QuietIn (unseen e ∷ h)
 quiet_unseen (Clear tag t d) h idle quiet = quiet_next (turn_with [] None t) (clear_turns h) (with_idle [] None t idle) (none_handled t.effect) quiet
 quiet_unseen (Sealed tag m t reply d) h idle quiet = quiet
@@ -220,12 +185,6 @@ after_quiet : (r : RspSetup) (k h j : History) (tag : ℕ) (body : List ℕ) (o 
 after_quiet r k h j tag body (Same b) may plain quiet = quiet
 after_quiet r k h j tag body (Unopened b) may plain quiet = quiet
 after_quiet r k h j tag body (Adds e) may plain quiet = quiet_adds e h (idle_led r k tag body e may) (plain_small j e plain) quiet
-
--- ---- The last chunk.
-
-inside_pending : (b : Bool) (p : Place) → has_pending (cond b (inside p) p) ≡ has_pending p
-inside_pending true p = refl
-inside_pending false p = refl
 
 last_quiet : (e : Entry) (g h : History) (b : Bool) → IsKindOf b e → gives_last g e ≡ true → clear_turns h ≡ cond b (clear_turns g) (clear_turns h) → (b ≡ false → QuietIn h) → QuietIn (e ∷ h)
 last_quiet (Clear tag t d) g h true kind last same rest =

@@ -46,6 +46,7 @@ use Rattle.capture_machine.proofs.UnseenStands.{UnseenStand}
 use Rattle.capture_machine.specs.CapturedAnswers.{AreShown, MayLeadAfter, MayLeadTo, belongs_to, clear_answer, is_plain, record_answer, shows}
 use Rattle.capture_machine.specs.LargeAnswers.{gives_last, is_large, is_unseen_in, place_named, seen, takes_get, with_large}
 use Rattle.capture_machine.specs.Rounds.{no_draw}
+use Rattle.capture_machine.proofs.FetchedSessions.{turns_by}
 
 -- ---- One record.
 
@@ -167,21 +168,6 @@ module _ (g k : History) (all : (i : ℕ) → EventsAlike (session_of i g) (sess
     reply = fits.reply;
     pad = fits.pad;
   }
-
--- ---- The bytes of a large answer touch no clear turn.
-
-turns_by : (id : ℕ) (w : List ℕ) (e : Entry) (h : History) (b : Bool) → is_unseen_in (Some id) e ≡ b → clear_turns (with_large (Some id) w h) ≡ clear_turns h
-    → clear_turns (cond b (seen w e ∷ h) (e ∷ with_large (Some id) w h)) ≡ clear_turns (e ∷ h)
-turns_by id w (Sealed tag m t reply d) h true is before = refl
-turns_by id w (Clear tag t d) h true is before = absurd (false≢true is)
-turns_by id w (Queued bytes) h true is before = absurd (false≢true is)
-turns_by id w (Ticked seconds) h true is before = absurd (false≢true is)
-turns_by id w (Dropped which) h true is before = absurd (false≢true is)
-turns_by id w (Clear tag t d) h false is before = ap (λ l. t ∷ l) before
-turns_by id w (Sealed tag m t reply d) h false is before = before
-turns_by id w (Queued bytes) h false is before = before
-turns_by id w (Ticked seconds) h false is before = before
-turns_by id w (Dropped which) h false is before = before
 
 turns_within : (id : ℕ) (w : List ℕ) (h : History) → clear_turns (with_large (Some id) w h) ≡ clear_turns h
 turns_within id w [] = refl

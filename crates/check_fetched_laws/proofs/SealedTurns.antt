@@ -50,25 +50,6 @@ session_places s u e pending =
       given = given_both (turns_of s) (turns_of u) both;
     }
 
--- ---- An SPDM message.
-
--- The tests of contents, by the request and the answer.
-abbrev tests_with : RspSetup → Place → List ℕ → Option RequestMessage → List ℕ → List (Bool × ErrorCode)
-tests_with r p m q answer =
-    (lacks_flag (place_terms p) (code_of m), UnsupportedRequest)
-    ∷ (are_caps_refused r q, InvalidRequest)
-    ∷ (is_offer_refused r q, InvalidRequest)
-    ∷ (has_no_block r q, InvalidRequest)
-    ∷ (is_exchange_refused r p q, InvalidRequest)
-    ∷ (is_verify_wrong r p m q, DecryptError)
-    ∷ (is_update_misplaced p q, UnexpectedRequest)
-    ∷ (is_too_large (chunk_fault r p q), RequestTooLarge)
-    ∷ (is_some (chunk_fault r p q), InvalidRequest)
-    ∷ (is_get_refused p q, InvalidRequest)
-    ∷ (is_answer_too_long p answer, ResponseTooLarge)
-    ∷ (code_of m == PSK_EXCHANGE && p.past_handshake == 4, SessionLimitExceeded)
-    ∷ []
-
 -- The request is CHUNK_GET.
 abbrev asks_get : Option RequestMessage → Bool
 asks_get (Some (ChunkGet handle number)) = true

@@ -13,15 +13,7 @@ use Rattle.capture_machine.proofs.Fetching.{IsSound, asks_sound, begins_sound, r
 use Rattle.capture_machine.specs.Capture.{AsksBy, RepliesBy}
 use Rattle.capture_machine.specs.Rounds.{Dialogue, Round}
 use Rattle.world_machine.specs.Setup.{Configuration}
-
-step_sound : (w : Configuration) (eid : ℕ) (older : List (List ℕ)) (d next : Dialogue) (r : Result PacketFields PacketFault) → IsSound d → StepsBy w eid older d next r → IsSound next
-step_sound w eid older d next (Err fault) sound step = subst IsSound (sym step) sound
-step_sound w eid older d next (Ok p) sound step = by_ends (is_request w.responder.eid eid p) (is_answer w.responder.eid eid p) step
-  where
-    by_ends : (b c : Bool) → MatchBool b (AsksBy d (gathered_from w.responder.eid eid older p) next) (MatchBool c (RepliesBy w d (gathered_from eid w.responder.eid older p) next) (next ≡ d)) → IsSound next
-    by_ends true c asks = asks_sound d (gathered_from w.responder.eid eid older p) next sound asks
-    by_ends false true replies = replies_sound w d (gathered_from eid w.responder.eid older p) next sound replies
-    by_ends false false same = subst IsSound (sym same) sound
+use Rattle.check_late_laws.proofs.Late.WalksStand.{step_sound}
 
 pub walks_sound : (w : Configuration) (q : ReqSetup) (older : List (List ℕ)) (d : Dialogue) → Walks w q older d → IsSound d
 unfolding StepsTo

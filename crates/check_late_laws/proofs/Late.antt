@@ -28,10 +28,6 @@ pub mod SeenUpdates
 pub mod SessionNewest
 pub mod SessionsQuiet
 pub mod SettledSessions
-pub mod StepsBegun
-pub mod StepsFew
-pub mod StepsMoved
-pub mod StepsSessions
 pub mod TurnElsewhere
 pub mod VersionHeard
 pub mod WalksAnew

@@ -33,3 +33,4 @@ pub mod VersionMoved
 pub mod PlainLaws
 pub mod LargeLaws
 pub mod Late
+pub mod StatedLaws

@@ -35,6 +35,7 @@ use Rattle.check_late_laws.proofs.Gave.{number_same}
 use Rattle.check_late_laws.proofs.RecordMoved.{ChunkSame}
 use Rattle.check_late_laws.proofs.SessionMoved.{chunk_at, given_alike}
 use Rattle.check_late_laws.proofs.WithinMoved.{Beside, large_alike, pending_at, within_moved}
+use Rattle.capture_machine.proofs.FetchedSessions.{turns_fetched}
 
 -- ---- Whether it goes whole.
 
@@ -61,26 +62,6 @@ still_plain r h v w tag body (Same b) one two may might plain = refl
 still_plain r h v w tag body (Unopened b) one two may might plain = refl
 still_plain r h v w tag body (Adds e) one two may might plain =
     ap (λ (b : Bool). not (is_large e) && not b) (sym (entry_plain r h v w tag body e (takes_get e) refl one two may might)) ∙ plain
-
--- ---- In a session.
-
-turns_by : (id : ℕ) (w : List ℕ) (e : Entry) (h : History) (b : Bool) → is_unseen_in (Some id) e ≡ b → clear_turns (with_large (Some id) w h) ≡ clear_turns h
-    → clear_turns (cond b (seen w e ∷ h) (e ∷ with_large (Some id) w h)) ≡ clear_turns (e ∷ h)
-turns_by id w (Sealed tag m t reply d) h true is before = refl
-turns_by id w (Clear tag t d) h true is before = absurd (false≢true is)
-turns_by id w (Queued bytes) h true is before = absurd (false≢true is)
-turns_by id w (Ticked seconds) h true is before = absurd (false≢true is)
-turns_by id w (Dropped which) h true is before = absurd (false≢true is)
-turns_by id w (Clear tag t d) h false is before = ap (λ l. t ∷ l) before
-turns_by id w (Sealed tag m t reply d) h false is before = before
-turns_by id w (Queued bytes) h false is before = before
-turns_by id w (Ticked seconds) h false is before = before
-turns_by id w (Dropped which) h false is before = before
-
--- No clear turn is another.
-turns_fetched : (id : ℕ) (w : List ℕ) (h : History) → clear_turns (with_large (Some id) w h) ≡ clear_turns h
-turns_fetched id w [] = refl
-turns_fetched id w (e ∷ h) = turns_by id w e h (is_unseen_in (Some id) e) refl (turns_fetched id w h)
 
 pub turns_same : (at : Option ℕ) (id : ℕ) (v w : List ℕ) (h : History) → at ≡ Some id → clear_turns (with_large at v h) ≡ clear_turns (with_large at w h)
 turns_same at id v w h is = ap (λ (o : Option ℕ). clear_turns (with_large o v h)) is ∙ turns_fetched id v h ∙ sym (turns_fetched id w h) ∙ ap (λ (o : Option ℕ). clear_turns (with_large o w h)) (sym is)

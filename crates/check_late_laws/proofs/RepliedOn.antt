@@ -36,23 +36,7 @@ use Rattle.check_laws.proofs.OneWalk.{walks_alike}
 use Rattle.check_laws.specs.Keeping.{Kept, kept_of}
 use Rattle.std.proofs.lemmas.Option.{none-some}
 use Rattle.capture_machine.specs.LargeAnswers.{place_named}
-
--- ---- The requester's side.
-
-heard_by : (q : ReqSetup) (h g : History) (x : responder_history.History) (round : Option Round) (fe : Option (List ℕ)) (tag : ℕ) (body : List ℕ) (f : Free) → Equals h g → IsAllowed q h f
-    → (other : History) × Hears (dial q g x round None fe) tag body other
-unfolding Hears
-heard_by q h g x round fe tag body f same allowed =
-    (after g (hears q g false tag body f no_draw), (hears q g false tag body f no_draw, (f, allowed_same q h g f same allowed, refl), refl))
-
-hears_on : (q : ReqSetup) (h g : History) (r x : responder_history.History) (round : Option Round) (sd se fd fe : Option (List ℕ)) (tag : ℕ) (body : List ℕ) (next : History) → AskersAlike round h g sd se
-    → Hears (dial q h r round sd fd) tag body next → (other : History) × Hears (dial q g x round se fe) tag body other
-unfolding Hears
-hears_on q _ _ r x round _ _ fd fe tag body next (Settled h g agree not at) one = heard_by q h g x round fe tag body one.1.0 (agree_equals h g agree) one.1.1
-hears_on q _ _ r x round _ _ fd fe tag body next (Owing e f h g s t agree alike out sent like tagged else later at) one =
-    heard_by q (e ∷ h) (f ∷ g) x round fe tag body one.1.0 (entry_equals e f h g alike agree) one.1.1
-hears_on q _ _ r x round _ _ fd fe tag body next (Shown h g w v a b handle number s t u waits wait aims aim tags not at) one = (with_ack v tag (drop 1 body) g, refl)
-hears_on q _ _ r x round _ _ fd fe tag body next (Due old m h g w v a b handle number u later at) one = (with_ack v tag (drop 1 body) (acked old m b v handle (number + 1) g), refl)
+use Rattle.check_laws.proofs.AnsweredOn.{hears_on}
 
 -- ---- Both sides.
 

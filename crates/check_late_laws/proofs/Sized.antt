@@ -20,7 +20,7 @@ use Rattle.spdm_machine.specs.Terms.{asked_caps, common_from, no_common, request
 -- ---- What stands in a chunk.
 
 -- No requester takes more than 4,096 bytes at once.
-settled_by : (a b : Caps) (small crossed keyless bare : Bool)
+pub settled_by : (a b : Caps) (small crossed keyless bare : Bool)
     → (unwrap_or (result_ok (cond small (Err SizeTooSmall) (cond crossed (Err SizesCrossed) (cond keyless (Err NoPsk) (cond bare (Err NoProtection) (Ok (shared a b))))))) no_common).to_requester.transfer ≤ MAX_MESSAGE_SIZE
 settled_by a b true crossed keyless bare = omega arith
 settled_by a b false true keyless bare = omega arith
@@ -28,7 +28,7 @@ settled_by a b false false true bare = omega arith
 settled_by a b false false false true = omega arith
 settled_by a b false false false false = min-le_right a.transfer MAX_MESSAGE_SIZE
 
-settled_few : (a b : Option Caps) → (common_from a b).to_requester.transfer ≤ MAX_MESSAGE_SIZE
+pub settled_few : (a b : Option Caps) → (common_from a b).to_requester.transfer ≤ MAX_MESSAGE_SIZE
 settled_few None b = omega arith
 settled_few (Some a) None = omega arith
 settled_few (Some a) (Some b) = settled_by a b _ _ _ _
@@ -37,18 +37,18 @@ pub transfer_few : (p : Place) → (place_terms p).common.to_requester.transfer 
 unfolding terms_of
 transfer_few p = settled_few (asked_caps (request_value p.negotiation.get_capabilities)) (told_caps (response_value p.negotiation.capabilities))
 
-cut_few : (message : List ℕ) (start end : ℕ) → length (slice_range message start end) ≤ end - start
+pub cut_few : (message : List ℕ) (start end : ℕ) → length (slice_range message start end) ≤ end - start
 cut_few message start end =
     let rest = length-drop start message in
     let few = length-take (end - start) (drop start message) in
     omega (arith, rest, few)
 
-chunk_by : (first last : Bool) (handle number size start end : ℕ) (message : List ℕ)
+pub chunk_by : (first last : Bool) (handle number size start end : ℕ) (message : List ℕ)
     → length (canonical_response (ChunkResponse (record { last = last; handle = handle; number = number; large = cond first (Some size) None; chunk = slice_range message start end }))) ≤ cond first 16 12 + (end - start)
 chunk_by true last handle number size start end message = (let few = cut_few message start end in omega (arith, few))
 chunk_by false last handle number size start end message = (let few = cut_few message start end in omega (arith, few))
 
-framed_few : (first : Bool) (x unit transfer n : ℕ) → unit ≡ transfer - 12 → transfer ≤ 4096 → (first ≡ true → x ≡ 0) → n ≤ cond first 16 12 + ((x + unit - 4) - (x - 4)) → n ≤ 4096
+pub framed_few : (first : Bool) (x unit transfer n : ℕ) → unit ≡ transfer - 12 → transfer ≤ 4096 → (first ≡ true → x ≡ 0) → n ≤ cond first 16 12 + ((x + unit - 4) - (x - 4)) → n ≤ 4096
 framed_few true x unit transfer n is few none most = (let zero = none refl in omega (arith, is, few, zero, most))
 framed_few false x unit transfer n is few none most = omega (arith, is, few, most)
 

@@ -27,13 +27,13 @@ use Rattle.check_laws.proofs.Allowed.{Equals, agree_equals, allowed_same, entry_
 -- ---- The requester's side.
 
 -- The same values lead to something.
-heard_by : (q : ReqSetup) (h g : History) (x : responder_history.History) (round : Option Round) (fe : Option (List ℕ)) (tag : ℕ) (body : List ℕ) (f : Free) → Equals h g → IsAllowed q h f
+pub heard_by : (q : ReqSetup) (h g : History) (x : responder_history.History) (round : Option Round) (fe : Option (List ℕ)) (tag : ℕ) (body : List ℕ) (f : Free) → Equals h g → IsAllowed q h f
     → (other : History) × Hears (dial q g x round None fe) tag body other
 unfolding Hears
 heard_by q h g x round fe tag body f same allowed =
     (after g (hears q g false tag body f no_draw), (hears q g false tag body f no_draw, (f, allowed_same q h g f same allowed, refl), refl))
 
-hears_on : (q : ReqSetup) (h g : History) (r x : responder_history.History) (round : Option Round) (sd se fd fe : Option (List ℕ)) (tag : ℕ) (body : List ℕ) (next : History) → AskersAlike round h g sd se
+pub hears_on : (q : ReqSetup) (h g : History) (r x : responder_history.History) (round : Option Round) (sd se fd fe : Option (List ℕ)) (tag : ℕ) (body : List ℕ) (next : History) → AskersAlike round h g sd se
     → Hears (dial q h r round sd fd) tag body next → (other : History) × Hears (dial q g x round se fe) tag body other
 unfolding Hears
 hears_on q _ _ r x round _ _ fd fe tag body next (Settled h g agree not at) one = heard_by q h g x round fe tag body one.1.0 (agree_equals h g agree) one.1.1

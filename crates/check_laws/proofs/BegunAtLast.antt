@@ -43,31 +43,31 @@ pub record IsBegunAs (n : ℕ) (id : Option ℕ) (h : History) : Type 0 where
   pub begun : Begins n h
   pub is_last : nat_lt n (begun_count h) ≡ true → Some (last_begun h) ≡ id
 
-quiet_session : (version psk : Bool) (x s : Events) → version ≡ false → psk ≡ false → cond version [] (cond psk x s) ≡ s
+pub quiet_session : (version psk : Bool) (x s : Events) → version ≡ false → psk ≡ false → cond version [] (cond psk x s) ≡ s
 quiet_session version psk x s one two = ap (λ b. cond b [] (cond psk x s)) one ∙ ap (λ b. cond b x s) two
 
 -- Where counts, the last one and the sessions are the same.
-alike_begins : (n : ℕ) (next h : History) → begun_count next ≡ begun_count h → last_begun next ≡ last_begun h
+pub alike_begins : (n : ℕ) (next h : History) → begun_count next ≡ begun_count h → last_begun next ≡ last_begun h
     → (nat_lt n (begun_count h) ≡ true → is_live (session_of (last_begun h) h) ≡ true → is_live (session_of (last_begun h) next) ≡ true) → Begins n h → Begins n next
 alike_begins n next h count last live b = record {
   live = λ more. let was = subst (λ (m : ℕ). nat_lt n m ≡ true) count more in subst (λ (id : ℕ). is_live (session_of id next) ≡ true) (sym last) (live was (b.live was));
   few = λ more. subst IsFew (sym last) (b.few (subst (λ (m : ℕ). nat_lt n m ≡ true) count more));
 }
 
-alike_as : (n : ℕ) (id : Option ℕ) (next h : History) → begun_count next ≡ begun_count h → last_begun next ≡ last_begun h
+pub alike_as : (n : ℕ) (id : Option ℕ) (next h : History) → begun_count next ≡ begun_count h → last_begun next ≡ last_begun h
     → (nat_lt n (begun_count h) ≡ true → is_live (session_of (last_begun h) h) ≡ true → is_live (session_of (last_begun h) next) ≡ true) → IsBegunAs n id h → IsBegunAs n id next
 alike_as n id next h count last live b = record {
   begun = alike_begins n next h count last live b.begun;
   is_last = λ more. ap Some last ∙ b.is_last (subst (λ (m : ℕ). nat_lt n m ≡ true) count more);
 }
 
-quiet_live : (tag : ℕ) (t : Turn) (d : _) (h : History) → (takes GET_VERSION t ≡ false) × (takes PSK_EXCHANGE t ≡ false) → is_live (session_of (last_begun h) (Clear tag t d ∷ h)) ≡ is_live (session_of (last_begun h) h)
+pub quiet_live : (tag : ℕ) (t : Turn) (d : _) (h : History) → (takes GET_VERSION t ≡ false) × (takes PSK_EXCHANGE t ≡ false) → is_live (session_of (last_begun h) (Clear tag t d ∷ h)) ≡ is_live (session_of (last_begun h) h)
 unfolding session_of
 quiet_live tag t d h quiet =
     ap is_live (quiet_session (takes GET_VERSION t) (takes PSK_EXCHANGE t) (after_exchange (last_begun h) (session_of (last_begun h) h) t (negotiation_of (clear_turns h))) (session_of (last_begun h) h) quiet.0 quiet.1)
 
 -- It is no record of that session, and it is not that session that was dropped.
-quiet_begins : (n : ℕ) (id : Option ℕ) (e : Entry) (h : History) → IsQuiet e → touches id e ≡ false → IsBegunAs n id h → IsBegunAs n id (e ∷ h)
+pub quiet_begins : (n : ℕ) (id : Option ℕ) (e : Entry) (h : History) → IsQuiet e → touches id e ≡ false → IsBegunAs n id h → IsBegunAs n id (e ∷ h)
 unfolding session_of
 quiet_begins n id (Clear tag t d) h quiet other b =
     let none : begins t ≡ false = and_left (takes PSK_EXCHANGE t) _ quiet.1 in
@@ -101,11 +101,11 @@ get_quiet t gets =
     let code : code_in t.effect ≡ CHUNK_GET = eqb-true (code_in t.effect) CHUNK_GET gets in
     (ap (λ n. n == GET_VERSION) code, ap (λ n. n == PSK_EXCHANGE) code)
 
-live_when : (s : Events) (sealed : List ℕ) (t : Turn) (reply : List ℕ) → is_live s ≡ true → is_live (when_live s (Heard sealed t reply)) ≡ true
+pub live_when : (s : Events) (sealed : List ℕ) (t : Turn) (reply : List ℕ) → is_live s ≡ true → is_live (when_live s (Heard sealed t reply)) ≡ true
 live_when [] sealed t reply live = live
 live_when (e ∷ s) sealed t reply live = refl
 
-record_live : (here ends : Bool) (s : Events) (sealed : List ℕ) (t : Turn) (reply : List ℕ) → ends ≡ false → is_live s ≡ true → is_live (cond here (cond ends [] (when_live s (Heard sealed t reply))) s) ≡ true
+pub record_live : (here ends : Bool) (s : Events) (sealed : List ℕ) (t : Turn) (reply : List ℕ) → ends ≡ false → is_live s ≡ true → is_live (cond here (cond ends [] (when_live s (Heard sealed t reply))) s) ≡ true
 record_live true true s sealed t reply none live = absurd (false≢true (sym none))
 record_live true false s sealed t reply none live = live_when s sealed t reply live
 record_live false ends s sealed t reply none live = live
@@ -126,7 +126,7 @@ get_begins n (Dropped id) h gets b = absurd (false≢true gets)
 
 -- ---- The large answer itself.
 
-none_begun : (x : Effect) → is_unseen_effect x ≡ true → ((code_in x == PSK_EXCHANGE) && not (length (answer_in x) == 0)) ≡ false
+pub none_begun : (x : Effect) → is_unseen_effect x ≡ true → ((code_in x == PSK_EXCHANGE) && not (length (answer_in x) == 0)) ≡ false
 none_begun NoEffect is = refl
 none_begun (Took asked m [] large) is = and_right _ false refl
 none_begun (Took asked m (b ∷ bs) large) is = absurd (false≢true is)
@@ -140,13 +140,13 @@ unseen_count (Queued bytes) h is = absurd (false≢true is)
 unseen_count (Ticked seconds) h is = absurd (false≢true is)
 unseen_count (Dropped id) h is = absurd (false≢true is)
 
-as_by : (n : ℕ) (psk full : Bool) (id last : ℕ) (g : History) → begun_count g ≡ n → nat_lt n (cond (psk && full) (begun_count g + 1) (begun_count g)) ≡ true → Some (cond (psk && full) id last) ≡ cond psk (Some id) None
+pub as_by : (n : ℕ) (psk full : Bool) (id last : ℕ) (g : History) → begun_count g ≡ n → nat_lt n (cond (psk && full) (begun_count g + 1) (begun_count g)) ≡ true → Some (cond (psk && full) id last) ≡ cond psk (Some id) None
 as_by n true true id last g same more = refl
 as_by n true false id last g same more = absurd (false≢true (sym (le-ltb n (begun_count g) (omega (arith, same))) ∙ more))
 as_by n false full id last g same more = absurd (false≢true (sym (le-ltb n (begun_count g) (omega (arith, same))) ∙ more))
 
 -- With its bytes it begins the last one.
-seen_as : (w : List ℕ) (e : Entry) (g : History) (n : ℕ) → begun_count g ≡ n → is_unseen_in None e ≡ true → nat_lt n (begun_count (seen w e ∷ g)) ≡ true → Some (last_begun (seen w e ∷ g)) ≡ id_begun (seen w e)
+pub seen_as : (w : List ℕ) (e : Entry) (g : History) (n : ℕ) → begun_count g ≡ n → is_unseen_in None e ≡ true → nat_lt n (begun_count (seen w e ∷ g)) ≡ true → Some (last_begun (seen w e ∷ g)) ≡ id_begun (seen w e)
 seen_as w (Clear tag t d) g n same is more =
     let u : Turn = seen_turn w t in
     as_by n (takes PSK_EXCHANGE u) (not (length (answer_in u.effect) == 0)) (id_in_exchange (answer_in u.effect)) (last_begun g) g same more
@@ -180,14 +180,14 @@ module _ (r : RspSetup) (w ids : List ℕ) where
 
 -- ---- In a session.
 
-counted : (e : Entry) (h g : History) → begun_count h ≡ begun_count g → begun_count (e ∷ h) ≡ begun_count (e ∷ g)
+pub counted : (e : Entry) (h g : History) → begun_count h ≡ begun_count g → begun_count (e ∷ h) ≡ begun_count (e ∷ g)
 counted (Clear tag t d) h g same = ap (λ n. cond (begins t) (n + 1) n) same
 counted (Sealed tag sealed t reply d) h g same = same
 counted (Queued bytes) h g same = same
 counted (Ticked seconds) h g same = same
 counted (Dropped id) h g same = same
 
-sealed_count : (w : List ℕ) (id : ℕ) (e : Entry) (h g : History) → is_unseen_in (Some id) e ≡ true → begun_count g ≡ begun_count h → begun_count (seen w e ∷ g) ≡ begun_count (e ∷ h)
+pub sealed_count : (w : List ℕ) (id : ℕ) (e : Entry) (h g : History) → is_unseen_in (Some id) e ≡ true → begun_count g ≡ begun_count h → begun_count (seen w e ∷ g) ≡ begun_count (e ∷ h)
 sealed_count w id (Sealed tag sealed t reply d) h g is same = same
 sealed_count w id (Clear tag t d) h g is same = absurd (false≢true is)
 sealed_count w id (Queued bytes) h g is same = absurd (false≢true is)

@@ -32,10 +32,10 @@ pub record Begins (n : ℕ) (next : History) : Type 0 where
   pub live : nat_lt n (begun_count next) ≡ true → is_live (session_of (last_begun next) next) ≡ true
   pub few : nat_lt n (begun_count next) ≡ true → IsFew (last_begun next)
 
-none_more : (n m : ℕ) → m ≤ n → nat_lt n m ≡ true → ⊥
+pub none_more : (n m : ℕ) → m ≤ n → nat_lt n m ≡ true → ⊥
 none_more n m few more = false≢true (sym (le-ltb n m few) ∙ more)
 
-none_begins : (n : ℕ) (next : History) → begun_count next ≤ n → Begins n next
+pub none_begins : (n : ℕ) (next : History) → begun_count next ≤ n → Begins n next
 none_begins n next few = record {
   live = λ more. absurd (none_more n (begun_count next) few more);
   few = λ more. absurd (none_more n (begun_count next) few more);
@@ -52,22 +52,22 @@ more_begins n m next above b =
 
 -- ---- The exchange itself.
 
-other_code : (c : ℕ) → (c == PSK_EXCHANGE) ≡ true → (c == GET_VERSION) ≡ false
+pub other_code : (c : ℕ) → (c == PSK_EXCHANGE) ≡ true → (c == GET_VERSION) ≡ false
 other_code c is = ap (λ n. n == GET_VERSION) (eqb-true c PSK_EXCHANGE is)
 
-live_by : (v p e : Bool) (b o s : Events) → v ≡ false → p ≡ true → e ≡ true → is_live b ≡ true → is_live (cond v [] (cond p (cond e b o) s)) ≡ true
+pub live_by : (v p e : Bool) (b o s : Events) → v ≡ false → p ≡ true → e ≡ true → is_live b ≡ true → is_live (cond v [] (cond p (cond e b o) s)) ≡ true
 live_by true p e b o s version psk same live = absurd (false≢true (sym version))
 live_by false false e b o s version psk same live = absurd (false≢true psk)
 live_by false true false b o s version psk same live = absurd (false≢true same)
 live_by false true true b o s version psk same live = live
 
-exchange_live : (tag : ℕ) (t : Turn) (d : Draw) (h : History) → takes PSK_EXCHANGE t ≡ true → 1 ≤ id_in_exchange (answer_in t.effect) → is_live (session_of (id_in_exchange (answer_in t.effect)) (Clear tag t d ∷ h)) ≡ true
+pub exchange_live : (tag : ℕ) (t : Turn) (d : Draw) (h : History) → takes PSK_EXCHANGE t ≡ true → 1 ≤ id_in_exchange (answer_in t.effect) → is_live (session_of (id_in_exchange (answer_in t.effect)) (Clear tag t d ∷ h)) ≡ true
 unfolding session_of
 exchange_live tag t d h takes_it least =
     live_by (takes GET_VERSION t) (takes PSK_EXCHANGE t) (gives_id (id_in_exchange (answer_in t.effect)) (answer_in t.effect)) (Began (negotiation_of (clear_turns h)) (request_in t.effect) (answer_in t.effect) ∷ []) _ _
     (other_code (code_in t.effect) takes_it) takes_it (gives_some (id_in_exchange (answer_in t.effect)) (answer_in t.effect) refl least) refl
 
-clear_begins : (n tag : ℕ) (t : Turn) (d : Draw) (h : History) (b : Bool) → begins t ≡ b → begun_count h ≤ n → (takes PSK_EXCHANGE t ≡ true → IsFew (id_in_exchange (answer_in t.effect))) → Begins n (Clear tag t d ∷ h)
+pub clear_begins : (n tag : ℕ) (t : Turn) (d : Draw) (h : History) (b : Bool) → begins t ≡ b → begun_count h ≤ n → (takes PSK_EXCHANGE t ≡ true → IsFew (id_in_exchange (answer_in t.effect))) → Begins n (Clear tag t d ∷ h)
 clear_begins n tag t d h true is few ids =
     let takes_it : takes PSK_EXCHANGE t ≡ true = (and_parts (takes PSK_EXCHANGE t) _ is).0 in
     let last : last_begun (Clear tag t d ∷ h) ≡ id_in_exchange (answer_in t.effect) = ap (λ b. cond b (id_in_exchange (answer_in t.effect)) (last_begun h)) is in
@@ -81,11 +81,11 @@ clear_begins n tag t d h false is few ids =
 
 -- ---- What a body leads to.
 
-turn_in : Turn → Outcome → Turn
+pub turn_in : Turn → Outcome → Turn
 turn_in t (Adds (Clear tag u d)) = u
 turn_in t _ = t
 
-is_clear_entry : Outcome → Bool
+pub is_clear_entry : Outcome → Bool
 is_clear_entry (Adds (Clear tag t d)) = true
 is_clear_entry _ = false
 
@@ -94,7 +94,7 @@ turn_few r p m f t least most is takes_it =
     let fresh : IsFresh p.past_handshake f.id t.effect = subst (λ (u : Turn). IsFresh p.past_handshake f.id u.effect) (sym is) (turn_of-fresh r p m f most) in
     subst IsFew (sym (exchange-fresh p.past_handshake f.id t.effect takes_it fresh).0) (least, most)
 
-led_few : (r : RspSetup) (h : History) (tag : ℕ) (body : List ℕ) (at : ℕ) (t : Turn) (d : Draw) (b : Bool) → (slice_index body 0 == 5) ≡ b → MayLeadTo r h tag body (Adds (Clear at t d)) → takes PSK_EXCHANGE t ≡ true
+pub led_few : (r : RspSetup) (h : History) (tag : ℕ) (body : List ℕ) (at : ℕ) (t : Turn) (d : Draw) (b : Bool) → (slice_index body 0 == 5) ≡ b → MayLeadTo r h tag body (Adds (Clear at t d)) → takes PSK_EXCHANGE t ≡ true
     → IsFew (id_in_exchange (answer_in t.effect))
 unfolding turn_in is_clear_entry
 led_few r h tag body at t d true type may takes_it =
@@ -128,7 +128,7 @@ plain_begins r g h ids tag body (Adds (Dropped id)) may = same_begins _ (Dropped
 
 -- ---- A LargeResponse begins none.
 
-none_exchanged : (x : Effect) → ((code_in (effect_with [] None x) == PSK_EXCHANGE) && not (length (answer_in (effect_with [] None x)) == 0)) ≡ false
+pub none_exchanged : (x : Effect) → ((code_in (effect_with [] None x) == PSK_EXCHANGE) && not (length (answer_in (effect_with [] None x)) == 0)) ≡ false
 none_exchanged NoEffect = refl
 none_exchanged (Took asked request answer large) = and_right _ false refl
 none_exchanged (TookData bytes answer) = refl

@@ -49,22 +49,22 @@ FewSent sent = (x : ExchangeMessage) → asked_in sent.aim ≡ Some (PskExchange
 abbrev pub FewWaiting : History → Type 0
 FewWaiting h = (sent : Sent) → outstanding h ≡ Some sent → FewSent sent
 
-few_sent : (asked : RequestMessage) (sent : Sent) → asked_in sent.aim ≡ Some asked → FewAsked asked → FewSent sent
+pub few_sent : (asked : RequestMessage) (sent : Sent) → asked_in sent.aim ≡ Some asked → FewAsked asked → FewSent sent
 few_sent asked sent is few = λ x asks. few x (same_Some asked (PskExchange x) (sym is ∙ asks))
 
-none_sent : (sent : Sent) → asked_in sent.aim ≡ None → FewSent sent
+pub none_sent : (sent : Sent) → asked_in sent.aim ≡ None → FewSent sent
 none_sent sent none = λ x asks. absurd (none-some (PskExchange x) (sym none ∙ asks))
 
-asked_few : (asked : RequestMessage) (sent : Sent) → asked_in sent.aim ≡ Some asked → FewSent sent → FewAsked asked
+pub asked_few : (asked : RequestMessage) (sent : Sent) → asked_in sent.aim ≡ Some asked → FewSent sent → FewAsked asked
 asked_few asked sent is few = λ x same. few x (is ∙ ap (λ (r : RequestMessage). Some r) same)
 
 -- ---- A command.
 
-id_in : RequestMessage → ℕ
+pub id_in : RequestMessage → ℕ
 id_in (PskExchange exchange) = exchange.req_id
 id_in _ = 0
 
-kind_few : (q : ReqSetup) (h : History) (f : Free) (c : Command) (a : RequestMessage) → IsAllowed q h f → kind_of q h f c ≡ InClear a → FewAsked a
+pub kind_few : (q : ReqSetup) (h : History) (f : Free) (c : Command) (a : RequestMessage) → IsAllowed q h f → kind_of q h f c ≡ InClear a → FewAsked a
 unfolding id_in
 kind_few q h f Connect a fits is x e = absurd (cc)
 kind_few q h f (Open summary) a fits is x e =
@@ -79,25 +79,25 @@ kind_few q h f (Measure (Some of) op) a fits is x e = absurd (cc)
 kind_few q h f (End of) a fits is x e = absurd (cc)
 kind_few q h f Retry a fits is x e = absurd (cc)
 
-by_kind : (q : ReqSetup) (h : History) (f : Free) (c : Command) (s : Sent) (kind : Kind) → IsAllowed q h f → kind_of q h f c ≡ kind → IsSent q h f kind s → FewSent s
+pub by_kind : (q : ReqSetup) (h : History) (f : Free) (c : Command) (s : Sent) (kind : Kind) → IsAllowed q h f → kind_of q h f c ≡ kind → IsSent q h f kind s → FewSent s
 by_kind q h f c s (InClear a) fits is sent = few_sent a s sent.1 (kind_few q h f c a fits is)
 by_kind q h f c s (OfSession id ask inner) fits is sent = none_sent s (ap (λ (m : Sent). asked_in m.aim) sent)
 by_kind q h f c s Again fits is sent = absurd sent
 
-told_few : (q : ReqSetup) (h : History) (f : Free) (c : Command) (s : Sent) → IsAllowed q h f → asks false q h c f no_draw ≡ Adds (Told c s no_draw) → FewSent s
+pub told_few : (q : ReqSetup) (h : History) (f : Free) (c : Command) (s : Sent) → IsAllowed q h f → asks false q h c f no_draw ≡ Adds (Told c s no_draw) → FewSent s
 told_few q h f c s fits adds =
     by_kind q h f c s (kind_of q h f c) fits refl (sent_by_kind q h f c s no_draw (asked false q h c f no_draw (Told c s no_draw) adds).1)
 
-tells_few : (q : ReqSetup) (h : History) (c : Command) (body : List ℕ) (next : History) → Tells q h c body next → FewWaiting next
+pub tells_few : (q : ReqSetup) (h : History) (c : Command) (body : List ℕ) (next : History) → Tells q h c body next → FewWaiting next
 tells_few q h c body next tells = some_next FewSent (outstanding next) tells.0 (ap outstanding tells.4) (told_few q h tells.1.0 c tells.0 tells.1.1 tells.1.2)
 
-with_next_few : (h : History) (p : Sent) → FewSent p → FewWaiting h → FewWaiting (with_next (Some p) h)
+pub with_next_few : (h : History) (p : Sent) → FewSent p → FewWaiting h → FewWaiting (with_next (Some p) h)
 with_next_few [] p few old = old
 with_next_few (Told c s d ∷ older) p few old = old
 with_next_few (TookClear tag m led d ∷ older) p few old = some_next FewSent (Some p) p refl few
 with_next_few (TookRecord tag id sealed inner led d ∷ older) p few old = some_next FewSent (Some p) p refl few
 
-piece_few : (h : History) (asked : RequestMessage) (whole : List ℕ) (handle number : ℕ) → FewAsked asked → FewSent (piece_with h asked whole handle number)
+pub piece_few : (h : History) (asked : RequestMessage) (whole : List ℕ) (handle number : ℕ) → FewAsked asked → FewSent (piece_with h asked whole handle number)
 piece_few h asked whole handle number few = few_sent asked (piece_with h asked whole handle number) refl few
 
 pub sends_few : (d : Dialogue) (body : List ℕ) (next : History) (sending : Option (List ℕ)) → FewWaiting d.requester → Sends d body next sending → FewWaiting next
@@ -114,7 +114,7 @@ sends_few d body next sending old (inr (inr (whole, inr owed, is))) =
 
 -- ---- An answer.
 
-clear_few : (q : ReqSetup) (h : History) (f : Free) (aim : Aim) (m : List ℕ) (asked : RequestMessage) (led : Led) → FewAsked asked → ClearLeads q h f aim m asked led → (s : Sent) → led.next ≡ Some s → FewSent s
+pub clear_few : (q : ReqSetup) (h : History) (f : Free) (aim : Aim) (m : List ℕ) (asked : RequestMessage) (led : Led) → FewAsked asked → ClearLeads q h f aim m asked led → (s : Sent) → led.next ≡ Some s → FewSent s
 clear_few q h f aim m asked led few (ByRefusal code is) = none_next FewSent led.next (ap (λ (l : Led). l.next) is)
 clear_few q h f aim m asked led few (ByLarge handle may is) = some_next FewSent led.next _ (ap (λ (l : Led). l.next) is) (λ x e. few x (same_Some asked (PskExchange x) e))
 clear_few q h f aim m asked led few (BySend handle number aims last is) = some_next FewSent led.next _ (ap (λ (l : Led). l.next) is) (λ x e. few x (same_Some asked (PskExchange x) e))
@@ -128,7 +128,7 @@ clear_few q h f aim m asked led few (ByChoice offer answer asks is) = none_next 
 clear_few q h f aim m asked led few (ByMeasured op answer finish asks is) = none_next FewSent led.next (ap (λ (l : Led). l.next) is)
 clear_few q h f aim m asked led few (ByExchange exchange answer rsp asks read right is) = some_next FewSent led.next _ (ap (λ (l : Led). l.next) is) (λ x e. absurd (none-some (PskExchange x) e))
 
-record_few : (q : ReqSetup) (h : History) (f : Free) (came : Came) (ask : Ask) (led : Led) → RecordLeads q h f came ask led → (s : Sent) → led.next ≡ Some s → FewSent s
+pub record_few : (q : ReqSetup) (h : History) (f : Free) (came : Came) (ask : Ask) (led : Led) → RecordLeads q h f came ask led → (s : Sent) → led.next ≡ Some s → FewSent s
 record_few q h f came ask led (ByEnd ends none) = none_next FewSent led.next none
 record_few q h f came ask led (ByAnswer ends updates brings none) = none_next FewSent led.next none
 record_few q h f came ask led (ByUpdate all asks is) = some_next FewSent led.next _ (ap (λ (l : Led). l.next) is) (λ x e. absurd (none-some (PskExchange x) e))
@@ -139,7 +139,7 @@ record_few q h f came ask led (ByChunk op handle number before c asks none last 
 abbrev pub FewAccepted : History → Type 0
 FewAccepted h = (id : ℕ) → accepted_in h ≡ Some id → IsFew id
 
-effect_few : (tag : ℕ) (m : List ℕ) (led : Led) (h : History) (e : Effect) → ((x : ExchangeMessage) (a : List ℕ) → e ≡ Answers (PskExchange x) a → IsFew x.req_id) → FewAccepted (TookClear tag m (record led { effect = e }) no_draw ∷ h)
+pub effect_few : (tag : ℕ) (m : List ℕ) (led : Led) (h : History) (e : Effect) → ((x : ExchangeMessage) (a : List ℕ) → e ≡ Answers (PskExchange x) a → IsFew x.req_id) → FewAccepted (TookClear tag m (record led { effect = e }) no_draw ∷ h)
 effect_few tag m led h (Answers (PskExchange x) a) few id is = subst IsFew (same_Some x.req_id id is) (few x a refl)
 effect_few tag m led h _ few id is = absurd (none-some id is)
 
@@ -148,7 +148,7 @@ pub record Heard (h next : History) : Type 0 where
   pub waits : FewWaiting next
   pub takes : (next ≡ h) ⊎ FewAccepted next
 
-added_few : (q : ReqSetup) (h : History) (tag : ℕ) (body : List ℕ) (f : Free) (entry : Entry) → FewWaiting h → hears q h false tag body f no_draw ≡ Adds entry → Heard h (entry ∷ h)
+pub added_few : (q : ReqSetup) (h : History) (tag : ℕ) (body : List ℕ) (f : Free) (entry : Entry) → FewWaiting h → hears q h false tag body f no_draw ≡ Adds entry → Heard h (entry ∷ h)
 added_few q h tag body f entry old adds = elim (heard q h false tag body f no_draw entry adds) [
   | inl taken ↦
       let few : FewAsked taken.asked = asked_few taken.asked taken.sent taken.asks (old taken.sent taken.waits) in
@@ -167,14 +167,14 @@ added_few q h tag body f entry old adds = elim (heard q h false tag body f no_dr
       })
 ]
 
-outcome_few : (q : ReqSetup) (h : History) (tag : ℕ) (body : List ℕ) (f : Free) (outcome : asking.Outcome) → FewWaiting h → hears q h false tag body f no_draw ≡ outcome → Heard h (after h outcome)
+pub outcome_few : (q : ReqSetup) (h : History) (tag : ℕ) (body : List ℕ) (f : Free) (outcome : asking.Outcome) → FewWaiting h → hears q h false tag body f no_draw ≡ outcome → Heard h (after h outcome)
 outcome_few q h tag body f (Fails fault) old is = record { waits = old; takes = inl refl }
 outcome_few q h tag body f (Ignores cause) old is = record { waits = old; takes = inl refl }
 outcome_few q h tag body f (Warns code) old is = record { waits = old; takes = inl refl }
 outcome_few q h tag body f (Resends sent) old is = record { waits = old; takes = inl refl }
 outcome_few q h tag body f (Adds entry) old is = added_few q h tag body f entry old is
 
-piece_heard : (whole : List ℕ) (tag : ℕ) (m : List ℕ) (h : History) (aim : Aim) (sent : Sent) → FewWaiting h → outstanding h ≡ Some sent → sent.aim ≡ aim → Heard h (with_next_piece whole tag m h aim)
+pub piece_heard : (whole : List ℕ) (tag : ℕ) (m : List ℕ) (h : History) (aim : Aim) (sent : Sent) → FewWaiting h → outstanding h ≡ Some sent → sent.aim ≡ aim → Heard h (with_next_piece whole tag m h aim)
 piece_heard whole tag m h (ByChunks asked handle number) sent old waits aims = record {
   waits = some_next FewSent _ (piece_with h asked whole handle (number + 1)) refl (piece_few h asked whole handle (number + 1) (asked_few asked sent (ap asked_in aims) (old sent waits)));
   takes = inr (λ id is. absurd (none-some id is));
@@ -183,15 +183,15 @@ piece_heard whole tag m h (Plain asked) sent old waits aims = record { waits = o
 piece_heard whole tag m h (ForChunk asked handle number before) sent old waits aims = record { waits = old; takes = inl refl }
 piece_heard whole tag m h (InSession id ask) sent old waits aims = record { waits = old; takes = inl refl }
 
-ack_heard : (whole : List ℕ) (tag : ℕ) (m : List ℕ) (h : History) (o : Option Sent) → FewWaiting h → outstanding h ≡ o → Heard h (with_ack_to whole tag m h o)
+pub ack_heard : (whole : List ℕ) (tag : ℕ) (m : List ℕ) (h : History) (o : Option Sent) → FewWaiting h → outstanding h ≡ o → Heard h (with_ack_to whole tag m h o)
 ack_heard whole tag m h None old waits = record { waits = old; takes = inl refl }
 ack_heard whole tag m h (Some sent) old waits = piece_heard whole tag m h sent.aim sent old waits refl
 
-tagged_heard : (whole : List ℕ) (tag : ℕ) (m : List ℕ) (h : History) (b : Bool) → FewWaiting h → Heard h (cond b (with_ack_to whole tag m h (outstanding h)) h)
+pub tagged_heard : (whole : List ℕ) (tag : ℕ) (m : List ℕ) (h : History) (b : Bool) → FewWaiting h → Heard h (cond b (with_ack_to whole tag m h (outstanding h)) h)
 tagged_heard whole tag m h true old = ack_heard whole tag m h (outstanding h) old refl
 tagged_heard whole tag m h false old = record { waits = old; takes = inl refl }
 
-heard_while : (d : Dialogue) (o : Option (List ℕ)) (tag : ℕ) (answer : List ℕ) (next : History) → FewWaiting d.requester → HearsWhile o d tag answer next → Heard d.requester next
+pub heard_while : (d : Dialogue) (o : Option (List ℕ)) (tag : ℕ) (answer : List ℕ) (next : History) → FewWaiting d.requester → HearsWhile o d tag answer next → Heard d.requester next
 heard_while d None tag answer next old hears = subst (Heard d.requester) (sym hears.2) (outcome_few d.setup d.requester tag answer hears.1.0 hears.0 old hears.1.2)
 heard_while d (Some whole) tag answer next old hears =
     subst (Heard d.requester) (sym hears) (tagged_heard whole tag (drop 1 answer) d.requester (has_tag (outstanding d.requester) tag) old)

@@ -75,3 +75,4 @@ pub mod AnswerChanges
 pub mod PlacesShown
 pub mod RowsKept
 pub mod Large
+pub mod StatedLaws

@@ -38,7 +38,7 @@ use Rattle.world_machine.specs.Setup.{Configuration, known_of}
 
 -- ---- An answer.
 
-clear_type : (body : List ℕ) → place_named body ≡ None → (slice_index body 0 == 5) ≡ true
+pub clear_type : (body : List ℕ) → place_named body ≡ None → (slice_index body 0 == 5) ≡ true
 clear_type body is = by_type (slice_index body 0 == 5) is
   where
     by_type : (b : Bool) → cond b None (Some (id_in_record (drop 1 body))) ≡ None → b ≡ true
@@ -57,7 +57,7 @@ completes_since r d round answer next sound at a named =
       | inr fetch ↦ stays_clear d.responder old.0.tag old.0.body (ap (λ (l : List ℕ). slice_index l 0 == 5) body ∙ clear_type round.body named) fetch.1.how
     ]
 
-answers_begin : (r : RspSetup) (d : Dialogue) (round : Round) (answer : List ℕ) (next : History) (fetching : Option (List ℕ)) → IsSound d → d.round ≡ Some round → Answers r d round answer next fetching → Begins (begun_count d.responder) next
+pub answers_begin : (r : RspSetup) (d : Dialogue) (round : Round) (answer : List ℕ) (next : History) (fetching : Option (List ℕ)) → IsSound d → d.round ≡ Some round → Answers r d round answer next fetching → Begins (begun_count d.responder) next
 unfolding Answers
 answers_begin r d round answer next fetching sound at (inl a) =
     subst (Begins (begun_count d.responder)) (sym a.0.6) (plain_begins r (with_dropped (judging d.fetching round.body d.responder) a.0.0) d.responder a.0.0 round.tag round.body a.0.1 a.0.2.1)
@@ -82,18 +82,18 @@ pub record IsMoved (d next : Dialogue) : Type 0 where
   pub begins : Begins (begun_count d.responder) next.responder
   pub accepts : (id : ℕ) → accepted_between d next ≡ Some id → IsFew id
 
-new_held : (q : ReqSetup) → IsHeld (new_dialogue q)
+pub new_held : (q : ReqSetup) → IsHeld (new_dialogue q)
 new_held q = record { sound = begins_sound q; few = λ sent is. absurd (none-some sent is) }
 
-none_taken : (b : Bool) (o : Option ℕ) (id : ℕ) → o ≡ None → cond b o None ≡ Some id → ⊥
+pub none_taken : (b : Bool) (o : Option ℕ) (id : ℕ) → o ≡ None → cond b o None ≡ Some id → ⊥
 none_taken true o id none is = none-some id (sym none ∙ is)
 none_taken false o id none is = none-some id is
 
-no_longer : (h next : requester_history.History) (id : ℕ) → length next ≡ length h → cond (nat_lt (length h) (length next)) (accepted_in next) None ≡ Some id → ⊥
+pub no_longer : (h next : requester_history.History) (id : ℕ) → length next ≡ length h → cond (nat_lt (length h) (length next)) (accepted_in next) None ≡ Some id → ⊥
 no_longer h next id same is =
     none-some id (sym (ap (λ b. cond b (accepted_in next) None) (le-ltb (length h) (length next) (omega (arith, same)))) ∙ is)
 
-stays_moved : (d next : Dialogue) → IsHeld d → next ≡ d → IsMoved d next
+pub stays_moved : (d next : Dialogue) → IsHeld d → next ≡ d → IsMoved d next
 stays_moved d next held same = record {
   held = subst IsHeld (sym same) held;
   begins = same_begins (begun_count d.responder) next.responder (ap (λ (x : Dialogue). begun_count x.responder) same);
@@ -102,7 +102,7 @@ stays_moved d next held same = record {
 
 -- ---- A request.
 
-length_next : (o : Option Sent) (h : requester_history.History) → length (with_next o h) ≡ length h
+pub length_next : (o : Option Sent) (h : requester_history.History) → length (with_next o h) ≡ length h
 length_next o [] = refl
 length_next o (Told command sent d ∷ older) = refl
 length_next o (TookClear tag m led d ∷ older) = refl
@@ -116,7 +116,7 @@ sends_none d body next sending id (inr (inl goes)) is = no_longer d.requester ne
 sends_none d body next sending id (inr (inr (whole, inl large, at))) is = none_taken _ (accepted_in next) id (ap accepted_in large.8) is
 sends_none d body next sending id (inr (inr (whole, inr owed, at))) is = no_longer d.requester next id (ap length owed.7 ∙ length_next _ d.requester) is
 
-copied_moved : (d : Dialogue) (tag : ℕ) (body : List ℕ) (next : Dialogue) → IsHeld d → IsSound next → Copies d tag body next → IsMoved d next
+pub copied_moved : (d : Dialogue) (tag : ℕ) (body : List ℕ) (next : Dialogue) → IsHeld d → IsSound next → Copies d tag body next → IsMoved d next
 copied_moved d tag body next held sound c = record {
   held = record {
     sound = sound;
@@ -126,7 +126,7 @@ copied_moved d tag body next held sound c = record {
   accepts = λ id is. absurd (no_longer d.requester next.requester id (ap (λ (x : Dialogue). length x.requester) c.4) is);
 }
 
-begun_moved : (d : Dialogue) (tag : ℕ) (body : List ℕ) (next : Dialogue) → IsHeld d → IsSound next → BeginsRound d tag body next → IsMoved d next
+pub begun_moved : (d : Dialogue) (tag : ℕ) (body : List ℕ) (next : Dialogue) → IsHeld d → IsSound next → BeginsRound d tag body next → IsMoved d next
 begun_moved d tag body next held sound b =
     let own : next.requester ≡ b.2.0 = ap (λ (x : Dialogue). x.requester) b.2.3 in
     record {
@@ -138,7 +138,7 @@ begun_moved d tag body next held sound b =
       accepts = λ id is. absurd (sends_none d body b.2.0 b.2.1 id b.2.2 (sym (ap (λ (h : requester_history.History). cond (nat_lt (length d.requester) (length h)) (accepted_in h) None) own) ∙ is));
     }
 
-asks_moved : (d : Dialogue) (g : Gathered) (next : Dialogue) → IsHeld d → AsksBy d g next → IsMoved d next
+pub asks_moved : (d : Dialogue) (g : Gathered) (next : Dialogue) → IsHeld d → AsksBy d g next → IsMoved d next
 asks_moved d (Whole route body) next held asks =
     let sound = asks_sound d (Whole route body) next held.sound asks in
     elim asks.2 [ inl copies ↦ copied_moved d route.tag body next held sound copies | inr begins ↦ begun_moved d route.tag body next held sound begins ]
@@ -147,7 +147,7 @@ asks_moved d (Dropped cause) next held asks = absurd asks
 
 -- ---- An answer.
 
-heard_accepts : (h next : requester_history.History) (id : ℕ) → (next ≡ h) ⊎ FewAccepted next → cond (nat_lt (length h) (length next)) (accepted_in next) None ≡ Some id → IsFew id
+pub heard_accepts : (h next : requester_history.History) (id : ℕ) → (next ≡ h) ⊎ FewAccepted next → cond (nat_lt (length h) (length next)) (accepted_in next) None ≡ Some id → IsFew id
 heard_accepts h next id (inl same) is = absurd (no_longer h next id (ap length same) is)
 heard_accepts h next id (inr few) is = by_longer (nat_lt (length h) (length next)) is
   where
@@ -155,7 +155,7 @@ heard_accepts h next id (inr few) is = by_longer (nat_lt (length h) (length next
     by_longer true takes_it = few id takes_it
     by_longer false none = absurd (none-some id none)
 
-replied_moved : (w : Configuration) (d : Dialogue) (tag : ℕ) (answer : List ℕ) (next : Dialogue) → IsHeld d → IsSound next → Replies w d tag answer next → IsMoved d next
+pub replied_moved : (w : Configuration) (d : Dialogue) (tag : ℕ) (answer : List ℕ) (next : Dialogue) → IsHeld d → IsSound next → Replies w d tag answer next → IsMoved d next
 replied_moved w d tag answer next held sound c =
     let r : RspSetup = towards w.responder (known_of d.setup) in
     let own : next.requester ≡ c.4.3.0 = ap (λ (x : Dialogue). x.requester) c.4.3.2 in
@@ -177,7 +177,7 @@ replies_moved w d (Dropped cause) next held replies = absurd replies
 
 -- ---- A packet.
 
-step_moved : (w : Configuration) (eid : ℕ) (older : List (List ℕ)) (d next : Dialogue) (r : Result PacketFields PacketFault) → IsHeld d → StepsBy w eid older d next r → IsMoved d next
+pub step_moved : (w : Configuration) (eid : ℕ) (older : List (List ℕ)) (d next : Dialogue) (r : Result PacketFields PacketFault) → IsHeld d → StepsBy w eid older d next r → IsMoved d next
 step_moved w eid older d next (Err fault) held step = stays_moved d next held step
 step_moved w eid older d next (Ok p) held step = by_ends (is_request w.responder.eid eid p) (is_answer w.responder.eid eid p) step
   where

@@ -1,16 +1,6 @@
 //! What a packet changes of what rows of the table depend on, each law stated as the contract of an empty function.
 
-ghost use Rattle.check_laws.specs.ChangeLaws.{AckAcceptsNone, AnswerAccepts, AnswerAsksNone, CopyChanges, CopyIsRequest, LargeAnswerChanges, LastChunkChanges, RequestChanges, RoundIsRequest, WholeAnswerChanges};
-
-/// A copy changes nothing.
-pub fn copy_changes()
-    ensures { CopyChanges }
-{}
-
-/// By any other request a round begins, with a record of a session or without.
-pub fn request_changes()
-    ensures { RequestChanges }
-{}
+ghost use Rattle.check_laws.specs.ChangeLaws.{AckAcceptsNone, AnswerAccepts, AnswerAsksNone, CopyIsRequest, LargeAnswerChanges, LastChunkChanges, RoundIsRequest, WholeAnswerChanges};
 
 /// A copy is a request that sends no record.
 pub fn copy_is_request()

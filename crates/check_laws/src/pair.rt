@@ -11,9 +11,9 @@ use crate::{Brought, Round};
 use mctp_framing::{Assembler, Fed, PacketView, Route};
 use spdm_basis::{Eid, OutOfMemory};
 use spdm_grammar::Why;
-use std::alloc::Global;
 use spdm_grammar::names::MAX_BODY_SIZE;
 use spdm_grammar::names::message_type::{SECURED, SPDM};
+use std::alloc::Global;
 
 /// What is kept of a requester and the responder: the bodies that are gathered in both directions, and the round in
 /// progress.

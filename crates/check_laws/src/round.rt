@@ -10,8 +10,8 @@ ghost use Rattle.capture_machine.specs.Rounds.{following_tag};
 use spdm_basis::Buffer;
 use spdm_codec::read_request;
 use spdm_grammar::Request;
-use std::marker::Model;
 use spdm_grammar::names::message_type::SPDM;
+use std::marker::Model;
 
 // How many bytes the hash has that messages are read with before one is chosen.
 const LEAST_HASH: usize = 32;
@@ -32,7 +32,7 @@ pub struct Round {
 }
 
 impl Model for Round {
-    ghost use Rattle.std.specs.Prelude.{Option, Some, None, if◌then◌else◌};
+    ghost use Rattle.std.specs.Prelude.{Option, Some, None};
     ghost use Rattle.capture_machine.specs.Rounds as rounds;
 
     ghost Value = { Option rounds.Round };

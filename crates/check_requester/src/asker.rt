@@ -1,7 +1,7 @@
 use crate::asker_setup::AskerSetup;
 use crate::owed_messages::sends_owed;
-use requester_core::{Asking, Body, Setup};
 use psk_session::InnerPair;
+use requester_core::{Asking, Body, Setup};
 use spdm_basis::{OutOfMemory, Psk, RecordFrame};
 use std::alloc::Global;
 

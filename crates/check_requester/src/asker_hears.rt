@@ -13,8 +13,8 @@ ghost use Rattle.capture_machine.specs.LargeAnswers.{is_for_chunk};
 
 use crate::Asker;
 use crate::asker_setup::AskerSetup;
-use check_laws::byte_at;
 use crate::owed_messages::write_outstanding;
+use check_laws::byte_at;
 use requester_core::{Asking, Body};
 use spdm_grammar::Stage;
 use spdm_grammar::names::request_code::CHUNK_GET;

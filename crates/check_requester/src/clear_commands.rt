@@ -15,9 +15,9 @@ use crate::asker_setup::AskerSetup;
 use crate::owed_messages::{LONG_CONTEXT, is_first_chunk};
 use requester_core::{Asking, Body, Command, FreeValues};
 use spdm_codec::read_request;
-use spdm_grammar::{Exchange, Request};
-use spdm_grammar::names::{MAX_OPAQUE_LEN, PSK_EXCHANGE_FIELDS_LEN};
 use spdm_grammar::names::message_type::SPDM;
+use spdm_grammar::names::{MAX_OPAQUE_LEN, PSK_EXCHANGE_FIELDS_LEN};
+use spdm_grammar::{Exchange, Request};
 
 // The most bytes of a PSK_EXCHANGE, and of its opaque data.
 const MAX_LEN: usize = 4096;

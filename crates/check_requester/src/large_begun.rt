@@ -7,10 +7,9 @@ ghost use Rattle.check_requester.specs.LargeAsked.{HasRoom, is_least_short, is_r
 
 use crate::Asker;
 use crate::asker_setup::AskerSetup;
-use check_laws::is_secured;
 use crate::owed_messages::{LONG_CONTEXT, is_first_chunk, write_outstanding};
+use check_laws::{LargeRequest, is_secured};
 use requester_core::{Asking, Body, Command, FreeValues};
-use check_laws::LargeRequest;
 use spdm_grammar::CommandFault;
 use spdm_grammar::names::PSK_EXCHANGE_FIELDS_LEN;
 

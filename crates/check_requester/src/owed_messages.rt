@@ -11,10 +11,10 @@ ghost use Rattle.requester_machine.specs.Owed.{with_next};
 
 use crate::asker_setup::AskerSetup;
 use check_laws::byte_at;
-use requester_core::{Asking, Body, Command, FreeValues};
 use psk_session::InnerPair;
-use spdm_grammar::names::request_code::CHUNK_SEND;
+use requester_core::{Asking, Body, Command, FreeValues};
 use spdm_grammar::names::message_type::SECURED;
+use spdm_grammar::names::request_code::CHUNK_SEND;
 
 // A context that is long enough for each hash.
 pub(crate) const LONG_CONTEXT: [u8; 48] = [0; 48];

@@ -16,8 +16,8 @@ ghost use Rattle.capture_machine.specs.Opening.{opens_asking};
 use requester_core::Asking;
 use session_keys::same_bytes;
 use spdm_basis::RecordFrame;
-use spdm_grammar::{SessionView, Stage};
 use spdm_grammar::names::MAX_RECORDS;
+use spdm_grammar::{SessionView, Stage};
 
 // The most bytes that a record has beside its inner message: 26 of its own, and 16 of padding.
 const MOST_AROUND: usize = 42;

@@ -1,9 +1,9 @@
 use crate::Asker;
-use check_laws::{is_clear, is_secured, rest_of};
 use crate::owed_messages::write_outstanding;
 use crate::request_reasons::{is_finish_apart, opens_before, opens_next};
 use crate::sealed_commands::sends_opened;
 use crate::sending::{connects, connects_instead, sends_command};
+use check_laws::{is_clear, is_secured, rest_of};
 use spdm_grammar::Why;
 
 // The requests by which a round begins.

@@ -10,13 +10,13 @@ ghost use Rattle.check_requester.specs.Commanded.{IsSentByCommand};
 ghost use Rattle.check_requester.specs.SealedTold.{IsSentBy, TellsCommand, command_told, request_told};
 
 use crate::asker_setup::AskerSetup;
-use check_laws::{byte_at, rest_of};
 use crate::owed_messages::LONG_CONTEXT;
-use requester_core::{Asking, Body, Command, FreeValues};
+use check_laws::{byte_at, rest_of};
 use psk_session::InnerPair;
+use requester_core::{Asking, Body, Command, FreeValues};
 use spdm_basis::RecordFrame;
-use spdm_grammar::names::request_code::{END_SESSION, GET_MEASUREMENTS, HEARTBEAT, KEY_UPDATE};
 use spdm_grammar::names::message_type::SPDM;
+use spdm_grammar::names::request_code::{END_SESSION, GET_MEASUREMENTS, HEARTBEAT, KEY_UPDATE};
 
 // The types of an inner message: application data, and an SPDM message (DSP0277).
 const DATA: u8 = 1;

@@ -12,12 +12,12 @@ ghost use Rattle.check_requester.specs.Commanded.{IsSentByCommand};
 ghost use Rattle.check_requester.specs.SealedTold.{IsSentBy};
 
 use crate::asker_setup::AskerSetup;
-use check_laws::{is_clear, is_secured, rest_of};
 use crate::clear_commands::sends_clear;
 use crate::owed_messages::LONG_CONTEXT;
 use crate::sealed_commands::sends_sealed;
-use requester_core::{Asking, Body, Command, FreeValues};
+use check_laws::{is_clear, is_secured, rest_of};
 use psk_session::InnerPair;
+use requester_core::{Asking, Body, Command, FreeValues};
 use spdm_basis::RecordFrame;
 
 // Whether Connect sends this body, whatever is outstanding.

@@ -13,11 +13,11 @@ ghost use Rattle.spdm_grammar.specs.declared.names.TheConstants.{MAX_MESSAGE_SIZ
 ghost use Rattle.check_responder.specs.Answerer.{free_length};
 
 use crate::shown_values::{MOST_BYTES, request_of};
-use responder_core::{FreeValues, Setup};
 use measurements::Inventory;
+use responder_core::{FreeValues, Setup};
 use spdm_basis::Frame;
-use spdm_grammar::{Exchange, HashAlg, Request};
 use spdm_grammar::names::PSK_EXCHANGE_RSP_FIELDS_LEN;
+use spdm_grammar::{Exchange, HashAlg, Request};
 
 // What stands in MEASUREMENTS beside its blocks and opaque data.
 const MEASUREMENTS_FIELDS_LEN: usize = 42;

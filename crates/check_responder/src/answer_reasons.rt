@@ -10,10 +10,10 @@ ghost use Rattle.capture_machine.specs.Difference.Why.{BadRecord, BadReply};
 ghost use Rattle.capture_machine.specs.Rounds.{Dialogue, Round};
 
 use crate::answer_keys::{coming_key, prepare};
-use check_laws::is_clear;
 use crate::coming::Coming;
 use crate::opening::{Opening, opens_so};
 use crate::{AnswerKeys, Answerer};
+use check_laws::is_clear;
 use responder_core::Connection;
 use responder_session::AnswerKey;
 use session_keys::behind_type;

@@ -12,10 +12,10 @@ use responder_session::Work;
 use session_keys::{byte_at, same_bytes};
 use spdm_basis::{Frame, RecordFrame};
 use spdm_grammar::Heard;
+use spdm_grammar::names::CHUNK_SEND_ACK_FIELDS_LEN;
 use spdm_grammar::names::error_number::LARGE_RESPONSE;
 use spdm_grammar::names::request_code::CHUNK_GET;
 use spdm_grammar::names::response_code::{CHUNK_SEND_ACK, ERROR};
-use spdm_grammar::names::CHUNK_SEND_ACK_FIELDS_LEN;
 
 /// What is kept of the responder towards one requester: its connection, and room to answer in. Fixed size; never
 /// allocates.

@@ -1,9 +1,9 @@
 ghost use Rattle.std.specs.Prelude.{◌≡◌};
 ghost use Rattle.check_responder.specs.Given.{judged_of};
 
-use check_laws::is_clear;
 use crate::coming::Coming;
 use crate::{Answerer, Given, Judged};
+use check_laws::is_clear;
 use responder_core::Setup;
 use session_keys::behind_type;
 use spdm_basis::RecordFrame;

@@ -12,8 +12,8 @@ ghost use Rattle.spdm_machine.specs.Sessions.{is_past_handshake};
 ghost use Rattle.check_responder.specs.Answerer.{are_allowed, are_few, is_id, is_unused};
 
 use responder_core::{Connection, FreeValues};
-use spdm_grammar::{HashAlg, SessionView, Stage};
 use spdm_grammar::names::{MAX_PADDING, MAX_SESSIONS};
+use spdm_grammar::{HashAlg, SessionView, Stage};
 
 // The most bytes of application data.
 const MOST_DATA: usize = 1024;

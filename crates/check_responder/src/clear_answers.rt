@@ -14,8 +14,8 @@ ghost use Rattle.check_responder.specs.ClearAnswers.{dropped_before, first_of_he
 use crate::answer_length::blocks_length;
 use crate::answerer::{response_of, shows_large};
 use byteorder::{ByteOrder, LittleEndian};
-use responder_core::{Connection, FreeValues};
 use measurements::Inventory;
+use responder_core::{Connection, FreeValues};
 use session_keys::byte_at;
 use spdm_grammar::names::response_code::PSK_EXCHANGE_RSP;
 use spdm_grammar::names::{ALL_BLOCKS, MAX_SESSIONS};

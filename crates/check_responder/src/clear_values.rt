@@ -23,9 +23,9 @@ use crate::shown_values::{request_of, zeros};
 use responder_core::{Connection, FreeValues, Setup};
 use session_keys::byte_at;
 use spdm_basis::Frame;
+use spdm_grammar::names::CHUNK_SEND_ACK_FIELDS_LEN;
 use spdm_grammar::names::response_code::CHUNK_SEND_ACK;
 use spdm_grammar::{ChunkView, HashAlg, Request};
-use spdm_grammar::names::CHUNK_SEND_ACK_FIELDS_LEN;
 
 // The bytes that stand round an answer in an acknowledgement.
 const ROUND: u8 = 6;

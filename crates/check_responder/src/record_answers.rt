@@ -25,8 +25,8 @@ use crate::record_values::text_values;
 use responder_core::{Connection, FreeValues, Setup, record_id};
 use responder_session::RecordFree;
 use session_keys::{MOST_DATA, SessionTerms, behind_type, same_bytes};
-use spdm_grammar::{HashAlg, Heard};
 use spdm_grammar::names::MAX_PADDING;
+use spdm_grammar::{HashAlg, Heard};
 
 // Whether this record is sent, by what is told.
 fn is_sent(heard: Heard, out: &[u8], sealed: &[u8]) -> bool

@@ -1,8 +1,8 @@
 use crate::Answerer;
 use crate::answerer::response_of;
-use check_laws::{is_clear, rest_of};
 use crate::clear_answers::id_begun;
 use crate::record_answers::is_repeated;
+use check_laws::{is_clear, rest_of};
 use responder_core::record_id;
 use spdm_grammar::SessionView;
 

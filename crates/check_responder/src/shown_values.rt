@@ -11,8 +11,8 @@ ghost use Rattle.check_laws.specs.AnswersShown.{lengthened};
 
 use responder_core::FreeValues;
 use spdm_codec::read_request;
-use spdm_grammar::{HashAlg, Request};
 use spdm_grammar::names::MAX_OPAQUE_LEN;
+use spdm_grammar::{HashAlg, Request};
 
 /// The most bytes of an SPDM message.
 pub(crate) const MOST_BYTES: usize = 4096;

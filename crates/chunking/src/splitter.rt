@@ -7,10 +7,11 @@ ghost use Rattle.spdm_grammar.specs.Message.{chunk_message};
 
 use spdm_basis::Frame;
 use spdm_grammar::ChunkView;
-use spdm_grammar::names::{MAX_MESSAGE_SIZE, MIN_DATA_TRANSFER_SIZE};
+use spdm_grammar::names::{
+    CHUNK_FIELDS_LEN, LARGE_SIZE_LEN, MAX_MESSAGE_SIZE, MIN_DATA_TRANSFER_SIZE,
+};
 use std::marker::Model;
 use thiserror::Error;
-use spdm_grammar::names::{CHUNK_FIELDS_LEN, LARGE_SIZE_LEN};
 
 /// Why a message is not split, in the order of the checks.
 #[derive(Clone, Copy, Debug, PartialEq, Eq, Error)]

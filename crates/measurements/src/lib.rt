@@ -12,3 +12,4 @@ mod summary;
 
 pub use fault::{InventoryFault, MeasureFault};
 pub use inventory::Inventory;
+pub use spdm_grammar::BlockSpec;

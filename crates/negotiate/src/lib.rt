@@ -24,4 +24,5 @@ pub use offer::own_offer;
 pub use reply::Reply;
 pub use selection::{AlgPolicy, select};
 pub use shared::{Common, Sizes};
+pub use spdm_grammar::{CapsFault, FlagSet};
 pub use version::choose_version;

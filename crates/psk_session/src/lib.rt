@@ -48,6 +48,7 @@ pub use reply::Reply;
 pub use req_open::ReqOpen;
 pub use req_session::ReqSession;
 pub use session_keys::SessionTerms;
+pub use spdm_grammar::{BadReply, SessionView, Stage};
 pub use told::Told;
 pub use took::Took;
 pub use waiting::Waiting;

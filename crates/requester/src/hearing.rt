@@ -13,8 +13,8 @@ use crate::Requester;
 use crate::part::Part;
 use crate::sending::send;
 use crate::whole::WEAR_LIMIT;
-use requester_core::{Asking, Body};
 use mctp_framing::{Fed, Packet, PacketList, PacketView, Route};
+use requester_core::{Asking, Body};
 use spdm_grammar::{Event, ReqIgnored};
 
 // Handles a complete message body that arrived by this route. The packets sent next overwrite `out`; if none are sent

@@ -12,7 +12,8 @@ mod sending;
 mod telling;
 mod whole;
 
-pub use requester_core::Command;
 pub use config::ReqConfig;
 pub use fault::ReqConfigFault;
+pub use requester_core::Command;
+pub use spdm_grammar::{CommandFault, Event, Finished, ReqIgnored, Stop};
 pub use whole::Requester;

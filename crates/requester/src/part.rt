@@ -1,8 +1,8 @@
 ghost use Rattle.std.specs.Prelude.{◌≤◌, length};
 
 use crate::{ReqConfig, ReqConfigFault};
-use requester_core::Setup;
 use mctp_framing::Route;
+use requester_core::Setup;
 use spdm_basis::{Bytes, Eid, Psk};
 use spdm_grammar::{FlagSet, Suites};
 use std::alloc::Global;

@@ -14,9 +14,9 @@ use crate::Requester;
 use crate::part::Part;
 use crate::sending::send;
 use crate::whole::WEAR_LIMIT;
-use requester_core::{Asking, Body, Command, FreeValues};
 use hmac_hkdf::{DrawStream, Drawn};
 use mctp_framing::PacketList;
+use requester_core::{Asking, Body, Command, FreeValues};
 use session_keys::context_of;
 use spdm_grammar::CommandFault;
 

@@ -1,11 +1,11 @@
 use crate::part::Part;
 use crate::{ReqConfig, ReqConfigFault};
-use requester_core::{Asking, Body};
 use hmac_hkdf::DrawStream;
 use mctp_framing::Assembler;
+use requester_core::{Asking, Body};
+use spdm_grammar::names::MAX_BODY_SIZE;
 use spdm_grammar::{Phase, SessionList};
 use std::alloc::Global;
-use spdm_grammar::names::MAX_BODY_SIZE;
 
 /// The lifetime limit of a requester, in packets and commands.
 pub(crate) const WEAR_LIMIT: u64 = 1_099_511_627_776;

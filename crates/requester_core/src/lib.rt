@@ -1,37 +1,37 @@
-//! A requester (DSP0274, section 10) with every free value handed in: the clear part, which holds how far the
-//! negotiation has come, what was settled, and what is outstanding; its sessions by ReqSessionID; and the requester of
-//! both.
+//! A requester (DSP0274, section 10) with every free value handed in: the clear part, which holds
+//! how far the negotiation has come, what was settled, and what is outstanding; its sessions by
+//! ReqSessionID; and the requester of both.
 //!
-//! Read first: `StandsFor` in `specs/Talk.antt`, which history the clear part stands for. The call to begin with is
-//! `Asking::command`.
+//! Read first: `StandsFor` in `specs/Talk.antt`, which history the clear part stands for. The call
+//! to begin with is `Asking::command`.
 #![tactic(auto)]
 
-mod clear;
-mod in_sessions;
-mod judging;
 mod body;
+mod clear;
 mod command;
 mod free_values;
+mod in_sessions;
 mod joined;
+mod judging;
 mod reacting;
 mod reaction;
 mod setup;
 mod telling;
 
-pub use clear::again::Again;
 pub use body::Body;
-pub use command::Command;
-pub use free_values::FreeValues;
+pub use clear::again::Again;
 pub use clear::heard::Heard;
-pub use joined::Asking;
 pub use clear::negotiating::Negotiating;
 pub use clear::outgoing::Outgoing;
 pub use clear::reply_outcome::ReplyOutcome;
-pub use reaction::Reaction;
+pub use clear::talk::Talk;
+pub use clear::waiting::{Asked, Waiting, Way};
+pub use command::Command;
+pub use free_values::FreeValues;
 pub use in_sessions::session_laws::{clear_passes, measure_passes};
 pub use in_sessions::session_led::SessionLed;
 pub use in_sessions::sessions::Sessions;
-pub use setup::Setup;
 pub use in_sessions::slot::Slot;
-pub use clear::talk::Talk;
-pub use clear::waiting::{Asked, Waiting, Way};
+pub use joined::Asking;
+pub use reaction::Reaction;
+pub use setup::Setup;

@@ -16,8 +16,8 @@ ghost use Rattle.requester_machine.specs.UnderWay.{HasSizes};
 ghost use Rattle.spdm_grammar.specs.declared.told.event.Event.TheVariants as event;
 ghost use Rattle.spdm_machine.specs.Keys.{Draw};
 
-use crate::clear::bodies::message_in;
 use crate::body::{write_clear, write_record};
+use crate::clear::bodies::message_in;
 use crate::{Asking, Body, Heard, Reaction, SessionLed, Setup};
 use spdm_grammar::{Event, Finished, ReqIgnored};
 

@@ -5,8 +5,8 @@ ghost use Rattle.requester_drive.specs.Told.{IsEarly, of_requester};
 ghost use Rattle.requester_machine.specs.Requesting.{Requesting};
 
 use crate::DriveFault;
-use script_ends::make_requester;
 use requester::{ReqConfigFault, Requester};
+use script_ends::make_requester;
 use script_text::ScriptConfig;
 use std::alloc::Global;
 

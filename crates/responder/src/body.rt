@@ -3,7 +3,6 @@ ghost use Rattle.responder_core.specs.Sessions.{body_by};
 
 use spdm_basis::Buffer;
 use spdm_grammar::Heard;
-
 use spdm_grammar::names::message_type::{SECURED, SPDM};
 
 /// The body of an MCTP message: its type, and an SPDM message or a record.

@@ -8,14 +8,15 @@ ghost use Rattle.responder_machine.specs.Does.{IsMade, clear_does, first_queued,
 ghost use Rattle.responder_machine.specs.History.{History, queue_of};
 ghost use Rattle.responder_machine.specs.Setup.{RspSetup};
 
-use crate::body::{SPDM, write_body, write_reply};
+use crate::body::{write_body, write_reply};
 use crate::room::Room;
-use responder_core::{Connection, FreeValues, Setup, record_id};
 use hmac_hkdf::Drawn;
+use responder_core::{Connection, FreeValues, Setup, record_id};
 use responder_session::RecordFree;
 use session_keys::context_of;
 use spdm_basis::Buffer;
 use spdm_grammar::Heard;
+use spdm_grammar::names::message_type::SPDM;
 
 // Overwrites `reply` with the next application data to send in reply.
 fn write_next_reply(connection: &Connection, reply: &mut Buffer<1024>)

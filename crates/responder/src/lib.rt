@@ -21,3 +21,4 @@ mod whole;
 pub use config::{Known, RspConfig};
 pub use fault::RspConfigFault;
 pub use serving::Responder;
+pub use spdm_grammar::{Heard, Phase, ReplyFault, RspIgnored};

@@ -1,8 +1,8 @@
 ghost use Rattle.std.specs.Prelude.{◌≤◌, length};
 
 use crate::{Known, RspConfig, RspConfigFault};
-use responder_core::Setup;
 use measurements::Inventory;
+use responder_core::Setup;
 use spdm_basis::{Bytes, Eid};
 use spdm_grammar::{FlagSet, Suites};
 use std::alloc::Global;

@@ -13,13 +13,13 @@ use crate::Known;
 use crate::part::Part;
 use crate::shared::Shared;
 use crate::whole::hear_whole;
-use responder_core::Connection;
 use mctp_framing::{Assembler, Fed, PacketList, PacketView};
+use responder_core::Connection;
 use responder_session::QueueFault;
 use spdm_basis::{Bytes, OutOfMemory, Psk};
+use spdm_grammar::names::MAX_BODY_SIZE;
 use spdm_grammar::{Heard, ReplyFault, RspIgnored};
 use std::alloc::Global;
-use spdm_grammar::names::MAX_BODY_SIZE;
 
 // The state of one requester: its configuration, the connection with it, and the message body that is being assembled
 // from its packets.

@@ -6,8 +6,8 @@ ghost use Rattle.responder_machine.specs.History.{History};
 ghost use Rattle.responder_machine.specs.Setup.{RspSetup};
 
 use crate::room::Room;
-use responder_core::Connection;
 use hmac_hkdf::DrawStream;
+use responder_core::Connection;
 use spdm_basis::Buffer;
 use spdm_grammar::Heard;
 

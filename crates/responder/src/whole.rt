@@ -18,11 +18,11 @@ use crate::hearing::{hear_clear, hear_record};
 use crate::part::Part;
 use crate::room::Room;
 use crate::shared::Shared;
-use responder_core::{Connection, Setup};
 use hmac_hkdf::Drawn;
 use mctp_framing::{PacketList, Route};
-use spdm_grammar::{Heard, RspIgnored};
+use responder_core::{Connection, Setup};
 use spdm_grammar::names::message_type::{SECURED, SPDM};
+use spdm_grammar::{Heard, RspIgnored};
 
 /// The route of a response.
 fn reversed(route: Route) -> Route

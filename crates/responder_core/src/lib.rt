@@ -7,29 +7,29 @@
 #![tactic(auto)]
 
 mod clear;
-mod in_sessions;
-mod judging;
 mod connected;
 mod free_values;
+mod in_sessions;
+mod judging;
 mod laws;
 mod setup;
 mod views;
 
 pub use clear::came::{Begun, Came};
 pub use clear::clear_part::ClearPart;
-pub use connected::Connection;
-pub use in_sessions::ended::EndedRecord;
-pub use free_values::FreeValues;
 pub use clear::handled::Handled;
 pub use clear::kept::KeptReply;
-pub use laws::others_keep_the_clear_part;
-pub use in_sessions::live::Live;
 pub use clear::negotiating::Negotiating;
-pub use in_sessions::records::record_id;
 pub use clear::refused::Refused;
 pub use clear::requests::Requests;
-pub use in_sessions::sessions::Sessions;
-pub use setup::Setup;
 pub use clear::standing::Standing;
 pub use clear::told::Told;
+pub use connected::Connection;
+pub use free_values::FreeValues;
+pub use in_sessions::ended::EndedRecord;
+pub use in_sessions::live::Live;
+pub use in_sessions::records::record_id;
+pub use in_sessions::sessions::Sessions;
 pub use judging::tried::Tried;
+pub use laws::others_keep_the_clear_part;
+pub use setup::Setup;

@@ -4,8 +4,8 @@ ghost use Rattle.responder_serve.specs.Served.{responder_of};
 ghost use Rattle.responder_serve.specs.Told.{IsEarly, of_responder};
 
 use crate::ServeFault;
-use script_ends::make_responder;
 use responder::{Responder, RspConfigFault};
+use script_ends::make_responder;
 use script_text::ScriptConfig;
 use std::alloc::Global;
 

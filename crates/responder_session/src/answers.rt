@@ -65,6 +65,5 @@ pub fn write_data(bytes: &[u8], out: &mut Frame)
     requires { length bytes.now ≤ 1024 }
     ensures { out.new ≡ bytes.now }
 {
-    out.clear();
-    let _ = out.extend(bytes);
+    let _ = out.replace(bytes);
 }

@@ -19,8 +19,7 @@ pub struct Opened<'a> {
 fn hold(bytes: &[u8], out: &mut Buffer<1024>)
     ensures { length bytes.now ≤ 1024 → out.new ≡ bytes.now }
 {
-    out.clear();
-    let _ = out.extend(bytes);
+    let _ = out.replace(bytes);
 }
 
 impl RspSession {

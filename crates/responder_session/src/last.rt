@@ -41,8 +41,7 @@ impl LastRecord {
         ensures { self.new ≡ record self.old { is_taken = true; sealed = sealed.now } }
     {
         self.is_taken = true;
-        self.sealed.clear();
-        let _ = self.sealed.extend(sealed);
+        let _ = self.sealed.replace(sealed);
     }
 
     /// The reply to the last record.

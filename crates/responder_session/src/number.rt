@@ -1,5 +1,5 @@
-use std::marker::Model;
 use spdm_grammar::names::MAX_RECORDS;
+use std::marker::Model;
 
 /// The sequence number of the next record under a key, from 0 to 65,536: a key seals at most 65,536 records (DSP0277,
 /// "Sequence number"). In contracts, a number.

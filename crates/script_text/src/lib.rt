@@ -1,5 +1,5 @@
-//! Every text that the program reads, and every line that it prints: scripts, captures, configurations,
-//! lives, commands and policies, and the lines of traces and tables.
+//! Every text that the program reads: scripts, captures, configurations, lives, commands and policies; and scripts that
+//! are generated, or written as a text.
 //!
 //! Read first: `script_in` in `specs/ScriptText.antt`, the script that a text stands for, or its first bad line. The
 //! call is `parse_script`.
@@ -7,30 +7,30 @@
 
 mod configuration;
 mod events;
+mod generator;
+mod laws;
 mod printing;
 mod reading;
 mod texts;
-mod generator;
-mod laws;
 
-pub use texts::capture_text::parse_capture;
-pub use events::command_text::{CommandLine, parse_command, read_command};
 pub use configuration::config::{Blocks, ReqPart, ReqParts, RspPart, ScriptConfig};
-pub use printing::config_printing::print_config;
 pub use configuration::config_text::{TEXT_LIMIT, parse_config};
+pub use events::command_text::{CommandLine, parse_command, read_command};
 pub use events::event::{Entry, Events, LinkEvent};
-pub use texts::faults::{LineFault, ScriptFault};
+pub use events::said::Said;
 pub use generator::{MOST_GENERATED, generate};
-pub use reading::hex_words::MOST_BYTES;
 pub use laws::{printed_events_are_read, printed_script_is_read};
-pub use texts::lives_text::parse_lives;
+pub use printing::config_printing::print_config;
+pub use printing::script_printing::print_script;
+pub use reading::hex_words::MOST_BYTES;
 pub use reading::numbers::{long_number, number};
+pub use texts::capture_text::parse_capture;
+pub use texts::faults::{LineFault, ScriptFault};
+pub use texts::lives_text::parse_lives;
 pub use texts::policy_text::parse_policy;
 pub use texts::rule::{Rule, Rules};
-pub use events::said::Said;
 pub use texts::script::{Capture, Life, LifeList, Lives, Packets, Script};
 pub use texts::script_lines::parse_script;
-pub use printing::script_printing::print_script;
 pub use texts::shown::{Shown, ShownAs, ShownKind, ShownList};
 pub use texts::shown_text::parse_shown;
 pub use trace_text::{

@@ -128,8 +128,7 @@ fn write_short(first: &[u8], size: usize, out: &mut RecordFrame)
     requires most { size ≤ 14 }
     ensures { out.new ≡ take size (drop 2 first.now) }
 {
-    out.clear();
-    let _ = out.extend(first.split_at(2).1.split_at(size).0);
+    let _ = out.replace(first.split_at(2).1.split_at(size).0);
 }
 
 // Writes what a first block has after the length of the inner message, and the encrypted rest.
@@ -228,8 +227,7 @@ pub fn decrypt_text(
     requires most { length sealed.now ≤ 4160 }
     ensures { out.new ≡ opened_text (cipher_key cipher.now) iv.now number sealed.now }
 {
-    out.clear();
-    let _ = out.extend(text_part(sealed));
+    let _ = out.replace(text_part(sealed));
     cipher.crypt(&nonce(iv, number), out.as_mut_slice());
 }
 

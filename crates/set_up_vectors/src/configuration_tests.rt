@@ -1,6 +1,6 @@
-use script_ends::{make_requester, make_responder};
 use mctp_framing::PacketList;
 use requester::Command;
+use script_ends::{make_requester, make_responder};
 use script_text::parse_config;
 use std::test::Fail;
 

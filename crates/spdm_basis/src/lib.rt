@@ -8,20 +8,19 @@ mod causes;
 mod streams;
 mod values;
 
-
+pub use causes::drop_cause::DropCause;
+pub use causes::faults::PacketFault;
+pub use causes::record_fault::RecordFault;
+pub use streams::file_seeds::FileSeeds;
+pub use streams::memory::{MemSeeds, MemSink, MemSource, NullSink};
+pub use streams::outside::{Failed, Seeds, Sink, Source};
+pub use streams::standard::{StdinSource, StdoutSink};
+pub use streams::transfer::{InFault, OutFault, read_all, write_all};
 pub use values::aead_alg::AeadAlg;
 pub use values::buffer::{Buffer, Frame, Full, Line, RecordFrame};
 pub use values::bytes::{Bytes, OutOfMemory};
-pub use causes::drop_cause::DropCause;
 pub use values::eid::Eid;
-pub use causes::faults::PacketFault;
-pub use streams::file_seeds::FileSeeds;
 pub use values::hash_alg::HashAlg;
 pub use values::hash_bytes::HashBytes;
-pub use streams::memory::{MemSeeds, MemSink, MemSource, NullSink};
-pub use streams::outside::{Failed, Seeds, Sink, Source};
 pub use values::psk::Psk;
-pub use causes::record_fault::RecordFault;
 pub use values::session_id::SessionId;
-pub use streams::standard::{StdinSource, StdoutSink};
-pub use streams::transfer::{InFault, OutFault, read_all, write_all};

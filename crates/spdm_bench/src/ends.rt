@@ -1,7 +1,7 @@
 use crate::bench_error::BenchError;
-use requester_core::Command;
 use mctp_framing::PacketList;
 use requester::{ReqConfig, ReqConfigFault, Requester};
+use requester_core::Command;
 use responder::{Known, Responder, RspConfig, RspConfigFault};
 use spdm_basis::{Bytes, Eid, Psk};
 use spdm_grammar::{Event, FlagSet, Pick, Suites};

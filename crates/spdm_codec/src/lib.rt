@@ -29,3 +29,4 @@ pub use feed::{Feed, FeedFault, feed_fault_stays};
 pub use put::TooLong;
 pub use request::{read_request, write_request};
 pub use response::{read_response, write_response};
+pub use spdm_grammar::{Malformed, Part};

@@ -1,5 +1,5 @@
 -- The words of the command line. This project's own.
-use Rattle.std.specs.Prelude.{List, [], ◌∷◌, ◌≤◌, ◌-◌, ◌^◌, ◌&&◌, bytes_eq, codes, ℕ, if◌then◌else◌, Option, Some, None}
+use Rattle.std.specs.Prelude.{List, [], ◌∷◌, ◌≤◌, ◌-◌, ◌^◌, ◌&&◌, bytes_eq, codes, ℕ, if◌then◌else◌, map, Option, Some, None, String, string_bytes}
 use Rattle.script_text.specs.Numbers.{is_number_in, value_of}
 use Rattle.spdm_command.specs.declared.words.Command.{Command}
 use Rattle.spdm_command.specs.declared.words.Command.TheVariants.{Check, Drive, Serve, Text}
@@ -39,3 +39,7 @@ abbrev pub command_of : List (List ℕ) → Option Command
 command_of (word ∷ []) = command_named word
 command_of (word ∷ seed ∷ count ∷ []) = generator word seed count
 command_of _ = None
+
+-- The command that these words call for.
+abbrev pub call_of : {Z : Type 0} → List (String Z) → Option Command
+call_of words = command_of (map string_bytes words)

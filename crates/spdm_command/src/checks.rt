@@ -9,8 +9,8 @@ ghost use Rattle.spdm_command.specs.Streams.{is_of_streams};
 
 use crate::outcome::Outcome;
 use spdm_basis::{Sink, Source};
-use trace_check::{CheckAnswer, CheckFault, check_input};
 use std::alloc::Global;
+use trace_check::{CheckAnswer, CheckFault, check_input};
 
 // Converts the outcome of a capture to the command's.
 fn outcome_of(answer: &Result<CheckAnswer, CheckFault>) -> Outcome

@@ -1,4 +1,4 @@
-ghost use Rattle.std.specs.Prelude.{◌≡◌, ◌≢◌, ◌≤◌, ◌<◌, ◌↔◌, ◌⊎◌, [], ℕ, List, Some, None, IsSome, true, false, map, length, string_bytes};
+ghost use Rattle.std.specs.Prelude.{◌≡◌, ◌≢◌, ◌≤◌, ◌<◌, ◌↔◌, ◌⊎◌, [], ℕ, List, Some, None, IsSome, true, false, length};
 ghost use Rattle.script_text.specs.Reading.{bad_line_in};
 ghost use Rattle.script_text.specs.ScriptText.{capture_in};
 ghost use Rattle.script_text.specs.declared.texts.faults.LineFault.{LineFault};
@@ -9,7 +9,7 @@ ghost use Rattle.trace_check.specs.Answers.{Finding, HasFinding};
 ghost use Rattle.spdm_command.specs.Answer.{IsLeft, IsReadQuietly, answer_to, bad_line_by, full_by, input_by, output_by, ran, reads, text_limit, writes_nothing};
 ghost use Rattle.spdm_command.specs.Checks.{IsChecked, is_judged, is_of_captures, outcome_for};
 ghost use Rattle.spdm_command.specs.Streams.{IsDriven, IsServed, answers_stream, is_of_streams, outcome_of};
-ghost use Rattle.spdm_command.specs.Words.{command_of};
+ghost use Rattle.spdm_command.specs.Words.{call_of};
 ghost use Rattle.spdm_command.specs.declared.words.Command.TheVariants.{Check, Drive, Serve};
 ghost use Rattle.stream_commands.specs.InputEnds.{HasEnd, InputEnd, IsStreamToDrive, IsStreamToServe, answer_for};
 ghost use Rattle.stream_commands.specs.Outside.{outside};
@@ -24,13 +24,14 @@ use link_world::World;
 use spdm_basis::{InFault, Seeds, Sink, Source};
 use std::alloc::Global;
 
-/// The command `spdm` with these arguments. `run` reads a script, runs its requesters and its responder over its link,
-/// writes their trace, and leaves the final world in `left`. `show` reads messages, one per line, and writes their
-/// names and lengths. `gen SEED COUNT` runs the script generated from a seed below 2^64 and a count of 1 to 20,000
-/// events without its trace, writes a summary line, and leaves the final world. None of these uses `seeds`. `serve`
-/// reads a configuration up to `end`, takes one seed, and answers the frames that follow as the configured responder.
-/// `drive` does the same with the first configured requester, whose commands are frames too. `check` reads a capture,
-/// and writes whether its endpoints could have produced it.
+/// The command `spdm` with these words. The word `run` reads a script, runs its requesters and its
+/// responder over its link, writes their trace, and leaves their world in `left`. The word `show` reads
+/// messages, one a line, and writes their names and lengths. The words `gen SEED COUNT` run the generated
+/// script of a seed below 2^64 and a count of 1 to 20,000 events without its trace, write one line that tells
+/// what it came to, and leave its world. None of these takes a seed of `seeds`. The word `serve` reads a
+/// configuration up to `end`, takes one seed, and answers the frames of the stream behind as the responder that is
+/// configured. The word `drive` does the same with the first requester that is configured, whose commands come as
+/// frames too. The word `check` reads a capture, and writes whether its ends could have made it.
 #[tactic(auto, using(crate::proofs::TopCall::read_is, script_laws::proofs::RefusedRight::refuses))]
 pub fn spdm<S: Source, K: Sink, E: Seeds>(
     alloc: Global,
@@ -42,49 +43,49 @@ pub fn spdm<S: Source, K: Sink, E: Seeds>(
 ) -> Outcome
     // Done: the source was read to its end, and the sink holds what it held and then the whole output.
     ensures read_to_end { result ≡ Outcome.Done → (text : List ℕ)
-        → input_by (command_of (map string_bytes words.now)) (S.remaining source.old) ≡ Some text
-        → input_by (command_of (map string_bytes words.now)) (S.remaining source.new) ≡ Some [] }
+        → input_by (call_of words.now) (S.remaining source.old) ≡ Some text
+        → input_by (call_of words.now) (S.remaining source.new) ≡ Some [] }
     ensures whole_output { result ≡ Outcome.Done → (text : List ℕ)
-        → input_by (command_of (map string_bytes words.now)) (S.remaining source.old) ≡ Some text
-        → Takes (K.contents sink.old) (output_by (command_of (map string_bytes words.now)) text)
+        → input_by (call_of words.now) (S.remaining source.old) ≡ Some text
+        → Takes (K.contents sink.old) (output_by (call_of words.now) text)
         (K.contents sink.new) }
 
     // With any answer the sink holds what it held and a prefix of the output, and with some of them nothing more.
     ensures prefix { (text : List ℕ)
-        → input_by (command_of (map string_bytes words.now)) (S.remaining source.old) ≡ Some text
+        → input_by (call_of words.now) (S.remaining source.old) ≡ Some text
         → TakesPrefix (K.contents sink.old)
-        (output_by (command_of (map string_bytes words.now)) text) (K.contents sink.new) }
-    ensures nothing_written { answers_stream (command_of (map string_bytes words.now)) ≡ false
+        (output_by (call_of words.now) text) (K.contents sink.new) }
+    ensures nothing_written { answers_stream (call_of words.now) ≡ false
         → writes_nothing result ≡ true → sink.new ≡ sink.old }
 
     // Where a packet finds the link full, all that stands before its line was written.
     ensures link_full { (line : ℕ) → result ≡ Outcome.LinkFull line → (text : List ℕ)
-        → input_by (command_of (map string_bytes words.now)) (S.remaining source.old) ≡ Some text
-        → full_by (command_of (map string_bytes words.now)) text ≡ Some line }
+        → input_by (call_of words.now) (S.remaining source.old) ≡ Some text
+        → full_by (call_of words.now) text ≡ Some line }
     ensures before_full { (line : ℕ) → result ≡ Outcome.LinkFull line → (text : List ℕ)
-        → input_by (command_of (map string_bytes words.now)) (S.remaining source.old) ≡ Some text
-        → Takes (K.contents sink.old) (output_by (command_of (map string_bytes words.now)) text)
+        → input_by (call_of words.now) (S.remaining source.old) ≡ Some text
+        → Takes (K.contents sink.old) (output_by (call_of words.now) text)
         (K.contents sink.new) }
     ensures room { result ≡ Outcome.Done → (text : List ℕ)
-        → input_by (command_of (map string_bytes words.now)) (S.remaining source.old) ≡ Some text
-        → full_by (command_of (map string_bytes words.now)) text ≡ None }
+        → input_by (call_of words.now) (S.remaining source.old) ≡ Some text
+        → full_by (call_of words.now) text ≡ None }
 
     // What is left stands for the last world of the script; with any other answer it is as before.
     ensures left { result ≡ Outcome.Done → (text : List ℕ)
-        → input_by (command_of (map string_bytes words.now)) (S.remaining source.old) ≡ Some text
-        → IsLeft (command_of (map string_bytes words.now)) text left.old left.new }
+        → input_by (call_of words.now) (S.remaining source.old) ≡ Some text
+        → IsLeft (call_of words.now) text left.old left.new }
     ensures left_as_before { result ≢ Outcome.Done → left.new ≡ left.old }
-    ensures no_seed { answers_stream (command_of (map string_bytes words.now)) ≡ false
+    ensures no_seed { answers_stream (call_of words.now) ≡ false
         → seeds.new ≡ seeds.old }
 
-    // The word `serve`: all whole frames of the stream are answered, in order, by the responder of the configuration
-    // with the one seed that was taken; with each other answer what was written tells how far.
-    ensures served { command_of (map string_bytes words.now) ≡ Some Serve → IsServed
+    // The word `serve`: all whole frames of the stream are answered, in order, by the responder of the
+    // configuration with the one seed that was taken; with each other answer what was written tells how far.
+    ensures served { call_of words.now ≡ Some Serve → IsServed
         (outside (S.remaining source.old) (K.contents sink.old) (E.left seeds.old)
         (S.faults source.old) (K.faults sink.old) (E.faults seeds.old))
         (outside (S.remaining source.new) (K.contents sink.new) (E.left seeds.new)
         (S.faults source.new) (K.faults sink.new) (E.faults seeds.new)) result }
-    ensures served_exactly { command_of (map string_bytes words.now) ≡ Some Serve
+    ensures served_exactly { call_of words.now ≡ Some Serve
         → (input : List ℕ) (end : InputEnd) → S.remaining source.old ≡ Some input
         → HasEnd IsStreamToServe input end → IsQuiet (S.faults source.old) (S.faults source.new)
         → IsQuiet (K.faults sink.old) (K.faults sink.new)
@@ -92,49 +93,49 @@ pub fn spdm<S: Source, K: Sink, E: Seeds>(
         → (result ≡ Outcome.OutOfMemory) ⊎ (result ≡ outcome_of (answer_for end)) }
 
     // The word `drive`: likewise the first requester of the configuration is told and given all whole frames.
-    ensures driven { command_of (map string_bytes words.now) ≡ Some Drive → IsDriven
+    ensures driven { call_of words.now ≡ Some Drive → IsDriven
         (outside (S.remaining source.old) (K.contents sink.old) (E.left seeds.old)
         (S.faults source.old) (K.faults sink.old) (E.faults seeds.old))
         (outside (S.remaining source.new) (K.contents sink.new) (E.left seeds.new)
         (S.faults source.new) (K.faults sink.new) (E.faults seeds.new)) result }
-    ensures driven_exactly { command_of (map string_bytes words.now) ≡ Some Drive
+    ensures driven_exactly { call_of words.now ≡ Some Drive
         → (input : List ℕ) (end : InputEnd) → S.remaining source.old ≡ Some input
         → HasEnd IsStreamToDrive input end → IsQuiet (S.faults source.old) (S.faults source.new)
         → IsQuiet (K.faults sink.old) (K.faults sink.new)
         → IsQuiet (E.faults seeds.old) (E.faults seeds.new)
         → (result ≡ Outcome.OutOfMemory) ⊎ (result ≡ outcome_of (answer_for end)) }
 
-    // The word `check`: the verdict on the capture that the source has is told, and its lines are written; or why there
-    // is none.
-    ensures checked { command_of (map string_bytes words.now) ≡ Some Check → (text : List ℕ)
+    // The word `check`: the verdict on the capture that the source has is told, and its lines are written; or why
+    // there is none.
+    ensures checked { call_of words.now ≡ Some Check → (text : List ℕ)
         → S.remaining source.old ≡ Some text
         → IsChecked text (K.contents sink.old) (K.contents sink.new) result }
-    ensures checked_exactly { command_of (map string_bytes words.now) ≡ Some Check
+    ensures checked_exactly { call_of words.now ≡ Some Check
         → (text : List ℕ) (found : Finding) → S.remaining source.old ≡ Some text
         → HasFinding text found → IsQuiet (S.faults source.old) (S.faults source.new)
         → IsQuiet (K.faults sink.old) (K.faults sink.new)
         → (result ≡ Outcome.OutOfMemory) ⊎ (result ≡ outcome_for found) }
-    ensures each_capture_judged { command_of (map string_bytes words.now) ≡ Some Check
+    ensures each_capture_judged { call_of words.now ≡ Some Check
         → (text : List ℕ) → S.remaining source.old ≡ Some text
         → length text ≤ text_limit → bad_line_in (capture_in text) ≡ None
         → IsQuiet (S.faults source.old) (S.faults source.new)
         → IsQuiet (K.faults sink.old) (K.faults sink.new)
         → (result ≡ Outcome.OutOfMemory) ⊎ (is_judged result ≡ true) }
-    ensures capture_read { command_of (map string_bytes words.now) ≡ Some Check
+    ensures capture_read { call_of words.now ≡ Some Check
         → is_judged result ≡ true → (text : List ℕ) → S.remaining source.old ≡ Some text
         → S.remaining source.new ≡ Some [] }
-    ensures check_leaves_nothing { command_of (map string_bytes words.now) ≡ Some Check
+    ensures check_leaves_nothing { call_of words.now ≡ Some Check
         → left.new ≡ left.old }
     ensures of_captures_alone { is_of_captures result ≡ true
-        → command_of (map string_bytes words.now) ≡ Some Check }
+        → call_of words.now ≡ Some Check }
 
-    ensures leaves_nothing { answers_stream (command_of (map string_bytes words.now)) ≡ true
+    ensures leaves_nothing { answers_stream (call_of words.now) ≡ true
         → left.new ≡ left.old }
     ensures of_streams_alone { is_of_streams result ≡ true
-        → answers_stream (command_of (map string_bytes words.now)) ≡ true }
+        → answers_stream (call_of words.now) ≡ true }
 
-    // The headline, of each script that the source has: after each beginning of its events, without chance up to there;
-    // and at each of its events.
+    // The headline, of each script that the source has: after each beginning of its events, without chance up
+    // to there; and at each of its events.
     ensures agreement { (text : List ℕ) → S.remaining source.old ≡ Some text
         → AgreesIn text × ShowsAlikeIn text }
     ensures data_prefix { (text : List ℕ) → S.remaining source.old ≡ Some text → DeliversIn text }
@@ -143,42 +144,42 @@ pub fn spdm<S: Source, K: Sink, E: Seeds>(
     ensures refused { (text : List ℕ) → S.remaining source.old ≡ Some text → RefusesIn text }
 
     // Each answer comes at its cause.
-    ensures usage { (result ≡ Outcome.Usage) ↔ (command_of (map string_bytes words.now) ≡ None) }
-    ensures nothing_read { reads (command_of (map string_bytes words.now)) ≡ false
+    ensures usage { (result ≡ Outcome.Usage) ↔ (call_of words.now ≡ None) }
+    ensures nothing_read { reads (call_of words.now) ≡ false
         → source.new ≡ source.old }
     ensures bad_script { (line : ℕ) (fault : LineFault) → result ≡ Outcome.BadScript line fault
         → (text : List ℕ)
-        → input_by (command_of (map string_bytes words.now)) (S.remaining source.old) ≡ Some text
+        → input_by (call_of words.now) (S.remaining source.old) ≡ Some text
         → (length text ≤ text_limit)
-        × (bad_line_by (command_of (map string_bytes words.now)) text
+        × (bad_line_by (call_of words.now) text
         ≡ Some (record { line = line; fault = fault })) }
     ensures script { ran result ≡ true → (text : List ℕ)
-        → input_by (command_of (map string_bytes words.now)) (S.remaining source.old) ≡ Some text
+        → input_by (call_of words.now) (S.remaining source.old) ≡ Some text
         → (length text ≤ text_limit)
-        × (bad_line_by (command_of (map string_bytes words.now)) text ≡ None) }
+        × (bad_line_by (call_of words.now) text ≡ None) }
     ensures too_long { result ≡ Outcome.TooLong → (text : List ℕ)
-        → input_by (command_of (map string_bytes words.now)) (S.remaining source.old) ≡ Some text
+        → input_by (call_of words.now) (S.remaining source.old) ≡ Some text
         → text_limit < length text }
     ensures read_fault { result ≡ Outcome.ReadFault
-        → (reads (command_of (map string_bytes words.now)) ≡ true)
+        → (reads (call_of words.now) ≡ true)
         × HasFault (S.faults source.old) (S.faults source.new) }
     ensures write_fault { result ≡ Outcome.WriteFault
         → HasFault (K.faults sink.old) (K.faults sink.new) }
 
     // Where nothing fails, the answer is that to the words and the text, unless memory runs out.
     ensures exact { (text : List ℕ)
-        → input_by (command_of (map string_bytes words.now)) (S.remaining source.old) ≡ Some text
-        → IsReadQuietly (command_of (map string_bytes words.now)) (S.faults source.old) (S.faults source.new)
+        → input_by (call_of words.now) (S.remaining source.old) ≡ Some text
+        → IsReadQuietly (call_of words.now) (S.faults source.old) (S.faults source.new)
         → IsQuiet (K.faults sink.old) (K.faults sink.new)
         → (result ≡ Outcome.OutOfMemory)
-        ⊎ (result ≡ answer_to (command_of (map string_bytes words.now)) text) }
+        ⊎ (result ≡ answer_to (call_of words.now) text) }
     ensures complete { (text : List ℕ)
-        → input_by (command_of (map string_bytes words.now)) (S.remaining source.old) ≡ Some text
-        → IsReadQuietly (command_of (map string_bytes words.now)) (S.faults source.old) (S.faults source.new)
+        → input_by (call_of words.now) (S.remaining source.old) ≡ Some text
+        → IsReadQuietly (call_of words.now) (S.faults source.old) (S.faults source.new)
         → IsQuiet (K.faults sink.old) (K.faults sink.new)
-        → IsSome (command_of (map string_bytes words.now)) → length text ≤ text_limit
-        → bad_line_by (command_of (map string_bytes words.now)) text ≡ None
-        → full_by (command_of (map string_bytes words.now)) text ≡ None
+        → IsSome (call_of words.now) → length text ≤ text_limit
+        → bad_line_by (call_of words.now) text ≡ None
+        → full_by (call_of words.now) text ≡ None
         → (result ≡ Outcome.Done) ⊎ (result ≡ Outcome.OutOfMemory) }
 {
     let Some(command) = command_of(words) else {

@@ -1,5 +1,5 @@
-use responder_core::Setup;
 use measurements::{Inventory, InventoryFault};
+use responder_core::Setup;
 use script_text::ScriptConfig;
 use spdm_basis::{Bytes, OutOfMemory, Psk};
 use spdm_grammar::{FlagSet, Suites};

@@ -14,10 +14,10 @@ ghost use Rattle.capture_machine.specs.SessionTable.{Row};
 ghost use Rattle.world_machine.specs.Setup.{Configuration, known_of};
 
 use crate::ordering::{answered_why, asked_why};
-use check_laws::{Round, SessionTable};
-use responder_core::Setup;
 use check_fetched_ends::MarkedEnds;
+use check_laws::{Round, SessionTable};
 use mctp_framing::Route;
+use responder_core::Setup;
 use spdm_basis::OutOfMemory;
 use spdm_grammar::Why;
 

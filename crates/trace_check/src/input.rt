@@ -4,9 +4,8 @@ ghost use Rattle.script_text.specs.ScriptText.{capture_in};
 ghost use Rattle.spdm_basis.specs.Stream.{HasFault, IsQuiet};
 ghost use Rattle.trace_check.specs.Answers.{Finding, HasFinding, IsAnswered, answer_for, answer_of, fault_of, writes_nothing};
 
-use crate::{CheckAnswer, CheckFault, write_verdict};
+use crate::{CheckAnswer, CheckFault, check_text, write_verdict};
 use check_laws::Verdict;
-use crate::check_text;
 use script_text::{LineFault, ScriptFault, TEXT_LIMIT};
 use spdm_basis::{InFault, OutFault, Sink, Source, read_all};
 use std::alloc::Global;

@@ -6,15 +6,15 @@ ghost use Rattle.requester_machine.specs.UnderWay.{HasSizes};
 use crate::Answering;
 use crate::bodies::{takes_answer, takes_request};
 use check_ends::{Party, walks_show};
-use check_requester::Asker;
-use check_laws::{Round, SessionTable};
 use check_fetched_ends::MarkedEnds;
+use check_laws::{Round, SessionTable};
+use check_requester::Asker;
 use mctp_framing::{Assembler, Fed, PacketView};
 use script_text::ReqPart;
 use spdm_basis::{Bytes, Eid, OutOfMemory, Psk};
 use spdm_grammar::Why;
-use std::alloc::Global;
 use spdm_grammar::names::MAX_BODY_SIZE;
+use std::alloc::Global;
 
 /// A requester of a capture and the responder: the bodies that are gathered in both directions, the round in progress,
 /// what the two ends hold, and what the responder knows of the requester. It judges the packets between them. Allocates

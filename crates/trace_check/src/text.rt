@@ -1,10 +1,10 @@
 ghost use Rattle.std.specs.Prelude.{◌≤◌, length};
 ghost use Rattle.trace_check.specs.Texts.{IsCheckedText};
 
+use crate::check;
 use check_laws::Verdict;
 use script_text::{ScriptFault, TEXT_LIMIT, parse_capture};
 use std::alloc::Global;
-use crate::check;
 
 /// The verdict on the capture that a text is. The fault is that of the first bad line, and the first that it has, or
 /// allocation failure.

@@ -16,7 +16,9 @@ pub use other_lines::{
     line_seen, line_summary,
 };
 pub use pairs::{read_pairs, write_pairs};
-pub use text_words::{add_hex, add_number, add_requester, add_word, begin_with_requester, end_text_line};
+pub use text_words::{
+    add_hex, add_number, add_requester, add_word, begin_with_requester, end_text_line,
+};
 pub use trace_lines::{
     line_at, line_command, line_data, line_event, line_heard, line_no_packet, line_nobody,
     line_packet, line_record, line_reply, line_session, line_state,

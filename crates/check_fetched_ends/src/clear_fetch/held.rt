@@ -6,17 +6,16 @@ ghost use Rattle.spdm_grammar.specs.Responses.{canonical_response};
 ghost use Rattle.spdm_grammar.specs.declared.names.TheConstants.{MAX_MESSAGE_SIZE};
 ghost use Rattle.spdm_machine.specs.Bodies.{clear_body};
 
-use crate::session_fetch::in_session::{MOST_BYTES, bytes_in, size_with, zeros};
 use crate::clear_fetch::shown::Shown;
+use crate::session_fetch::in_session::{MOST_BYTES, bytes_in, size_with, zeros};
+use check_late_laws::{LargeAnswer, Marks};
 use chunking::nth_chunk;
 use responder_core::KeptReply;
-use check_late_laws::LargeAnswer;
-use check_late_laws::Marks;
 use session_keys::{behind_type, byte_at};
 use spdm_basis::Frame;
 use spdm_codec::write_response;
-use spdm_grammar::{ChunkView, Response};
 use spdm_grammar::names::message_type::SPDM;
+use spdm_grammar::{ChunkView, Response};
 
 /// A large response that is fetched in the clear: its request, with its tag, and the LargeResponse that it got; the
 /// lengths that are sent in chunks, and the requester's transfer size; what came of it; the newest request in the

@@ -1,4 +1,4 @@
-ghost use Rattle.std.specs.Prelude.{◌≡◌, ◌≤◌, ◌<◌, ◌-◌, ◌^◌, ◌==◌, ℕ, List, None, IfOk, OnErr, if◌then◌else◌, length, slice_index};
+ghost use Rattle.std.specs.Prelude.{◌≡◌, ◌≤◌, ◌<◌, ◌-◌, ◌^◌, ◌==◌, ℕ, List, None, IfOk, OnErr, length, slice_index};
 ghost use Rattle.check_ends.specs.Party.{IsParty};
 ghost use Rattle.check_laws.specs.Keeping.{Keeps, Kept};
 ghost use Rattle.check_laws.specs.Order.{answered_why};
@@ -23,14 +23,14 @@ use crate::clear_fetch::handshake_left::leave_handshake;
 use crate::clear_fetch::held::Held;
 use crate::session_fetch::in_session::MOST_BYTES;
 use check_ends::Party;
+use check_late_laws::LargeAnswer;
 use check_laws::{Round, SessionTable, answer_accepts, large_answer_changes};
 use responder_core::{Connection, KeptReply, Setup};
-use check_late_laws::LargeAnswer;
 use session_keys::{behind_type, byte_at};
 use spdm_basis::{Frame, OutOfMemory};
+use spdm_grammar::names::message_type::SPDM;
 use spdm_grammar::names::request_code::PSK_EXCHANGE;
 use spdm_grammar::names::response_code::CHUNK_SEND_ACK;
-use spdm_grammar::names::message_type::SPDM;
 
 /// What is reported of an answer in the clear while nothing is fetched.
 #[derive(Drop)]

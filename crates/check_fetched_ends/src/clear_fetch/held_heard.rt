@@ -1,7 +1,6 @@
 ghost use Rattle.std.specs.Prelude.{◌≡◌, ◌<◌, ◌-◌, ◌^◌, ℕ, List, None, Some, true, OnErr, OnOk, length};
 ghost use Rattle.check_requester.specs.HeardKept.{asks_upon, heard_kept};
 ghost use Rattle.check_laws.specs.KeptChanges.{accepted_from};
-ghost use Rattle.check_laws.specs.RepliesShown.{responder_for};
 ghost use Rattle.check_laws.specs.Rows.{StandsForRows};
 ghost use Rattle.check_fetched_ends.specs.Held.{IsHeardHeld, IsHeldIn, IsQuiet};
 ghost use Rattle.check_fetched_ends.specs.declared.clear_fetch.held.Held.{Held};

@@ -25,17 +25,16 @@ use crate::clear_fetch::held_begins::BegunHeld;
 use crate::clear_fetch::held_version::least_values;
 use crate::session_fetch::in_session::MOST_BYTES;
 use check_ends::Party;
+use check_fetched_laws::blocks_are_few;
+use check_late_laws::{LargeAnswer, Marks};
 use check_laws::{Round, SessionTable, answer_accepts};
 use responder_core::{Connection, KeptReply, Setup};
-use check_fetched_laws::blocks_are_few;
-use check_late_laws::LargeAnswer;
-use check_late_laws::Marks;
 use session_keys::{behind_type, byte_at, same_bytes};
 use spdm_basis::{Frame, OutOfMemory};
 use spdm_grammar::names::error_number::LARGE_RESPONSE;
+use spdm_grammar::names::message_type::SPDM;
 use spdm_grammar::names::request_code::{GET_MEASUREMENTS, PSK_EXCHANGE};
 use spdm_grammar::names::response_code::ERROR;
-use spdm_grammar::names::message_type::SPDM;
 
 // Whether a body is GET_MEASUREMENTS or PSK_EXCHANGE in the clear.
 fn is_free_body(body: &[u8]) -> bool

@@ -1,4 +1,4 @@
-ghost use Rattle.std.specs.Prelude.{◌≡◌, ◌≤◌, ◌+◌, ◌-◌, ◌==◌, ◌++◌, length, drop, slice_index, unwrap_or, if◌then◌else◌};
+ghost use Rattle.std.specs.Prelude.{◌≡◌, ◌≤◌, ◌+◌, ◌-◌, ◌==◌, length, drop};
 ghost use Rattle.check_late_laws.specs.Fetching.{bytes_in, size_in};
 ghost use Rattle.spdm_grammar.specs.Fields.{zeros};
 ghost use Rattle.check_fetched_ends.specs.InSession.{size_with};

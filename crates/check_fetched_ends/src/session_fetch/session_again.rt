@@ -9,15 +9,15 @@ ghost use Rattle.responder_machine.specs.Setup.{RspSetup};
 ghost use Rattle.spdm_grammar.specs.Requests.{request_in};
 
 use crate::session_fetch::in_session::{InSession, MOST_BYTES};
-use responder_core::{Connection, Setup, record_id};
 use check_late_laws::LargeAnswer;
+use responder_core::{Connection, Setup, record_id};
 use session_keys::{behind_type, byte_at};
 use spdm_basis::{Frame, RecordFrame};
 use spdm_codec::read_request;
 use spdm_grammar::Request;
 use spdm_grammar::names::error_number::LARGE_RESPONSE;
-use spdm_grammar::names::response_code::ERROR;
 use spdm_grammar::names::message_type::SPDM;
+use spdm_grammar::names::response_code::ERROR;
 
 // What stands in a chunk beside the bytes that it holds.
 const CHUNK_FIELDS: u32 = 12;

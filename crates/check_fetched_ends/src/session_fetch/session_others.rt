@@ -23,12 +23,10 @@ use crate::Upon;
 use crate::session_fetch::in_session::InSession;
 use crate::session_fetch::session_prepared::prepared;
 use check_ends::Party;
-use check_responder::Given;
-use check_laws::{
-    Round, SessionTable, answer_accepts, large_answer_changes, whole_answer_changes,
-};
-use responder_core::{Connection, Setup};
 use check_fetched_laws::forget_bytes;
+use check_laws::{Round, SessionTable, answer_accepts, large_answer_changes, whole_answer_changes};
+use check_responder::Given;
+use responder_core::{Connection, Setup};
 use session_keys::behind_type;
 use spdm_basis::OutOfMemory;
 use spdm_grammar::Why;

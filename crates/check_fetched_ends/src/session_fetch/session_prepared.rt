@@ -8,8 +8,8 @@ ghost use Rattle.spdm_grammar.specs.Message.{request_message};
 ghost use Rattle.spdm_grammar.specs.Requests.{request_in};
 
 use crate::session_fetch::in_session::InSession;
-use responder_core::{Connection, Setup, record_id};
 use check_late_laws::LargeAnswer;
+use responder_core::{Connection, Setup, record_id};
 use session_keys::behind_type;
 use spdm_basis::{Frame, RecordFrame};
 use spdm_codec::read_request;

@@ -1,18 +1,15 @@
 ghost use Rattle.std.specs.Prelude.{◌≡◌, ◌≤◌, ◌<◌, ◌-◌, ◌^◌, ◌⊎◌, ℕ, List, MatchOption, drop, length, true, false};
 ghost use Rattle.check_responder.specs.AnswerKeys.{will_take};
 ghost use Rattle.check_responder.specs.Answerer.{IsAnswerer};
-ghost use Rattle.check_laws.specs.AnswersShown.{answered_text};
 ghost use Rattle.check_fetched_laws.specs.AnswerTexts.{Holds};
 ghost use Rattle.responder_machine.specs.BoundLaws.{messages_of};
 ghost use Rattle.responder_machine.specs.History.{History};
-ghost use Rattle.responder_machine.specs.Session.{id_in_record, session_of};
 ghost use Rattle.responder_machine.specs.Setup.{RspSetup};
-ghost use Rattle.capture_machine.specs.Opening.{turn_in};
 ghost use Rattle.check_fetched_ends.specs.InSession.{IsTextOf, is_chunk};
 ghost use Rattle.check_fetched_ends.specs.SessionOthers.{IsRefusing};
 
-use check_responder::Answerer;
 use check_fetched_laws::message_in;
+use check_responder::Answerer;
 use session_keys::{behind_type, byte_at};
 use spdm_basis::RecordFrame;
 use spdm_grammar::names::response_code::{CHUNK_RESPONSE, ERROR};

@@ -18,26 +18,7 @@ use Rattle.check_late_laws.proofs.Late.SeenAlike.{SeenAlike, answered, stage_ali
 use Rattle.check_late_laws.proofs.Late.SeenAlike.SeenAlike.{NoEvent, Behind, Here}
 use Rattle.capture_machine.proofs.UnseenStands.{StandsUnseen, UnseenStand}
 use Rattle.capture_machine.specs.LargeAnswers.{with_large, is_unseen_in, is_unseen_effect, handle_shown, seen, effect_with}
-
--- ---- The clear turns.
-
-turns_by : (id : ℕ) (w : List ℕ) (e : Entry) (h : History) (b : Bool) → is_unseen_in (Some id) e ≡ b → clear_turns (with_large (Some id) w h) ≡ clear_turns h
-    → clear_turns (cond b (seen w e ∷ h) (e ∷ with_large (Some id) w h)) ≡ clear_turns (e ∷ h)
-turns_by id w (Sealed tag m t reply d) h true is before = refl
-turns_by id w (Clear tag t d) h true is before = absurd (false≢true is)
-turns_by id w (Queued bytes) h true is before = absurd (false≢true is)
-turns_by id w (Ticked seconds) h true is before = absurd (false≢true is)
-turns_by id w (Dropped which) h true is before = absurd (false≢true is)
-turns_by id w (Clear tag t d) h false is before = ap (λ l. t ∷ l) before
-turns_by id w (Sealed tag m t reply d) h false is before = before
-turns_by id w (Queued bytes) h false is before = before
-turns_by id w (Ticked seconds) h false is before = before
-turns_by id w (Dropped which) h false is before = before
-
--- No clear turn is another.
-turns_fetched : (id : ℕ) (w : List ℕ) (h : History) → clear_turns (with_large (Some id) w h) ≡ clear_turns h
-turns_fetched id w [] = refl
-turns_fetched id w (e ∷ h) = turns_by id w e h (is_unseen_in (Some id) e) refl (turns_fetched id w h)
+use Rattle.capture_machine.proofs.FetchedSessions.{turns_fetched}
 
 -- ---- Sessions.
 

@@ -7,8 +7,8 @@ use Rattle.check_laws.specs.Order.{is_answer, is_request}
 use Rattle.check_laws.specs.Walks.{StepsBy, StepsTo, Walks}
 use Rattle.chunking.specs.Cutting.{chunk_count}
 use Rattle.check_late_laws.proofs.Late.SettledSessions.{IsSettled, settled_sessions}
-use Rattle.check_late_laws.proofs.Late.StepsBegun.{settled}
-use Rattle.check_late_laws.proofs.Late.StepsMoved.{completes_since, walks_held}
+use Rattle.check_laws.proofs.BegunAtLast.{settled}
+use Rattle.check_laws.proofs.StepsOfWalks.{completes_since, walks_held}
 use Rattle.check_late_laws.proofs.Late.SessionNewest.{again_leaves_others}
 use Rattle.mctp_framing.specs.Gathering.{Gathered}
 use Rattle.mctp_framing.specs.Gathering.Gathered.{Whole, More, Dropped as Lost}
@@ -51,14 +51,14 @@ use Rattle.world_machine.specs.Setup.{Configuration, known_of}
 abbrev pub QuietAt : Events → Type 0
 QuietAt s = has_pending (session_place s) ≡ false
 
-not_large : (x : Effect) → is_some (handle_in x) ≡ false → large_in x ≡ None
+pub not_large : (x : Effect) → is_some (handle_in x) ≡ false → large_in x ≡ None
 not_large NoEffect small = refl
 not_large (Took a m answer None) small = refl
 not_large (Took a m answer (Some handle)) small = absurd (false≢true (sym small))
 not_large (TookData bytes answer) small = refl
 
 -- With one chunk more no more is pending.
-more_given : (transfer n : ℕ) (o : Option (List ℕ)) → is_some (still_pending transfer n o) ≡ false → is_some (still_pending transfer (n + 1) o) ≡ false
+pub more_given : (transfer n : ℕ) (o : Option (List ℕ)) → is_some (still_pending transfer n o) ≡ false → is_some (still_pending transfer (n + 1) o) ≡ false
 more_given transfer n None none = refl
 more_given transfer n (Some w) none = by_test (nat_lt n (chunk_count transfer w)) (nat_lt (n + 1) (chunk_count transfer w)) refl refl none
   where
@@ -127,7 +127,7 @@ dropped_quiet : (ids : List ℕ) (h : History) → QuietIn h → QuietIn (with_d
 dropped_quiet [] h quiet = quiet
 dropped_quiet (id ∷ ids) h quiet = dropped_quiet ids (Dropped id ∷ h) (adds_quiet (Dropped id) h refl quiet)
 
-none_handled : (x : Effect) → is_some (handle_in (effect_with [] None x)) ≡ false
+pub none_handled : (x : Effect) → is_some (handle_in (effect_with [] None x)) ≡ false
 none_handled NoEffect = refl
 none_handled (Took a m answer large) = refl
 none_handled (TookData bytes answer) = refl

@@ -3,7 +3,7 @@
 use Rattle.std.proofs.Common.{◌≡◌, ◌==◌, ◌&&◌, ◌⊎◌, ◌∙◌, ℕ, List, [], ◌∷◌, refl, sym, ap, subst, Bool, true, false, Option, Some, None, cond, eqb-true, inl, inr}
 use Rattle.std.specs.Prelude.{MatchBool, not}
 use Rattle.std.proofs.lemmas.Bool.{and_parts, false≢true, not-true}
-use Rattle.check_late_laws.proofs.Late.StepsBegun.{settled, settled_behind, settled_here}
+use Rattle.check_laws.proofs.BegunAtLast.{settled, settled_behind, settled_here}
 use Rattle.check_late_laws.proofs.Late.BehindSessions.{dropped_session, left_of}
 use Rattle.responder_machine.proofs.Entries.{session_of-Clear, session_of-Sealed}
 use Rattle.responder_machine.specs.History.{Entry, History, clear_turns, negotiation_of}

@@ -13,7 +13,7 @@ use Rattle.capture_machine.specs.Capture.{AsksBy, RepliesBy}
 use Rattle.capture_machine.specs.Rounds.{Dialogue}
 use Rattle.world_machine.specs.Setup.{Configuration}
 
-step_sound : (w : Configuration) (eid : ℕ) (older : List (List ℕ)) (d next : Dialogue) (r : Result PacketFields PacketFault) → IsSound d → StepsBy w eid older d next r → IsSound next
+pub step_sound : (w : Configuration) (eid : ℕ) (older : List (List ℕ)) (d next : Dialogue) (r : Result PacketFields PacketFault) → IsSound d → StepsBy w eid older d next r → IsSound next
 step_sound w eid older d next (Err fault) sound step = subst IsSound (sym step) sound
 step_sound w eid older d next (Ok p) sound step = by_ends (is_request w.responder.eid eid p) (is_answer w.responder.eid eid p) step
   where

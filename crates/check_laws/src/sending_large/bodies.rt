@@ -9,8 +9,8 @@ ghost use Rattle.check_laws.specs.Large.Pieces.{size_in};
 
 use spdm_basis::Frame;
 use spdm_codec::write_request;
-use spdm_grammar::{ChunkView, Request};
 use spdm_grammar::names::message_type::SPDM;
+use spdm_grammar::{ChunkView, Request};
 
 // A byte of a body, and 0 after its end.
 fn byte_at(body: &[u8], at: usize) -> u8

@@ -31,8 +31,7 @@ fn place_of(at: usize, place: usize) -> usize
 fn put(bytes: &[u8], out: &mut Frame)
     ensures { length bytes.now ≤ MAX_MESSAGE_SIZE → out.new ≡ bytes.now }
 {
-    out.clear();
-    let _ = out.extend(bytes);
+    let _ = out.replace(bytes);
 }
 
 impl Talk {

@@ -9,8 +9,8 @@ ghost use Rattle.requester_core.specs.Waiting.{waiting_of};
 
 use crate::{Setup, Talk, Waiting};
 use spdm_codec::read_response;
-use spdm_grammar::{ReqIgnored, Response};
 use spdm_grammar::names::message_type::{SECURED, SPDM};
+use spdm_grammar::{ReqIgnored, Response};
 
 // The length of a SHA-256 hash: how an ERROR is encoded depends on no hash.
 const ANY_HASH_LEN: usize = 32;

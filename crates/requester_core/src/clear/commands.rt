@@ -18,8 +18,8 @@ ghost use Rattle.requester_core.specs.Talk.{Counts, Shows, StandsFor};
 use crate::{Again, Asked, FreeValues, Setup, Talk, Waiting, Way};
 use negotiate::Common;
 use spdm_basis::Frame;
-use spdm_grammar::{CommandFault, Exchange, Phase, Request};
 use spdm_grammar::names::{MAX_SESSIONS, PSK_EXCHANGE_FIELDS_LEN};
+use spdm_grammar::{CommandFault, Exchange, Phase, Request};
 
 // Whether a message of this length is too long for the responder.
 pub fn is_too_long(common: &Common, len: usize) -> bool

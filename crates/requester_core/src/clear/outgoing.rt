@@ -149,8 +149,7 @@ impl Outgoing {
         let request = self.request.as_slice();
         match way {
             Way::Whole => {
-                out.clear();
-                let _ = out.extend(request);
+                let _ = out.replace(request);
             }
             Way::ByChunks { handle, number } => {
                 write_piece(request, transfer, handle, number, out);

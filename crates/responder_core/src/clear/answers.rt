@@ -14,10 +14,9 @@ use crate::clear::negotiating::NO_CHOICE;
 use negotiate::{Reply, reply_is_sound};
 use spdm_basis::Frame;
 use spdm_codec::write_response;
-use spdm_grammar::names::MAX_MESSAGE_SIZE;
 use spdm_grammar::names::spdm_version::V1_2;
+use spdm_grammar::names::{CHUNK_FIELDS_LEN, LARGE_SIZE_LEN, MAX_MESSAGE_SIZE};
 use spdm_grammar::{AlgOffer, ChunkView, Response};
-use spdm_grammar::names::{CHUNK_FIELDS_LEN, LARGE_SIZE_LEN};
 
 /// VERSION: one entry, 1.2.
 pub fn write_version(out: &mut Frame)

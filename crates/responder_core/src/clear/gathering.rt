@@ -31,8 +31,7 @@ pub fn gather(collector: &mut Collector, chunk: ChunkView<'_>, whole: &mut Frame
 {
     match collector.take(chunk) {
         Collected::Whole(message) => {
-            whole.clear();
-            let _ = whole.extend(message);
+            let _ = whole.replace(message);
             Gathered::Whole
         }
         Collected::More => Gathered::More,

@@ -36,8 +36,7 @@ pub fn replace(out: &mut Frame, bytes: &[u8])
     requires { length bytes.now ≤ MAX_MESSAGE_SIZE }
     ensures { out.new ≡ bytes.now }
 {
-    out.clear();
-    let _ = out.extend(bytes);
+    let _ = out.replace(bytes);
 }
 
 impl Standing {

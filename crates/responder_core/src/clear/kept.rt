@@ -83,9 +83,7 @@ impl KeptReply {
     {
         self.is_there = true;
         self.tag = tag;
-        self.message.clear();
-        let _ = self.message.extend(message);
-        self.reply.clear();
-        let _ = self.reply.extend(reply);
+        let _ = self.message.replace(message);
+        let _ = self.reply.replace(reply);
     }
 }

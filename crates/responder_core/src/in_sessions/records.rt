@@ -15,8 +15,7 @@ use spdm_grammar::{ErrorCode, Phase};
 pub fn replace_record(out: &mut RecordFrame, sealed: &[u8])
     ensures { length sealed.now ≤ 4160 → out.new ≡ sealed.now }
 {
-    out.clear();
-    let _ = out.extend(sealed);
+    let _ = out.replace(sealed);
 }
 
 /// The session that a record names: ReqSessionID and RspSessionID, the first four bytes (DSP0277).

@@ -3,11 +3,11 @@ ghost use Rattle.script_text.specs.Configuring.{block_fault, after_block, block_
 ghost use Rattle.script_text.specs.Tests.{IsAnswerTo};
 
 use crate::configuration::config::{BLOCK_HEADER, RECORD_LIMIT};
-use crate::texts::faults::{LineError, LineFault};
 use crate::configuration::given::Given;
 use crate::reading::hex_words::{MOST_BYTES, bytes_of, hex_len};
 use crate::reading::numbers::number;
 use crate::reading::words::{has_words, word};
+use crate::texts::faults::{LineError, LineFault};
 use spdm_grammar::BlockSpec;
 use std::alloc::Global;
 

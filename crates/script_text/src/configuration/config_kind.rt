@@ -4,13 +4,13 @@ ghost use Rattle.script_text.specs.Tests.{IsAnswerTo};
 
 use crate::configuration::block_line::take_block;
 use crate::configuration::end_line::take_end;
-use crate::texts::faults::LineError;
 use crate::configuration::given::Given;
 use crate::configuration::opaque_line::take_opaque;
 use crate::configuration::requester_line::take_requester;
 use crate::configuration::responder_line::take_responder;
 use crate::configuration::seed_line::take_seed;
 use crate::configuration::suite_line::take_suite;
+use crate::texts::faults::LineError;
 use std::alloc::Global;
 
 /// The kinds of lines of a configuration.

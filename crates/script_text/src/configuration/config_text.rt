@@ -5,10 +5,10 @@ ghost use Rattle.script_text.specs.Reading.{IsReading};
 
 use crate::configuration::config::ScriptConfig;
 use crate::configuration::config_kind::{kind_of, take_config};
-use crate::texts::faults::{LineError, LineFault, ScriptFault};
 use crate::configuration::given::Given;
-use crate::texts::reader::{LineReader, read_text};
 use crate::reading::words::word;
+use crate::texts::faults::{LineError, LineFault, ScriptFault};
+use crate::texts::reader::{LineReader, read_text};
 use std::alloc::Global;
 
 /// The longest text: 4 MiB.

@@ -2,9 +2,9 @@ ghost use Rattle.std.specs.Prelude.{◌≡◌, OnOk};
 ghost use Rattle.script_text.specs.Configuring.{end_fault, after_end};
 ghost use Rattle.script_text.specs.Tests.{IsAnswerTo};
 
-use crate::texts::faults::{LineError, LineFault};
 use crate::configuration::given::Given;
 use crate::reading::words::has_words;
+use crate::texts::faults::{LineError, LineFault};
 
 /// Takes the line `end`, after which nothing is configured any more.
 #[tactic(auto, unfolding(crate::specs::Configuring::end_fault, crate::specs::Configuring::after_end))]

@@ -2,10 +2,10 @@ ghost use Rattle.std.specs.Prelude.{◌≡◌, OnOk};
 ghost use Rattle.script_text.specs.Configuring.{opaque_fault, after_opaque};
 ghost use Rattle.script_text.specs.Tests.{IsAnswerTo};
 
-use crate::texts::faults::{LineError, LineFault};
 use crate::configuration::given::Given;
 use crate::reading::hex_words::{bytes_of, hex_len};
 use crate::reading::words::{has_words, word};
+use crate::texts::faults::{LineError, LineFault};
 use std::alloc::Global;
 
 /// Takes the line `opaque H`.

@@ -7,11 +7,11 @@ ghost use Rattle.script_text.specs.Tests.{IsAnswerTo};
 
 use crate::configuration::config::ReqPart;
 use crate::configuration::end_numbers::EndNumbers;
-use crate::texts::faults::{LineError, LineFault};
 use crate::configuration::given::{Given, SMALL_SUITES};
-use crate::reading::hex_words::{bytes_of, hex_len, psk_of};
 use crate::configuration::responder_line::{end_flags, has_eid};
+use crate::reading::hex_words::{bytes_of, hex_len, psk_of};
 use crate::reading::words::{has_words, word};
+use crate::texts::faults::{LineError, LineFault};
 use spdm_basis::{OutOfMemory, Psk};
 use spdm_grammar::FlagSet;
 use std::alloc::Global;

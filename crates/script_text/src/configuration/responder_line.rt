@@ -3,12 +3,12 @@ ghost use Rattle.script_text.specs.Choices.{flags_of};
 ghost use Rattle.script_text.specs.Configuring.{responder_fault, after_responder, fits_flags, has_eid, responder_has_eid, requester_has_eid};
 ghost use Rattle.script_text.specs.Tests.{IsAnswerTo};
 
-use crate::reading::choices::flags;
 use crate::configuration::config::ReqPart;
 use crate::configuration::end_numbers::EndNumbers;
-use crate::texts::faults::{LineError, LineFault};
 use crate::configuration::given::{Given, RspLine};
+use crate::reading::choices::flags;
 use crate::reading::words::{has_words, word};
+use crate::texts::faults::{LineError, LineFault};
 use spdm_grammar::FlagSet;
 
 /// Takes the line `responder EID TRANSFER MAX UNIT BEAT FLAGS`.

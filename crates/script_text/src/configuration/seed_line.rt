@@ -2,10 +2,10 @@ ghost use Rattle.std.specs.Prelude.{◌≡◌, OnOk};
 ghost use Rattle.script_text.specs.Configuring.{seed_fault, after_seed};
 ghost use Rattle.script_text.specs.Tests.{IsAnswerTo};
 
-use crate::texts::faults::{LineError, LineFault};
 use crate::configuration::given::Given;
 use crate::reading::hex_words::{hex_len, seed_of};
 use crate::reading::words::{has_words, word};
+use crate::texts::faults::{LineError, LineFault};
 
 /// Takes the line `seed H`.
 #[tactic(auto, unfolding(crate::specs::Configuring::seed_fault, crate::specs::Configuring::after_seed))]

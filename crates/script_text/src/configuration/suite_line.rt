@@ -2,10 +2,10 @@ ghost use Rattle.std.specs.Prelude.{◌≡◌, ◌≤◌, ◌<◌, length, OnOk}
 ghost use Rattle.script_text.specs.Configuring.{suite_fault, after_suite, after_suite_of};
 ghost use Rattle.script_text.specs.Tests.{IsAnswerTo};
 
-use crate::reading::choices::{aead, end_number, hash};
-use crate::texts::faults::{LineError, LineFault};
 use crate::configuration::given::Given;
+use crate::reading::choices::{aead, end_number, hash};
 use crate::reading::words::{count_of_words, has_words, word};
+use crate::texts::faults::{LineError, LineFault};
 use spdm_grammar::Suites;
 
 /// Takes the line `suite END HASH AEAD`.

@@ -3,10 +3,10 @@ ghost use Rattle.script_text.specs.Commands.{command_kind, command_fault, comman
 ghost use Rattle.script_text.specs.Tests.{IsAnswerTo};
 
 use crate::events::event::LinkEvent;
-use crate::texts::faults::LineError;
-use crate::reading::hex_words::bytes_of;
 use crate::events::said::{Said, what_is_said};
+use crate::reading::hex_words::bytes_of;
 use crate::reading::words::word;
+use crate::texts::faults::LineError;
 use std::alloc::Global;
 
 /// The kinds of commands.

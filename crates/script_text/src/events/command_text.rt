@@ -5,15 +5,15 @@ ghost use Rattle.script_text.specs.Reading.{IsReading};
 ghost use Rattle.script_text.specs.Saying.{IsSaying};
 ghost use Rattle.script_text.specs.declared.events.event_kind.EventKind.{EventKind};
 
-use crate::events::command::command;
 use crate::configuration::config::ScriptConfig;
+use crate::events::command::command;
 use crate::events::event::LinkEvent;
 use crate::events::event_kind::{EventKind, event_kind};
-use crate::texts::faults::{LineError, LineFault, ScriptFault};
+use crate::events::said::{Said, what_is_said};
 use crate::reading::hex_words::bytes_into;
 use crate::reading::lines::is_too_long;
-use crate::events::said::{Said, what_is_said};
 use crate::reading::words::word;
+use crate::texts::faults::{LineError, LineFault, ScriptFault};
 use std::alloc::Global;
 
 /// The command that a line is, for a requester of this configuration. The fault is the first that the line has, and is

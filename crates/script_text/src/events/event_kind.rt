@@ -6,13 +6,13 @@ ghost use Rattle.script_text.specs.Lines.{word};
 ghost use Rattle.script_text.specs.Numbers.{value_of};
 ghost use Rattle.script_text.specs.Tests.{IsAnswerTo};
 
-use crate::reading::choices::requester;
 use crate::events::command::{CommandKind, command, command_kind};
 use crate::events::event::LinkEvent;
-use crate::texts::faults::{LineError, LineFault};
+use crate::reading::choices::requester;
 use crate::reading::hex_words::hex_bytes;
 use crate::reading::numbers::number;
 use crate::reading::words::{has_words, word};
+use crate::texts::faults::{LineError, LineFault};
 use std::alloc::Global;
 
 /// The kinds of events.

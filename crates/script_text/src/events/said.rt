@@ -7,10 +7,10 @@ ghost use Rattle.script_text.specs.Saying.{HasBytes, event_of};
 ghost use Rattle.script_text.specs.Tests.{IsTestedBy};
 
 use crate::events::command::CommandKind;
-use crate::texts::faults::LineFault;
 use crate::reading::hex_words::{MOST_BYTES, hex_len, is_none_word};
 use crate::reading::numbers::number;
 use crate::reading::words::{has_words, word};
+use crate::texts::faults::LineFault;
 
 /// What the line of a command asks of its requester. The bytes of `Send` are the last word of the line.
 #[derive(Clone, Copy, Debug, PartialEq, Eq)]

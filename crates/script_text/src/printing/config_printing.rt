@@ -3,11 +3,11 @@ ghost use Rattle.script_text.specs.Printing.{with_line, seed_words, flags_word, 
 ghost use Rattle.trace_text.specs.Spelling.{requester_word, with_word};
 
 use crate::configuration::config::{ReqPart, RspPart, ScriptConfig};
-use trace_text::{add_hex, add_number, add_requester, add_word, end_text_line};
 use arrayvec::ArrayVec;
 use spdm_basis::{Bytes, OutOfMemory};
 use spdm_grammar::{BlockSpec, FlagSet, Pick, Suites};
 use std::alloc::Global;
+use trace_text::{add_hex, add_number, add_requester, add_word, end_text_line};
 
 // The line of a seed.
 fn add_seed(seed: Option<[u8; 32]>, text: &mut Bytes) -> Result<(), OutOfMemory>

@@ -3,14 +3,14 @@ ghost use Rattle.std.specs.Fmt.{decimal};
 ghost use Rattle.script_text.specs.Printing.{with_line, with_entry, event_words, place_word, update_word, script_text};
 ghost use Rattle.trace_text.specs.Spelling.{requester_word, with_word};
 
-use crate::printing::config_printing::print_config;
 use crate::events::event::{Entry, LinkEvent};
+use crate::printing::config_printing::print_config;
 use crate::texts::script::Script;
+use spdm_basis::{Bytes, OutOfMemory};
+use std::alloc::Global;
 use trace_text::{
     add_hex, add_number, add_requester, add_word, begin_with_requester, end_text_line,
 };
-use spdm_basis::{Bytes, OutOfMemory};
-use std::alloc::Global;
 
 // The first two words of a command.
 fn begin_command(q: u8, command: &[u8], text: &mut Bytes) -> Result<(), OutOfMemory>

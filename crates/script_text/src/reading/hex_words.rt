@@ -3,9 +3,9 @@ ghost use Rattle.std.specs.List.{list_all};
 ghost use Rattle.hex.specs.Hex.{is_hex_digit};
 ghost use Rattle.script_text.specs.HexWords.{is_none_word, is_pairs, is_hex_in, bytes_of, most_bytes};
 
-use trace_text::read_pairs;
 use spdm_basis::{Bytes, OutOfMemory, Psk};
 use std::alloc::Global;
+use trace_text::read_pairs;
 
 /// The greatest count of bytes that a word may be.
 pub const MOST_BYTES: usize = 8_000;

@@ -5,14 +5,14 @@ ghost use Rattle.script_text.specs.Tests.{IsAnswerTo};
 
 use crate::configuration::config_kind::{kind_of, take_config};
 use crate::configuration::config_text::TEXT_LIMIT;
-use crate::events::event::MOST_EVENTS;
-use crate::texts::faults::{LineError, LineFault, ScriptFault};
 use crate::configuration::given::Given;
+use crate::events::event::MOST_EVENTS;
 use crate::reading::hex_words::hex_bytes;
 use crate::reading::numbers::number;
+use crate::reading::words::{has_words, word};
+use crate::texts::faults::{LineError, LineFault, ScriptFault};
 use crate::texts::reader::{LineReader, read_text};
 use crate::texts::script::{Capture, Packets};
-use crate::reading::words::{has_words, word};
 use std::alloc::Global;
 
 /// What the lines of a capture said so far.

@@ -5,13 +5,13 @@ ghost use Rattle.script_text.specs.Tests.{IsAnswerTo};
 ghost use Rattle.script_text.specs.declared.texts.policy_text.RuleKind.TheVariants.{Expect, Skip};
 
 use crate::configuration::config_text::TEXT_LIMIT;
-use crate::texts::faults::{LineError, LineFault, ScriptFault};
 use crate::reading::hex_words::{MOST_BYTES, bytes_of, hex_len};
 use crate::reading::lines::{is_passed_over, is_too_long, next_line};
 use crate::reading::numbers::number;
+use crate::reading::words::{has_words, word};
+use crate::texts::faults::{LineError, LineFault, ScriptFault};
 use crate::texts::reader::told;
 use crate::texts::rule::{Rule, Rules};
-use crate::reading::words::{has_words, word};
 use std::alloc::Global;
 
 /// The kinds of lines of a policy.

@@ -6,8 +6,8 @@ ghost use Rattle.script_text.specs.declared.texts.faults.LineFault.{LineFault};
 ghost use Rattle.script_text.specs.declared.texts.faults.LineFault.TheVariants.{Incomplete};
 ghost use Rattle.script_text.specs.declared.texts.faults.LineError.TheVariants.{Fault, NoMemory};
 
-use crate::texts::faults::{LineError, LineFault, ScriptFault};
 use crate::reading::lines::{is_passed_over, is_too_long, next_line};
+use crate::texts::faults::{LineError, LineFault, ScriptFault};
 use std::alloc::Global;
 
 /// What takes the lines of a text one by one.

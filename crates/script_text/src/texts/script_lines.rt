@@ -6,13 +6,13 @@ ghost use Rattle.script_text.specs.declared.events.event_kind.EventKind.{EventKi
 
 use crate::configuration::config_kind::{kind_of, take_config};
 use crate::configuration::config_text::TEXT_LIMIT;
+use crate::configuration::given::Given;
 use crate::events::event::{Entry, Events, MOST_EVENTS};
 use crate::events::event_kind::{EventKind, event, event_kind};
+use crate::reading::words::word;
 use crate::texts::faults::{LineError, LineFault, ScriptFault};
-use crate::configuration::given::Given;
 use crate::texts::reader::{LineReader, read_text};
 use crate::texts::script::Script;
-use crate::reading::words::word;
 use std::alloc::Global;
 
 /// What the lines of a script said so far.

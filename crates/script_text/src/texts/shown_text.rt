@@ -4,11 +4,11 @@ ghost use Rattle.script_text.specs.ShownText.{shown_in, shown_as, shown_fault, a
 ghost use Rattle.script_text.specs.Tests.{IsAnswerTo};
 
 use crate::configuration::config_text::TEXT_LIMIT;
-use crate::texts::faults::{LineError, LineFault, ScriptFault};
 use crate::reading::hex_words::hex_bytes;
+use crate::reading::words::{has_words, word};
+use crate::texts::faults::{LineError, LineFault, ScriptFault};
 use crate::texts::reader::{LineReader, read_text};
 use crate::texts::shown::{Shown, ShownAs, ShownKind, ShownList};
-use crate::reading::words::{has_words, word};
 use spdm_basis::HashAlg;
 use std::alloc::Global;
 

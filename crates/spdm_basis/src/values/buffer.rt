@@ -77,4 +77,15 @@ impl<const N: usize> Buffer<N> {
     {
         self.items.try_extend_from_slice(more).map_err(|_| Full)
     }
+
+    /// Overwrites the bytes. `Full` comes exactly where the new ones do not fit, and leaves none.
+    pub fn replace(&mut self, bytes: &[u8]) -> Result<(), Full>
+        ensures ok { OnOk result (self.new ≡ bytes.now) }
+        ensures fits { OnOk result (length bytes.now ≤ N) }
+        ensures full { OnErr result (N < length bytes.now) }
+        ensures err { OnErr result (self.new ≡ []) }
+    {
+        self.clear();
+        self.extend(bytes)
+    }
 }

@@ -1,5 +1,0 @@
-use Rattle.check_fetched_laws.proofs.PendingShown.{pending_is_fetched}
-use Rattle.check_fetched_laws.proofs.laws.pending_is_fetched.Goals as goal
-
-pub returns : goal.returns
-returns c = pending_is_fetched

@@ -1,5 +1,0 @@
-use Rattle.check_late_laws.proofs.Reasons.{fetching_tells_apart}
-use Rattle.check_late_laws.proofs.laws.fetching_tells_apart.Goals as goal
-
-pub returns : goal.returns
-returns c = fetching_tells_apart
