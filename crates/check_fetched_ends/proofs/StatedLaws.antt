@@ -13,7 +13,7 @@ use Rattle.check_fetched_ends.proofs.SameChunks as in_same_chunks
 use Rattle.check_fetched_ends.proofs.SessionAsks as in_session_asks
 use Rattle.check_fetched_ends.proofs.VersionAsks as in_version_asks
 
--- What an answer makes of them is told from the responder's history before it and behind it.
+-- What an answer makes of them is determined by the responder's history before it and after it.
 pub answer_moves_marks : AnswerMovesMarks
 answer_moves_marks = law
 
@@ -25,17 +25,17 @@ refused_again = in_refused_again.refused_again
 pub none_large_again : NoneLargeAgain
 none_large_again = in_refused_again.none_large_again
 
--- The verify data of its last chunk are alone wrong exactly where its request may lead, in front, to bytes from
--- which those of the chunks are apart, and no mark is set of the session that they begin.
+-- The verify data of its last chunk are alone wrong exactly when its request may lead, in front, to bytes from which
+-- those of the chunks are apart, and no mark is set of the session that they begin.
 pub late_apart : LateApart
 late_apart = law
 
--- What stands of the request of a new LargeResponse stands of one that passed, in front of what came since.
+-- What stands of the request of a new LargeResponse stands of one that passed, before what came since.
 pub late_before : LateBefore
 late_before = law
 
--- What its last chunk shows of its request is told in front of what came since, and no mark is set of the session
--- that its whole answer begins.
+-- What its last chunk shows of its request is told before what came since, and no mark is set of the session that its
+-- whole answer begins.
 pub late_is_led : LateIsLed
 late_is_led = law
 
@@ -47,22 +47,22 @@ same_capabilities = in_same_chunks.same_capabilities
 pub same_common : SameCommon
 same_common = in_same_chunks.same_common
 
--- In the clear upon each answer that goes whole, but for VERSION.
+-- In the clear on each answer that goes whole, but for VERSION.
 pub clear_asks_on : ClearAsksOn
 clear_asks_on = in_clear_asks.clear_asks_on
 
--- Upon the answer to GET_VERSION it asks for none.
+-- On the answer to GET_VERSION it asks for none.
 pub version_asks_none : VersionAsksNone
 version_asks_none = in_version_asks.version_asks_none
 
--- Where it is fetched in a session, upon what comes in the clear.
+-- Where it is fetched in a session, on what comes in the clear.
 pub session_asks_on : SessionAsksOn
 session_asks_on = in_session_asks.session_asks_on
 
--- Where it is fetched on, or another one begins, and not where nothing is fetched behind the answer.
+-- Where it is fetched on, or another one begins, and not where nothing is fetched after the answer.
 pub answers_tell_asking : AnswersTellAsking
 answers_tell_asking = in_asks_told.answers_tell_asking
 
--- An answer that goes whole, upon which it asks for none, leaves the large one unseen.
+-- An answer that goes whole, in response to which it asks for none, leaves the large one unseen.
 pub plain_ends_fetching : PlainEndsFetching
 plain_ends_fetching = in_asks_told.plain_ends_fetching

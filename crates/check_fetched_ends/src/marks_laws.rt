@@ -1,5 +1,5 @@
-//! What packets make of the marks of touched sessions, and what leaves them, each law as the contract of a function
-//! that does nothing.
+//! What packets make of the marks of touched sessions, and what leaves them, each law stated as the contract of an
+//! empty function.
 
 ghost use Rattle.check_fetched_ends.specs.MarkedEnds.{AwaitingMarkedStay, OtherMarkedStay};
 
@@ -12,7 +12,7 @@ pub fn other_marked_stay()
     other_ends_stay();
 }
 
-/// A packet behind which more of a body is awaited leaves it.
+/// A packet after which more of a body is awaited leaves it.
 pub fn awaiting_marked_stay()
     ensures { AwaitingMarkedStay }
 {

@@ -47,7 +47,7 @@ repeat_goes_same = in_meanwhile_clear.repeat_goes_same in_clear_chunks.repeat_is
 pub repeat_may_go : RepeatMayGo
 repeat_may_go = in_none_turns.repeat_may_go
 
--- It begins no other large answer, and is no last chunk.
+-- It begins no other large response, and is no last chunk.
 pub repeat_begins_none : RepeatBeginsNone
 repeat_begins_none = in_meanwhile_clear.repeat_begins_none in_clear_chunks.repeat_is_same
 
@@ -55,7 +55,7 @@ repeat_begins_none = in_meanwhile_clear.repeat_begins_none in_clear_chunks.repea
 pub get_goes_on : GetGoesOn
 get_goes_on = in_meanwhile_clear.get_goes_on in_clear_chunks.next_is_given
 
--- It begins no other large answer.
+-- It begins no other large response.
 pub get_begins_none : GetBeginsNone
 get_begins_none = in_meanwhile_clear.get_begins_none in_clear_chunks.next_is_given
 
@@ -67,15 +67,15 @@ get_completes = in_meanwhile_clear.get_completes in_clear_chunks.next_is_given
 pub version_goes : VersionGoes
 version_goes = in_meanwhile_clear.version_goes in_version_given.version_is_given
 
--- It begins no other large answer, and is no last chunk.
+-- It begins no other large response, and is no last chunk.
 pub version_begins_none : VersionBeginsNone
 version_begins_none = in_meanwhile_clear.version_begins_none in_version_given.version_is_given
 
--- No answer to another request than GET_VERSION begins another large answer.
+-- No answer to another request than GET_VERSION begins another large response.
 pub none_turns_in_clear : NoneTurnsInClear
 none_turns_in_clear = in_none_turns.none_turns_in_clear
 
--- In a walk no large answer is pending in the clear, as the responder is kept.
+-- In a walk no large response is pending in the clear, as the responder is kept.
 pub none_pends_in_clear : NonePendsInClear
 none_pends_in_clear = in_rest_quiet.none_pends_in_clear
 
@@ -83,19 +83,19 @@ none_pends_in_clear = in_rest_quiet.none_pends_in_clear
 pub whole_has_led : WholeHasLed
 whole_has_led = in_whole_drops.whole_has_led
 
--- Whether an answer is the last chunk of these bytes is told from what both show.
+-- Whether an answer is the last chunk of these bytes is determined by what both show.
 pub last_is_shown : LastIsShown
 last_is_shown = in_last_shown.last_is_shown
 
--- An answer hangs on no more of the bytes of a large one than on those of its next chunk.
+-- An answer depends on no more of the bytes of a large one than on those of its next chunk.
 pub answers_are_alike : AnswersAreAlike
 answers_are_alike = in_answers_alike.answers_are_alike
 
--- A new LargeResponse hangs on none of them.
+-- A new LargeResponse depends on none of them.
 pub large_is_alike : LargeIsAlike
 large_is_alike = in_large_alike.large_is_alike
 
--- What an answer to a record holds hangs on none of them either.
+-- What an answer to a record holds depends on none of them either.
 pub text_is_alike : TextIsAlike
 text_is_alike = in_text_alike.text_is_alike
 
@@ -111,7 +111,7 @@ next_is_given = in_clear_chunks.next_is_given
 pub repeat_is_same : RepeatIsSame
 repeat_is_same = in_clear_chunks.repeat_is_same
 
--- The history behind LargeResponse is the one in which its answer was not seen, with that answer.
+-- The history after LargeResponse is the one in which its answer was not seen, with that answer.
 pub begins_judging : BeginsJudging
 begins_judging = in_begun_judged.begins_judging
 
@@ -143,7 +143,7 @@ one_handshake = in_handshakes.one_handshake
 pub sessions_are_left : SessionsAreLeft
 sessions_are_left = in_clear_left.sessions_are_left
 
--- A refused answer opens as it does without the large answer.
+-- A refused answer opens as it does without the large response.
 pub clear_why_is_before : ClearWhyIsBefore
 clear_why_is_before = in_clear_views.clear_why_is_before
 
@@ -155,7 +155,7 @@ views_are_left = in_clear_views.views_are_left
 pub keys_stand_on : KeysStandOn
 keys_stand_on = in_clear_views.keys_stand_on
 
--- Whether the verify data of the last chunk are alone wrong is told from what is shown.
+-- Whether the verify data of the last chunk are alone wrong is determined by what is shown.
 pub last_apart_is_shown : LastApartIsShown
 last_apart_is_shown = in_last_apart.last_apart_is_shown
 
@@ -179,14 +179,14 @@ version_is_given = in_version_given.version_is_given
 pub large_is_sized : LargeIsSized
 large_is_sized = in_large_sized.large_is_sized
 
--- GET_VERSION is no repeat while a large answer is fetched.
+-- GET_VERSION is no repeat while a large response is fetched.
 pub version_is_anew : VersionIsAnew
 version_is_anew = in_version_walks.version_is_anew
 
--- Behind it little counts of what was before.
+-- After it little counts of what was before.
 pub version_ends_all : VersionEndsAll
 version_ends_all = in_clear_stands.version_ends_all
 
--- A large answer that was not seen does not count.
+-- A large response that was not seen does not count.
 pub version_ends_fetch : VersionEndsFetch
 version_ends_fetch = in_clear_stands.version_ends_fetch

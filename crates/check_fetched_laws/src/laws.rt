@@ -1,5 +1,5 @@
-//! Which answers a responder may give while its large answer is fetched, each law as the contract of a
-//! function that does nothing.
+//! Which answers a responder may give while its large response is fetched, each law stated as the contract of an empty
+//! function.
 
 ghost use Rattle.check_fetched_laws.specs.AlikeAnswers.{ChunkIsShown};
 ghost use Rattle.check_fetched_laws.specs.WholeValues.{WholeIsShown};

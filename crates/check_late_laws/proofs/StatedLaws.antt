@@ -26,7 +26,7 @@ use Rattle.check_late_laws.proofs.Reasons as in_reasons
 use Rattle.check_late_laws.proofs.RepliedOn as in_replied_on
 use Rattle.check_late_laws.proofs.TurnsLaws as in_turns_laws
 
--- What is kept behind a request.
+-- What is kept after a request.
 pub fetching_asks : FetchingAsks
 fetching_asks = in_asked.fetching_asks
 
@@ -38,28 +38,28 @@ fetching_is_asked = in_asked.fetching_is_asked
 pub fetching_stays : FetchingStays
 fetching_stays = in_asked.fetching_stays
 
--- Why a packet is refused meanwhile hangs on no byte of the large answer.
+-- Why a packet is refused meanwhile depends on no byte of the large response.
 pub fetching_tells_why : FetchingTellsWhy
 fetching_tells_why = in_reasons.fetching_tells_why
 
--- Whether verify data are alone wrong meanwhile is told from what is kept, and, of those of an answer,
--- from the bytes that stand for the large one.
+-- Whether verify data are alone wrong meanwhile is determined by what is kept, and, of those of an answer, from the
+-- bytes that stand for the large one.
 pub fetching_tells_apart : FetchingTellsApart
 fetching_tells_apart = in_reasons.fetching_tells_apart
 
--- What is kept behind LargeResponse upon which the requester asks for a chunk.
+-- What is kept after LargeResponse in response to which the requester asks for a chunk.
 pub fetching_begins : FetchingBegins
 fetching_begins = in_begun_laws.fetching_begins
 
--- Where a large answer is fetched behind a packet, the packet begins it.
+-- Where a large response is fetched after a packet, the packet begins it.
 pub begun_is_fetching : BegunIsFetching
 begun_is_fetching = in_begun_laws.begun_is_fetching
 
--- Behind no packets both a large answer is fetched and none is, and no large request is under way meanwhile.
+-- After no packets both a large response is fetched and none is, and no large request is in progress meanwhile.
 pub fetching_is_alone : FetchingIsAlone
 fetching_is_alone = in_begun_laws.fetching_is_alone
 
--- What is kept behind an answer with which nothing is fetched any more.
+-- What is kept after an answer with which nothing is fetched any more.
 pub fetching_ends : FetchingEnds
 fetching_ends = in_begun_laws.fetching_ends
 
@@ -67,15 +67,15 @@ fetching_ends = in_begun_laws.fetching_ends
 pub fetching_is_replied : FetchingIsReplied
 fetching_is_replied = in_replied_on.fetching_is_replied
 
--- What is kept behind an answer with which the large answer is fetched on.
+-- What is kept after an answer with which the large response is fetched on.
 pub fetching_goes : FetchingGoes
 fetching_goes = in_goes_laws.fetching_goes
 
--- What is kept behind another LargeResponse.
+-- What is kept after another LargeResponse.
 pub fetching_turns : FetchingTurns
 fetching_turns = in_turns_laws.fetching_turns
 
--- An answer that goes whole may be given with each bytes that may stand behind it, or with none.
+-- An answer that goes whole may be given with each bytes that may stand after it, or with none.
 pub plain_is_of_all : PlainIsOfAll
 plain_is_of_all = in_plain_laws.plain_is_of_all
 
@@ -83,7 +83,7 @@ plain_is_of_all = in_plain_laws.plain_is_of_all
 pub large_is_of_all : LargeIsOfAll
 large_is_of_all = in_large_laws.large_is_of_all
 
--- Where a repeat gets LargeResponse again, only records, refused messages and drops came behind its request.
+-- Where a repeat gets LargeResponse again, only records, refused messages and drops came after its request.
 pub repeat_stands_back : RepeatStandsBack
 repeat_stands_back = in_behind.repeat_stands_back
 
@@ -103,7 +103,7 @@ untouched_stays = in_behind_sessions.untouched_stays
 pub none_begins_since : NoneBeginsSince
 none_begins_since = in_behind_sessions.none_begins_since
 
--- Behind PSK_EXCHANGE no session is in its handshake.
+-- After PSK_EXCHANGE no session is in its handshake.
 pub all_are_past : AllArePast
 all_are_past = in_behind_sessions.all_are_past
 
@@ -111,7 +111,7 @@ all_are_past = in_behind_sessions.all_are_past
 pub untouched_is_told : UntouchedIsTold
 untouched_is_told = in_behind_sessions.untouched_is_told
 
--- Behind the last chunk the request and the drops before it stay at their place.
+-- After the last chunk the request and the drops before it stay at their place.
 pub last_stays_back : LastStaysBack
 last_stays_back = in_behind_clear.last_stays_back
 
@@ -124,7 +124,7 @@ front_is_near = in_front_near.front_is_near
 pub near_goes_on : NearGoesOn
 near_goes_on = in_front_near.near_goes_on
 
--- Behind a message in the clear that was taken the kept message is the same too.
+-- After a message in the clear that was taken the kept message is the same too.
 pub near_is_kept : NearIsKept
 near_is_kept = in_front_near.near_is_kept
 
@@ -132,7 +132,7 @@ near_is_kept = in_front_near.near_is_kept
 pub ended_stays : EndedStays
 ended_stays = in_front_near.ended_stays
 
--- The request may have led to its large answer at its place exactly where it may lead to it now, as the newest one
+-- The request may have led to its large response at its place exactly when it may lead to it now, as the newest one
 -- under another tag, and the session that it begins was not touched since.
 pub last_is_in_front : LastIsInFront
 last_is_in_front = in_in_front.last_is_in_front
@@ -153,7 +153,7 @@ again_leaves_others = in_session_newest.again_leaves_others
 pub large_is_in_front : LargeIsInFront
 large_is_in_front = in_large_front.large_is_in_front
 
--- Whether a request led to LargeResponse hangs on the negotiation alone, where it is no repeat.
+-- Whether a request led to LargeResponse depends on the negotiation alone, where it is no repeat.
 pub led_elsewhere : LedElsewhere
 led_elsewhere = in_large_front.led_elsewhere
 

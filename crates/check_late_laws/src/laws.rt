@@ -1,12 +1,11 @@
-//! What goes on while a large answer is fetched by chunks, each law as the contract of a function that does
-//! nothing.
+//! What goes on while a large response is fetched in chunks, each law stated as the contract of an empty function.
 
 ghost use Rattle.check_late_laws.specs.FetchingRows.{FetchingShows};
 ghost use Rattle.check_late_laws.specs.FetchingShown.{ChunkIsShown, LastIsWhole};
 
 use check_laws::{one_changes_rows, rows_are_of_all};
 
-/// The rows behind a packet are those that it makes by what is kept, whether a large answer is fetched or not.
+/// The rows after a packet are those that it makes by what is kept, whether a large response is fetched or not.
 pub fn fetching_shows()
     ensures { FetchingShows }
 {

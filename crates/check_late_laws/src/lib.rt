@@ -1,10 +1,10 @@
-//! What a capture shows of a large answer, one that is fetched by chunks: what is kept of the two ends from
-//! its LargeResponse to its last chunk, what goes on from that, and why a packet is refused meanwhile; and
-//! the bytes as they come.
+//! What a capture shows of a large response, one that is fetched in chunks: what is kept of the two ends from its
+//! LargeResponse to its last chunk, what goes on from that, and why a packet is refused meanwhile; and the bytes as
+//! they come.
 //!
-//! Read first: `IsFetchingOf` in `specs/Fetching.antt`, of which walks that is kept. The call is
-//! `LargeAnswer::take`; the other functions have a law as their contract. `late_fetch` has what holds where the fetch
-//! begins late: `StandsBack` in `specs/Late/Passed.antt`, and its call, `Marks`.
+//! Read first: `IsFetchingOf` in `specs/Fetching.antt`, of which walks that is kept. The call is `LargeAnswer::take`;
+//! the other functions have a law as their contract. `late_fetch` has what holds where the fetch begins late:
+//! `StandsBack` in `specs/Late/Passed.antt`, and its call, `Marks`.
 #![tactic(auto)]
 
 mod large_answer;

@@ -74,7 +74,7 @@ kept_round_is_request = in_request_steps.kept_round_is_request
 pub kept_answer_changes : KeptAnswerChanges
 kept_answer_changes = in_answer_changes.kept_answer_changes
 
--- Each answer behind which no large one is fetched is a step by which a change is taken.
+-- Each answer after which no large one is fetched is a step by which a change is taken.
 pub kept_answer_is_step : KeptAnswerIsStep
 kept_answer_is_step = in_answer_steps.kept_answer_is_step
 
@@ -90,7 +90,7 @@ shown_have_places = in_places_shown.shown_have_places
 pub asks_show : AsksShow
 asks_show = in_rows_kept.asks_show
 
--- So does a packet for it, where no large answer is fetched then.
+-- So does a packet for it, where no large response is fetched then.
 pub replies_show : RepliesShow
 replies_show = in_rows_kept.replies_show
 
@@ -114,7 +114,7 @@ copy_changes = in_changes_made.copy_changes
 pub request_changes : RequestChanges
 request_changes = in_changes_made.request_changes
 
--- The round under way between two ends is a function of the packets: all walks over them have it.
+-- The round in progress between two ends is a function of the packets: all walks over them have it.
 pub one_round : OneRound
 one_round = in_ordering.one_round
 
@@ -126,11 +126,11 @@ order_refuses = in_reasons.order_refuses
 pub order_is_alone : OrderIsAlone
 order_is_alone = in_alone.order_is_alone
 
--- Behind packets that conform that is the reason.
+-- After packets that conform that is the reason.
 pub order_is_reason : OrderIsReason
 order_is_reason = in_alone.order_is_reason
 
--- A packet in order that brings a part of a body conforms behind packets that do.
+-- A packet in order that brings a part of a body conforms after packets that do.
 pub more_conforms : MoreConforms
 more_conforms = in_unfinished.more_conforms
 
@@ -138,13 +138,12 @@ more_conforms = in_unfinished.more_conforms
 pub order_tells : OrderTells
 order_tells = in_reasons.order_tells
 
--- A request that goes on from one walk goes on from each other one, where no large request is under
--- way, and it is no record that was owed.
+-- A request that goes on from one walk goes on from each other one, where no large request is in progress, and it is no
+-- record that was owed.
 pub asks_go_on : AsksGoOn
 asks_go_on = in_going_on.asks_go_on
 
--- An answer that goes on from one walk goes on from each other one, where no large answer is
--- fetched.
+-- An answer that goes on from one walk goes on from each other one, where no large response is fetched.
 pub replies_go_on : RepliesGoOn
 replies_go_on = in_going_on.replies_go_on
 
@@ -172,7 +171,7 @@ kept_begins = in_kept_answers.kept_begins
 pub kept_stays : KeptStays
 kept_stays = in_kept_answers.kept_stays
 
--- What a request makes of what is kept, is kept behind it.
+-- What a request makes of what is kept, is kept after it.
 pub kept_asks : KeptAsks
 kept_asks = in_kept_steps.kept_asks
 
@@ -204,7 +203,7 @@ large_are_shown = in_body_shown.large_are_shown
 pub plain_is_shown : PlainIsShown
 plain_is_shown = in_plain_shown.plain_is_shown
 
--- What an answer makes of what is kept, is kept behind it.
+-- What an answer makes of what is kept, is kept after it.
 pub kept_replies : KeptReplies
 kept_replies = in_kept_answers.kept_replies
 
@@ -212,28 +211,27 @@ kept_replies = in_kept_answers.kept_replies
 pub replies_are_kept : RepliesAreKept
 replies_are_kept = in_kept_answers.replies_are_kept
 
--- What is kept behind an answer that goes whole is a function of what it shows.
+-- What is kept after an answer that goes whole is a function of what it shows.
 pub replies_are_shown : RepliesAreShown
 replies_are_shown = in_replies_shown.replies_are_shown
 
--- Which answers begin a large answer is told from what they show.
+-- Which answers begin a large response is determined by what they show.
 pub large_is_shown : LargeIsShown
 large_is_shown = in_large_shown.large_is_shown
 
--- What is kept behind any answer, with no large answer fetched behind it, is a function of what it
--- shows.
+-- What is kept after any answer, with no large response fetched after it, is a function of what it shows.
 pub replies_are_told : RepliesAreTold
 replies_are_told = in_replies_told.replies_are_told
 
--- Whether the verify data of an answer are alone wrong is told from what it shows.
+-- Whether the verify data of an answer are alone wrong is determined by what it shows.
 pub apart_is_shown : ApartIsShown
 apart_is_shown = in_apart_shown.apart_is_shown
 
--- The reason of a refused packet is told from what is kept, but for wrong verify data.
+-- The reason of a refused packet is determined by what is kept, but for wrong verify data.
 pub kept_tells_why : KeptTellsWhy
 kept_tells_why = in_refused.kept_tells_why
 
--- That verify data are alone wrong is told from what is kept.
+-- That verify data are alone wrong is determined by what is kept.
 pub kept_tells_apart : KeptTellsApart
 kept_tells_apart = in_refused.kept_tells_apart
 
@@ -241,11 +239,11 @@ kept_tells_apart = in_refused.kept_tells_apart
 pub kept_tells_reason : KeptTellsReason
 kept_tells_reason = in_kept_reasons.kept_tells_reason
 
--- Why a request is refused hangs on its requester alone.
+-- Why a request is refused depends on its requester alone.
 pub asked_reason_is_each : AskedReasonIsEach
 asked_reason_is_each = in_reasons_each.asked_reason_is_each
 
--- Why an answer is refused hangs on the requester that it is for alone.
+-- Why an answer is refused depends on the requester that it is for alone.
 pub answered_reason_is_each : AnsweredReasonIsEach
 answered_reason_is_each = in_reasons_each.answered_reason_is_each
 
@@ -265,19 +263,19 @@ table_begins = in_all_rows.table_begins
 pub table_is_shown : TableIsShown
 table_is_shown = in_all_rows.table_is_shown
 
--- What is kept behind the first chunk of a large request.
+-- What is kept after the first chunk of a large request.
 pub sending_begins : SendingBegins
 sending_begins = in_begun.sending_begins
 
--- Where a large request is under way behind a packet, the packet begins one.
+-- Where a large request is in progress after a packet, the packet begins one.
 pub begun_is_sending : BegunIsSending
 begun_is_sending = in_begun.begun_is_sending
 
--- What is kept behind a copy, and behind a chunk that is not the last one.
+-- What is kept after a copy, and after a chunk that is not the last one.
 pub sending_asks : SendingAsks
 sending_asks = in_asked_on.sending_asks
 
--- What is kept behind the last chunk, and behind GET_VERSION.
+-- What is kept after the last chunk, and after GET_VERSION.
 pub sending_ends : SendingEnds
 sending_ends = in_asked.sending_ends
 
@@ -285,7 +283,7 @@ sending_ends = in_asked.sending_ends
 pub sending_is_asked : SendingIsAsked
 sending_is_asked = in_asked_on.sending_is_asked
 
--- What is kept behind an answer.
+-- What is kept after an answer.
 pub sending_replies : SendingReplies
 sending_replies = in_replied.sending_replies
 
@@ -297,12 +295,12 @@ sending_is_replied = in_replied.sending_is_replied
 pub sending_stays : SendingStays
 sending_stays = in_replied.sending_stays
 
--- Why a packet is refused meanwhile hangs on no byte of the large request.
+-- Why a packet is refused meanwhile depends on no byte of the large request.
 pub sending_tells_why : SendingTellsWhy
 sending_tells_why = in_sending_reasons.sending_tells_why
 
--- No verify data of a request are alone wrong meanwhile, and those of an answer are where they are
--- without the large request.
+-- No verify data of a request are alone wrong meanwhile, and those of an answer are where they are without the large
+-- request.
 pub sending_tells_apart : SendingTellsApart
 sending_tells_apart = in_sending_reasons.sending_tells_apart
 
@@ -310,7 +308,7 @@ sending_tells_apart = in_sending_reasons.sending_tells_apart
 pub first_is_shown : FirstIsShown
 first_is_shown = in_pieces_shown.first_is_shown
 
--- Each chunk behind it is told by its bytes.
+-- Each chunk after it is told by its bytes.
 pub piece_is_shown : PieceIsShown
 piece_is_shown = in_pieces_shown.piece_is_shown
 
@@ -326,7 +324,7 @@ owed_may_begin = in_meanwhile.owed_may_begin
 pub sending_connects : SendingConnects
 sending_connects = in_meanwhile.sending_connects
 
--- Behind no packets both a large request is under way and none is.
+-- After no packets both a large request is in progress and none is.
 pub sending_is_alone : SendingIsAlone
 sending_is_alone = in_meanwhile.sending_is_alone
 
@@ -334,6 +332,6 @@ sending_is_alone = in_meanwhile.sending_is_alone
 pub sending_asks_chunk : SendingAsksChunk
 sending_asks_chunk = in_chunk_rounds.sending_asks_chunk
 
--- Such a chunk begins no large answer, and ends none.
+-- Such a chunk begins no large response, and ends none.
 pub chunks_lead_plainly : ChunksLeadPlainly
 chunks_lead_plainly = in_chunk_answers.chunks_lead_plainly

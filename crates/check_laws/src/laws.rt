@@ -1,5 +1,4 @@
-//! What the packets of a capture fix of all walks over them, each law as the contract of a function
-//! that does nothing.
+//! What the packets of a capture fix of all walks over them, each law stated as the contract of an empty function.
 
 ghost use Rattle.check_laws.specs.Keeping.{KeptIsRestored};
 ghost use Rattle.check_laws.specs.Laws.{SealedTells};

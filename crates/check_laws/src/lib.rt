@@ -1,9 +1,9 @@
-//! What a capture shows: the order of its packets, the table of its sessions, and the laws by which what
-//! is kept of one requester and the responder tells what goes on from it, and why a packet is refused.
+//! What a capture shows: the order of its packets, the table of its sessions, and the laws by which what is kept of one
+//! requester and the responder tells what goes on from it, and why a packet is refused.
 //!
-//! Read first: `IsVerdict` in `specs/Verdict.antt`, what the verdict on a capture is. The calls are
-//! those of `Round` and `SessionTable`; the law that joins walks to what is kept is `kept_is_restored`. `sending_large` has what a capture
-//! shows of a large request, which is sent by chunks: `IsSendingOf` in `specs/Large/Sending.antt`.
+//! Read first: `IsVerdict` in `specs/Verdict.antt`, what the verdict on a capture is. The calls are those of `Round`
+//! and `SessionTable`; the law that joins walks to what is kept is `kept_is_restored`. `sending_large` has what a
+//! capture shows of a large request, which is sent in chunks: `IsSendingOf` in `specs/Large/Sending.antt`.
 #![tactic(auto)]
 
 mod bodies;

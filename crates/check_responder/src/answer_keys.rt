@@ -23,8 +23,8 @@ use spdm_basis::RecordFrame;
 use spdm_grammar::names::MAX_RECORDS;
 use spdm_grammar::names::message_type::SPDM;
 
-/// The keys of answers that were given, under which a refused answer may still open: to the last
-/// record of each session, and to the last END_SESSION. They lie in place.
+/// The keys of answers that were given, under which a refused answer may still open: to the last record of each
+/// session, and to the last END_SESSION. Fixed size; never allocates.
 #[derive(Drop)]
 pub struct AnswerKeys {
     // By the RspSessionIDs from 1 to 4.
@@ -41,7 +41,7 @@ pub(crate) fn opens_by(key: &AnswerKey, sealed: &[u8], room: &mut RecordFrame) -
     key.open(sealed, room).is_ok()
 }
 
-// The session id in front of a record.
+// The session id before a record.
 fn first_bytes(sealed: &[u8]) -> &[u8]
     ensures { result.now ≡ take 4 sealed.now }
 {
@@ -70,9 +70,8 @@ fn opens_next(connection: &Connection, named: &[u8], sealed: &[u8], room: &mut R
     }
 }
 
-// The key of the answer to a record that comes next, had before that is handed in; its inner message is
-// written in place of what `inner` holds. None where the record is not taken. Fewer than 2^64 - 1 messages
-// came.
+// The key of the answer to a record that comes next, had before that is handed in; its inner message is written in
+// place of what `inner` holds. None where the record is not taken. Fewer than 2^64 - 1 messages came.
 fn taken_key(connection: &Connection, request: &[u8], inner: &mut RecordFrame) -> Option<AnswerKey>
     ensures key { (r : RspSetup) (h : History) → connected.StandsFor connection.now r h
         → messages_of h < 2 ^ 64 - 1 → IsComingKey r h (record_body request.now) result }
@@ -89,8 +88,8 @@ fn taken_key(connection: &Connection, request: &[u8], inner: &mut RecordFrame) -
     connection.answer_key(request, inner)
 }
 
-/// The key of the answer to a body that comes next, had before that is handed in: none where it is no
-/// record that is taken. Fewer than 2^64 - 1 messages came.
+/// The key of the answer to a body that comes next, had before that is handed in: none where it is no record that is
+/// taken. Fewer than 2^64 - 1 messages came.
 pub fn coming_key(connection: &Connection, body: &[u8], room: &mut RecordFrame) -> Option<AnswerKey>
     ensures { (r : RspSetup) (h : History) → connected.StandsFor connection.now r h
         → messages_of h < 2 ^ 64 - 1 → IsComingKey r h body.now result }
@@ -158,8 +157,8 @@ impl AnswerKeys {
         self.last[usize::from(id) - 1].as_ref()
     }
 
-    // Whether a record opens as the answer to the last one that the session with this RspSessionID
-    // took, which took one.
+    // Whether a record opens as the answer to the last one that the session with this RspSessionID took, which took
+    // one.
     fn opens_again(&self, id: u16, sealed: &[u8], room: &mut RecordFrame) -> bool
         ensures { (r : RspSetup) (s : Events) → IsLastKey r s (last_key self.now id)
             → is_some (last_of s) ≡ true → result ≡ opens_again r s sealed.now }
@@ -232,10 +231,9 @@ impl AnswerKeys {
         }
     }
 
-    /// Whether a record that is no right answer to a body, a clear one or another record, opens at least;
-    /// this is had of the body. Where that is a record that is taken, and has the same session id, the key of
-    /// its answer tells, and is not asked. What `room` holds before and after does not matter. Fewer than
-    /// 2^64 - 1 messages came.
+    /// Whether a record that is no right answer to a body, a clear one or another record, opens at least; this is had
+    /// of the body. Where that is a record that is taken, and has the same session id, the key of its answer tells, and
+    /// is not asked. What `room` holds before and after does not matter. Fewer than 2^64 - 1 messages came.
     pub fn opens(
         &self,
         connection: &Connection,
@@ -272,8 +270,8 @@ impl AnswerKeys {
         }
     }
 
-    /// A body was handed to the connection, with the key of the answer to it, and sessions may have
-    /// been dropped before: what is kept is that of the history behind it.
+    /// A body was handed to the connection, with the key of the answer to it, and sessions may have been dropped
+    /// before: what is kept is that of the history after it.
     pub fn follow(&mut self, connection: &Connection, body: &[u8], key: Option<AnswerKey>)
         ensures { (r : RspSetup) (h : History) (ids : List ℕ) (tag : ℕ) (f : Free) (d : Draw)
             → StandFor self.old r h → IsComingKey r h body.now key

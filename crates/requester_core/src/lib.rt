@@ -1,9 +1,9 @@
-//! A requester (DSP0274, section 10) with every free value handed in: the clear part, which holds
-//! how far the negotiation has come, what was settled, and what is outstanding; its sessions by
-//! ReqSessionID; and the requester of both.
+//! A requester (DSP0274, section 10) with every free value handed in: the clear part, which holds how far the
+//! negotiation has come, what was settled, and what is outstanding; its sessions by ReqSessionID; and the requester of
+//! both.
 //!
-//! Read first: `StandsFor` in `specs/Talk.antt`, which history the clear part stands for. The call
-//! to begin with is `Asking::command`.
+//! Read first: `StandsFor` in `specs/Talk.antt`, which history the clear part stands for. The call to begin with is
+//! `Asking::command`.
 #![tactic(auto)]
 
 mod body;

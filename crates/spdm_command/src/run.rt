@@ -24,14 +24,13 @@ use link_world::World;
 use spdm_basis::{InFault, Seeds, Sink, Source};
 use std::alloc::Global;
 
-/// The command `spdm` with these words. The word `run` reads a script, runs its requesters and its
-/// responder over its link, writes their trace, and leaves their world in `left`. The word `show` reads
-/// messages, one a line, and writes their names and lengths. The words `gen SEED COUNT` run the generated
-/// script of a seed below 2^64 and a count of 1 to 20,000 events without its trace, write one line that tells
-/// what it came to, and leave its world. None of these takes a seed of `seeds`. The word `serve` reads a
-/// configuration up to `end`, takes one seed, and answers the frames of the stream behind as the responder that is
-/// configured. The word `drive` does the same with the first requester that is configured, whose commands come as
-/// frames too. The word `check` reads a capture, and writes whether its ends could have made it.
+/// The command `spdm` with these arguments. `run` reads a script, runs its requesters and its responder over its link,
+/// writes their trace, and leaves the final world in `left`. `show` reads messages, one per line, and writes their
+/// names and lengths. `gen SEED COUNT` runs the script generated from a seed below 2^64 and a count of 1 to 20,000
+/// events without its trace, writes a summary line, and leaves the final world. None of these uses `seeds`. `serve`
+/// reads a configuration up to `end`, takes one seed, and answers the frames that follow as the configured responder.
+/// `drive` does the same with the first configured requester, whose commands are frames too. `check` reads a capture,
+/// and writes whether its endpoints could have produced it.
 #[tactic(auto, using(crate::proofs::TopCall::read_is, script_laws::proofs::RefusedRight::refuses))]
 pub fn spdm<S: Source, K: Sink, E: Seeds>(
     alloc: Global,
@@ -78,8 +77,8 @@ pub fn spdm<S: Source, K: Sink, E: Seeds>(
     ensures no_seed { answers_stream (call_of words.now) ≡ false
         → seeds.new ≡ seeds.old }
 
-    // The word `serve`: all whole frames of the stream are answered, in order, by the responder of the
-    // configuration with the one seed that was taken; with each other answer what was written tells how far.
+    // The word `serve`: all whole frames of the stream are answered, in order, by the responder of the configuration
+    // with the one seed that was taken; with each other answer what was written tells how far.
     ensures served { call_of words.now ≡ Some Serve → IsServed
         (outside (S.remaining source.old) (K.contents sink.old) (E.left seeds.old)
         (S.faults source.old) (K.faults sink.old) (E.faults seeds.old))
@@ -105,8 +104,8 @@ pub fn spdm<S: Source, K: Sink, E: Seeds>(
         → IsQuiet (E.faults seeds.old) (E.faults seeds.new)
         → (result ≡ Outcome.OutOfMemory) ⊎ (result ≡ outcome_of (answer_for end)) }
 
-    // The word `check`: the verdict on the capture that the source has is told, and its lines are written; or why
-    // there is none.
+    // The word `check`: the verdict on the capture that the source has is told, and its lines are written; or why there
+    // is none.
     ensures checked { call_of words.now ≡ Some Check → (text : List ℕ)
         → S.remaining source.old ≡ Some text
         → IsChecked text (K.contents sink.old) (K.contents sink.new) result }
@@ -134,8 +133,8 @@ pub fn spdm<S: Source, K: Sink, E: Seeds>(
     ensures of_streams_alone { is_of_streams result ≡ true
         → answers_stream (call_of words.now) ≡ true }
 
-    // The headline, of each script that the source has: after each beginning of its events, without chance up
-    // to there; and at each of its events.
+    // The headline, of each script that the source has: after each beginning of its events, without chance up to there;
+    // and at each of its events.
     ensures agreement { (text : List ℕ) → S.remaining source.old ≡ Some text
         → AgreesIn text × ShowsAlikeIn text }
     ensures data_prefix { (text : List ℕ) → S.remaining source.old ≡ Some text → DeliversIn text }

@@ -1,5 +1,4 @@
-//! What goes on while a large request is sent by chunks, each law as the contract of a function that does
-//! nothing.
+//! What goes on while a large request is sent in chunks, each law stated as the contract of an empty function.
 
 ghost use Rattle.check_laws.specs.Large.SendingShown.{LastIsWhole, WholeIsShown};
 
@@ -8,7 +7,7 @@ pub fn last_is_whole()
     ensures { LastIsWhole }
 {}
 
-/// Whole bytes are told by the request that they spell, and by the values that this shows.
+/// Whole bytes are told by the request that they encode, and by the values that this shows.
 pub fn whole_is_shown()
     ensures { WholeIsShown }
 {}

@@ -78,7 +78,7 @@ impl<const N: usize> Buffer<N> {
         self.items.try_extend_from_slice(more).map_err(|_| Full)
     }
 
-    /// Overwrites the bytes. `Full` comes exactly where the new ones do not fit, and leaves none.
+    /// Overwrites the bytes. `Full` comes exactly when the new ones do not fit, and leaves none.
     pub fn replace(&mut self, bytes: &[u8]) -> Result<(), Full>
         ensures ok { OnOk result (self.new ≡ bytes.now) }
         ensures fits { OnOk result (length bytes.now ≤ N) }
