@@ -1,4 +1,4 @@
-ghost use Rattle.std.specs.Prelude.{◌≡◌, ◌==◌, ℕ, List, Some, true, false, drop, slice_index};
+ghost use Rattle.std.specs.Prelude.{◌≡◌, ◌==◌, ℕ, List, Some, true, false, drop, slice_index, if◌then◌else◌};
 ghost use Rattle.check_laws.specs.KeptChanges.{is_kept_record};
 ghost use Rattle.check_laws.specs.Walks.{Walks};
 ghost use Rattle.responder_core.specs.Connected as connected;

@@ -1,4 +1,4 @@
-ghost use Rattle.std.specs.Prelude.{◌≡◌, ◌==◌, ◌&&◌, ◌||◌, ℕ, false};
+ghost use Rattle.std.specs.Prelude.{◌≡◌, ◌==◌, ◌&&◌, ◌||◌, ℕ, false, if◌then◌else◌};
 ghost use Rattle.check_late_laws.specs.Late.Marking.{StandsFor};
 ghost use Rattle.check_late_laws.specs.Late.Passed.{touched};
 ghost use Rattle.responder_machine.specs.History.{History};

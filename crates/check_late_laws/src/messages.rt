@@ -1,4 +1,4 @@
-ghost use Rattle.std.specs.Prelude.{◌≡◌, drop, slice_index, Some};
+ghost use Rattle.std.specs.Prelude.{◌≡◌, drop, slice_index, Some, if◌then◌else◌};
 ghost use Rattle.check_late_laws.specs.Fetching.{size_in};
 
 // A byte of a message, and 0 after its end.

@@ -32,7 +32,7 @@ pub struct Round {
 }
 
 impl Model for Round {
-    ghost use Rattle.std.specs.Prelude.{Option, Some, None};
+    ghost use Rattle.std.specs.Prelude.{Option, Some, None, if◌then◌else◌};
     ghost use Rattle.capture_machine.specs.Rounds as rounds;
 
     ghost Value = { Option rounds.Round };

@@ -1,4 +1,4 @@
-ghost use Rattle.std.specs.Prelude.{◌≡◌, ◌≤◌, ◌<◌, ◌-◌, ◌^◌, ◌==◌, ℕ, List, None, IfOk, OnErr, length, slice_index};
+ghost use Rattle.std.specs.Prelude.{◌≡◌, ◌≤◌, ◌<◌, ◌-◌, ◌^◌, ◌==◌, ℕ, List, None, IfOk, OnErr, length, slice_index, if◌then◌else◌};
 ghost use Rattle.check_ends.specs.Party.{IsParty};
 ghost use Rattle.check_laws.specs.Keeping.{Keeps, Kept};
 ghost use Rattle.check_laws.specs.Order.{answered_why};
