@@ -25,11 +25,11 @@ class Counted:
             command = ["valgrind", "--tool=callgrind", f"--callgrind-out-file={out.name}", program, *words]
             done = subprocess.run(command, **given, capture_output=True, check=False)
             if done.returncode:
-                said = done.stderr.decode(errors="replace").strip().splitlines()[-1:]
-                raise NotCounted(f"{words} ended under valgrind with status {done.returncode}: {said}")
+                said = [it for it in done.stderr.decode(errors="replace").splitlines() if not it.startswith("==")]
+                raise NotCounted(f"{' '.join(words)} ended under valgrind with status {done.returncode}: {' '.join(said)}")
             self.all, self.blocks = self.read(out.name)
         if not self.all:
-            raise NotCounted(f"callgrind counted no instruction of {words}")
+            raise NotCounted(f"callgrind counted no instruction of {' '.join(words)}")
 
     @staticmethod
     def read(path):
