@@ -8,19 +8,19 @@ use Rattle.check_responder.specs.Answerer.{IsAnswerer, history_shown}
 use Rattle.check_responder.specs.RecordAnswers.{IsGivenTo, history_behind, whole_if}
 use Rattle.check_responder.specs.declared.given.Given.{Given}
 
-pub returns-then-kind-eq-CLEAR-clause-told : goal.returns-then-kind-eq-CLEAR-clause-told
-returns-then-kind-eq-CLEAR-clause-told c = λ r h tag set stands few coming.
+pub returns-then-kind-eq-SPDM-clause-told : goal.returns-then-kind-eq-SPDM-clause-told
+returns-then-kind-eq-SPDM-clause-told c = λ r h tag set stands few coming.
     let request : List ℕ = c.args.request.now in
     let reply : List ℕ = c.behind_type.result.now in
-    let typed = clear_typed c.args.answer.now (sym c.byte_at-kind.ensures ∙ c.if-kind-eq-CLEAR.true) ∙ ap clear_body (sym c.behind_type.ensures) in
+    let typed = clear_typed c.args.answer.now (sym c.byte_at-kind.ensures ∙ c.if-kind-eq-SPDM.true) ∙ ap clear_body (sym c.behind_type.ensures) in
     subst (λ (o : Option Given). IsGivenTo r h tag (record_body request) c.args.answer.now o) (sym c.whole_if.ensures)
     (subst (λ (l : List ℕ). IsGivenTo r h tag (record_body request) l (whole_if c.answers_closed-closed.result)) (sym typed)
     (whole_clear r h tag request reply c.answers_closed-closed.result (c.answers_closed-closed.ensures.told r h tag set stands few)))
 
-pub returns-then-kind-eq-CLEAR-clause-stands : goal.returns-then-kind-eq-CLEAR-clause-stands
-returns-then-kind-eq-CLEAR-clause-stands c = λ r h tag set stands few coming.
+pub returns-then-kind-eq-SPDM-clause-stands : goal.returns-then-kind-eq-SPDM-clause-stands
+returns-then-kind-eq-SPDM-clause-stands c = λ r h tag set stands few coming.
     let request : List ℕ = c.args.request.now in
-    let typed = clear_typed c.args.answer.now (sym c.byte_at-kind.ensures ∙ c.if-kind-eq-CLEAR.true) ∙ ap clear_body (sym c.behind_type.ensures) in
+    let typed = clear_typed c.args.answer.now (sym c.byte_at-kind.ensures ∙ c.if-kind-eq-SPDM.true) ∙ ap clear_body (sym c.behind_type.ensures) in
     let K : Given → Type 0 = λ x. IsAnswerer c.answers_closed-closed.new.self r (history_behind r h tag (record_body request) c.args.answer.now x) in
     subst (λ (o : Option Given). IfSome o K) (sym c.whole_if.ensures)
     (kept_whole K c.answers_closed-closed.result
@@ -38,4 +38,4 @@ returns-then-kind-eq-SECURED-clause-stands c = λ r h tag set stands few coming.
 
 pub returns-clause-told : goal.returns-clause-told
 returns-clause-told c = λ r h tag set stands few coming.
-    other_given r h tag c.args.request.now c.args.answer.now (λ is. c.if-kind-eq-CLEAR.false (c.byte_at-kind.ensures ∙ is)) (λ is. c.if-kind-eq-SECURED.false (c.byte_at-kind.ensures ∙ is))
+    other_given r h tag c.args.request.now c.args.answer.now (λ is. c.if-kind-eq-SPDM.false (c.byte_at-kind.ensures ∙ is)) (λ is. c.if-kind-eq-SECURED.false (c.byte_at-kind.ensures ∙ is))
