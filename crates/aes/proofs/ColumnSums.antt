@@ -19,7 +19,7 @@ tested p e x h =
     ∙ ap (λ (t : List Bool). get_or t x true) e
     ∙ get_or-map-range_with_len (λ (x : ℕ). true) 0 256 x x true h (omega arith)
 
-doubled-lt : (x : ℕ) → x < 256 → times 2 x < 256
+pub doubled-lt : (x : ℕ) → x < 256 → times 2 x < 256
 unfolding product_below reduced
 doubled-lt x h = ltb-true (times 2 x) 256 (tested (λ (x : ℕ). nat_lt (times 2 x) 256) refl x h)
 

@@ -86,7 +86,7 @@ byte_below y i k e =
 four_equal : (a b c d e f g h : ℕ) → a ≡ e → b ≡ f → c ≡ g → d ≡ h → a ∷ b ∷ c ∷ d ∷ [] ≡ e ∷ f ∷ g ∷ h ∷ []
 four_equal a b c d e f g h p q r s = rw (p, q, r, s) refl
 
-big_bytes-low : (y : ℕ) → big_bytes 4 (y % 2 ^ 32) ≡ big_bytes 4 y
+pub big_bytes-low : (y : ℕ) → big_bytes 4 (y % 2 ^ 32) ≡ big_bytes 4 y
 big_bytes-low y =
     four_equal (y % 2 ^ 32 / 2 ^ 24 % 2 ^ 8) (y % 2 ^ 32 / 2 ^ 16 % 2 ^ 8) (y % 2 ^ 32 / 2 ^ 8 % 2 ^ 8) (y % 2 ^ 32 % 2 ^ 8)
     (y / 2 ^ 24 % 2 ^ 8) (y / 2 ^ 16 % 2 ^ 8) (y / 2 ^ 8 % 2 ^ 8) (y % 2 ^ 8)

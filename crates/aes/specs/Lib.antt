@@ -4,3 +4,5 @@ pub mod Tables
 pub mod Schedule
 pub mod Words
 pub mod Begun
+pub mod Slices
+pub mod SlicedKeys

@@ -30,7 +30,7 @@ impl Model for Aes {
 }
 
 impl Aes {
-    ghost use Rattle.std.specs.Prelude.{◌≡◌, ◌⊎◌, ◌+◌, ◌*◌, ◌/◌, ◌^◌, ℕ, List, length};
+    ghost use Rattle.std.specs.Prelude.{◌≡◌, ◌<◌, ◌⊎◌, ◌+◌, ◌*◌, ◌/◌, ◌^◌, ℕ, List, length, slice_index};
     ghost use Rattle.aes.specs.Cipher.{cipher, rounds, round_keys};
     ghost use Rattle.aes.specs.Words.{block_bytes, bytes_of};
     ghost use Rattle.aes.specs.Begun.{IsBegun};
@@ -81,6 +81,19 @@ impl Aes {
         let keys = self.keys.as_slice();
         let start = Columns::of(block).add(&keys[0]);
         self.finish(&start.round(&keys[1]).round(&keys[2]))
+    }
+
+    /// The four blocks that four blocks are enciphered to, each as `encrypt_number` does.
+    pub fn encrypt_four(&self, blocks: &[u128; 4]) -> [u128; 4]
+        ensures { (b : ℕ) → b < 4 → block_bytes (slice_index result b)
+            ≡ cipher self.now (block_bytes (slice_index blocks.now b)) }
+    {
+        [
+            self.encrypt_number(blocks[0]),
+            self.encrypt_number(blocks[1]),
+            self.encrypt_number(blocks[2]),
+            self.encrypt_number(blocks[3]),
+        ]
     }
 
     /// What can be enciphered of a block without its last byte, for many blocks that have the other 15 bytes.

@@ -3,3 +3,7 @@ pub mod Sums
 pub mod Moves
 pub mod Sides
 pub mod Parts
+pub mod Carries
+pub mod Fourths
+pub mod Words
+pub mod Blocks

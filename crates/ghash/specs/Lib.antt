@@ -1,3 +1,4 @@
+pub mod CarryLess
 pub mod Field
 pub mod Hash
 pub mod Windows
