@@ -68,7 +68,7 @@ form_same r s u m a is =
     tests asked allows = cc
 
 -- The tests of contents, by the request and the answer.
-abbrev tests_with : RspSetup → Place → List ℕ → Option RequestMessage → List ℕ → List (Bool × ErrorCode)
+abbrev pub tests_with : RspSetup → Place → List ℕ → Option RequestMessage → List ℕ → List (Bool × ErrorCode)
 tests_with r p m q answer =
     (lacks_flag (place_terms p) (code_of m), UnsupportedRequest)
     ∷ (are_caps_refused r q, InvalidRequest)

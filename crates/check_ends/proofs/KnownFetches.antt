@@ -43,7 +43,7 @@ tells_none q h command body after tells =
 
 -- ---- What is asked a chunk of is under way.
 
-abbrev IsKnown : Dialogue → Type 0
+abbrev pub IsKnown : Dialogue → Type 0
 IsKnown d = is_fetching (outstanding d.requester) ≡ true → is_some d.fetching ≡ true
 
 pub piece_known : (x : Sent) (h : History) → is_for_chunk x.aim ≡ false → is_fetching (outstanding (with_next (Some x) h)) ≡ true → is_fetching (outstanding h) ≡ true

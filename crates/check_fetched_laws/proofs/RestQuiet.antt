@@ -33,7 +33,7 @@ use Rattle.transcript.specs.Transcripts.{Negotiation}
 use Rattle.capture_machine.proofs.ChunksGiven.{given_idle, large_idle, large_other}
 use Rattle.capture_machine.proofs.DropsTell.{clear_form, turns_stay}
 use Rattle.capture_machine.proofs.GetTells.{IsIdle, turn_idle}
-use Rattle.capture_machine.proofs.PlacesServed.{named_session}
+use Rattle.capture_machine.proofs.PlacesServed.{get_settles, idle_settles, named_session}
 use Rattle.capture_machine.proofs.PlainTells.{led_clear, led_record}
 use Rattle.capture_machine.proofs.RecordAdds.{record_added}
 use Rattle.capture_machine.proofs.UnseenStands.{with_idle}
@@ -42,7 +42,7 @@ use Rattle.capture_machine.specs.CapturedAnswers.{Answers, MayLeadTo, is_plain}
 use Rattle.capture_machine.specs.LargeAnswers.{dropped_before_large, effect_with, gives_last, is_large, is_unseen_in, judging, place_named, seen, turn_with, unseen, with_large}
 use Rattle.capture_machine.specs.Rounds.{Dialogue, Round, no_draw}
 use Rattle.world_machine.specs.Setup.{Configuration, known_of}
-use Rattle.check_late_laws.proofs.Late.SessionsQuiet.{none_handled}
+use Rattle.check_late_laws.proofs.Late.SessionsQuiet.{more_given, none_handled, not_large}
 use Rattle.capture_machine.proofs.PlacesServed.{inside_pending}
 
 -- ---- The turns of the clear part.

@@ -35,6 +35,7 @@ use Rattle.check_fetched_laws.proofs.ClearTurns.{misformed_same, turn_at, unread
 use Rattle.check_fetched_laws.proofs.GetAlike.{PlacesAlike, form_same, long_same, other_code, plain_same, refused_alike, refused_same, turns_same}
 use Rattle.check_fetched_laws.proofs.TurnsBoth.{given_both, handle_both, session_both}
 use Rattle.capture_machine.proofs.EventsAlike.{EventsAlike, answer_alike, exchange_alike, negotiation_alike, stage_alike}
+use Rattle.capture_machine.proofs.FetchedRecords.{tests_with}
 
 -- Two such sessions are places that are alike.
 pub session_places : (s u : Events) → EventsAlike s u → has_pending (session_place s) ≡ has_pending (session_place u) → PlacesAlike (session_place s) (session_place u)
