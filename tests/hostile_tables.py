@@ -4,9 +4,9 @@ The program is the Python package `spdm_reference`, which is no part of this rep
 
     python3 tests/hostile_tables.py
 
-writes the tables of crates/cut_vectors anew, which `rt fmt` then lays out: each message of a day
-(crates/spdm_cases/data/scripts/a_users_day.script) but CHUNK_SEND_ACK, whose end is free, each record of it with its key and
-number, and messages of which a length is wrong, with the fault of each. The cases of hostile messages are in
+writes anew what stands in crates/spdm_vectors/stdin below the comments that name it, and in the same lines of stdout: each
+message of a day (crates/spdm_cases/data/scripts/a_users_day.script) but CHUNK_SEND_ACK, whose end is free, each record of it
+with its key, and messages of which a length is wrong, with the fault of each. The cases of hostile messages are in
 crates/spdm_cases (tests/cases).
 
 What each table promises of cut input is looked at here too, so that no table says what that program does not do.
@@ -19,7 +19,7 @@ from spdm_reference.script import parse_script
 from spdm_reference.world import World
 
 TOP = pathlib.Path(__file__).resolve().parent.parent
-VECTORS = TOP / "crates/cut_vectors/src"
+VECTORS = TOP / "crates/spdm_vectors"
 DAY = TOP / "crates/spdm_cases/data/scripts/a_users_day.script"
 ACK = 0x05
 
@@ -114,11 +114,17 @@ def cut_messages(messages):
         assert read(kind, message) == "-", message.hex()
         for size in range(len(message)):
             assert read(kind, message[:size]) == "%d:end" % size, (message.hex(), size)
-    return ["%s %s" % (kind, message.hex()) for kind, message in messages]
+    return [("cut message %s %s" % (kind, message.hex()), "0 cut %d -" % len(message)) for kind, message in messages]
 
 
-def cut_records(records):
-    return ["%s %d %s %s" % (key, number, record.hex(), inner.hex()) for key, number, record, inner in records]
+def cut_records(records, th1, th2):
+    """Each record with its key and the hashes of the transcripts up to the answers to PSK_EXCHANGE and PSK_FINISH."""
+    lines = []
+    for key, number, record, inner in records:
+        assert c.num(record[4:6]) == number
+        asked = "cut record %s %s %s %s" % (key, th1.hex(), th2.hex(), record.hex())
+        lines.append((asked, "0 Short - 26 WrongLength - %d %s" % (len(record), inner.hex())))
+    return lines
 
 
 # ---------------------------------------------------------------- wrong lengths
@@ -163,8 +169,8 @@ def wrong_lengths():
         known.add(message[1])
         kind = "q" if packet[1] == 8 else "r"
         for at, size in fields_of(message):
-            told = " ".join(read(kind, variant) for variant in variants(message, at, size))
-            lines.append("%s %s %d %d %s" % (kind, message.hex(), at, size, told))
+            told = "".join(read(kind, variant) + ";" for variant in variants(message, at, size))
+            lines.append(("cut field %s %s %d %d" % (kind, message.hex(), at, size), told))
     assert known == {*FIELDS, 0x85, 0x06, 0x60}
     return lines
 
@@ -212,38 +218,29 @@ def packet_at(is_small, before, pumped):
 # ---------------------------------------------------------------- what is written
 
 
-# In parts of some 4,000 bytes, since a long constant takes long to prove.
-def parts_of(lines):
-    parts = [""]
-    for line in lines:
-        if parts[-1] and len(parts[-1]) + len(line) > 4000:
-            parts.append("")
-        parts[-1] += line + "\n"
-    return parts
+def write_lines(name, lines):
+    """Puts what is asked and what comes of it below the comment that begins with a name."""
+    asked, told = VECTORS / "stdin", VECTORS / "stdout"
+    start, end = place_of(asked.read_text().splitlines(), name)
+    for path, new in zip((asked, told), zip(*lines)):
+        old = path.read_text().splitlines()
+        path.write_text("\n".join([*old[:start], *new, *old[end:]]) + "\n")
+    print(name, len(lines), "lines")
 
 
-def write_lines(name, what, lines, more=""):
-    parts = parts_of(lines)
-    path = VECTORS / (name + ".rt")
-    path.write_text("%s%s\npub const TABLE: [&str; %d] = [\n%s];\n" % (
-        more, what, len(parts), "".join('    "\\\n' + part + '",\n' for part in parts)))
-    print(path.name, len(lines), "lines,", path.stat().st_size, "bytes")
+def place_of(lines, name):
+    """The lines behind a comment, up to an empty one."""
+    start = next(at for at, line in enumerate(lines) if line.startswith("# %s:" % name))
+    while lines[start].startswith("#"):
+        start += 1
+    return start, next((at for at in range(start, len(lines)) if not lines[at]), len(lines))
 
 
 def main():
     messages, records, th1, th2 = day()
-    write_lines("message_tests/messages", "// Messages of a day, a line each: `q` and a request, `r` and a response, `s` and one to a request that asked for a\n"
-                "// measurement summary.", cut_messages(messages))
-    hashes = "".join(
-        "// The hash of the transcript up to the answer to %s.\npub const %s: [u8; 32] = [\n    %s,\n];\n\n"
-        % (code, name, ", ".join("0x%02x" % byte for byte in hash_))
-        for code, name, hash_ in (("PSK_EXCHANGE", "TH1", th1), ("PSK_FINISH", "TH2", th2))
-    )
-    write_lines("record_tests/records", "// Records of a day, a line each: the key (that of the handshake, of application data, or of these updated, and `q` of\n"
-                "// requests or `r` of responses), the number, the record, and its inner message.", cut_records(records), hashes)
-    write_lines("message_tests/lengths", "// Messages, as in the table of messages, a length in each by its place and its size, and what a reader says of the\n"
-                "// message with 0, with one more, and with 65,535 or the most that fits there: `-`, or the place and the part at fault.",
-                wrong_lengths())
+    write_lines("cut_messages_are_malformed", cut_messages(messages))
+    write_lines("cut_records_do_not_open", cut_records(records, th1, th2))
+    write_lines("wrong_lengths_have_their_place", wrong_lengths())
 
 
 if __name__ == "__main__":
