@@ -14,7 +14,7 @@ use Rattle.check_responder.specs.declared.answerer.Answerer.{Answerer}
 use Rattle.check_ends.specs.declared.party.Party.{Party}
 use Rattle.check_laws.proofs.AnswerSteps.{taken_same}
 use Rattle.check_laws.proofs.StepsOfWalks.{replies_moved, walks_held}
-use Rattle.check_late_laws.proofs.Late.StepsMoved.{IsMoved}
+use Rattle.check_laws.proofs.StepsOfWalks.{IsMoved}
 use Rattle.check_laws.specs.ChangeLaws.{AnswerAccepts, LastChunkChanges, answered_by, begun_by, begun_by_large}
 use Rattle.check_laws.specs.Changes.{IsChange, IsStep, answered_between, begun_between, views_in}
 use Rattle.check_laws.specs.Keeping.{Kept, restored}

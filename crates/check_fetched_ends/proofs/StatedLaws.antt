@@ -6,6 +6,10 @@ use Rattle.check_fetched_ends.specs.LateLed.{LateIsLed}
 use Rattle.check_fetched_ends.specs.Marked.{AnswerMovesMarks}
 use Rattle.check_fetched_ends.specs.RefusedAgain.{NoneLargeAgain, RefusedAgain}
 use Rattle.check_fetched_ends.specs.SameChunks.{SameCapabilities, SameCommon}
+use Rattle.check_fetched_ends.proofs.MarksWalk as in_marks_walk
+use Rattle.check_fetched_ends.proofs.LateLast as in_late_last
+use Rattle.check_fetched_ends.proofs.LateRequest as in_late_request
+use Rattle.check_fetched_ends.proofs.LateLed as in_late_led
 use Rattle.check_fetched_ends.proofs.AsksTold as in_asks_told
 use Rattle.check_fetched_ends.proofs.ClearAsks as in_clear_asks
 use Rattle.check_fetched_ends.proofs.RefusedAgain as in_refused_again
@@ -15,7 +19,7 @@ use Rattle.check_fetched_ends.proofs.VersionAsks as in_version_asks
 
 -- What an answer makes of them is determined by the responder's history before it and after it.
 pub answer_moves_marks : AnswerMovesMarks
-answer_moves_marks = law
+answer_moves_marks = in_marks_walk.answer_moves_marks
 
 -- It is refused again, but for GET_MEASUREMENTS and PSK_EXCHANGE.
 pub refused_again : RefusedAgain
@@ -28,16 +32,16 @@ none_large_again = in_refused_again.none_large_again
 -- The verify data of its last chunk are alone wrong exactly when its request may lead, in front, to bytes from which
 -- those of the chunks are apart, and no mark is set of the session that they begin.
 pub late_apart : LateApart
-late_apart = law
+late_apart = in_late_last.late_apart
 
 -- What stands of the request of a new LargeResponse stands of one that passed, before what came since.
 pub late_before : LateBefore
-late_before = law
+late_before = in_late_request.late_before
 
 -- What its last chunk shows of its request is told before what came since, and no mark is set of the session that its
 -- whole answer begins.
 pub late_is_led : LateIsLed
-late_is_led = law
+late_is_led = in_late_led.late_is_led
 
 -- What the requester took as CAPABILITIES is what the responder told it last, as long as its negotiation counts.
 pub same_capabilities : SameCapabilities
