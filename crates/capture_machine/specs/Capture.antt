@@ -17,6 +17,7 @@ use Rattle.spdm_machine.specs.Packets.{gathered_from, body_type}
 use Rattle.capture_machine.specs.Rounds.{Dialogue, Round, new_dialogue, new_round, following_tag, dialogue_at, with_dialogue}
 use Rattle.responder_machine.specs.Setup.{towards}
 use Rattle.world_machine.specs.Setup.{Configuration, known_of}
+use Rattle.spdm_grammar.specs.declared.names.message_type.TheConstants.{SECURED, SPDM}
 
 -- ---- A request.
 
@@ -62,7 +63,7 @@ Replies w d tag answer next =
 
 -- A body of type 5 or 6, with the tag owner bit set: a request.
 abbrev pub IsBody : List ℕ → Type 0
-IsBody body = (body_type body == 5 || body_type body == 6) ≡ true
+IsBody body = (body_type body == SPDM || body_type body == SECURED) ≡ true
 
 -- A packet for the responder completes a request, or more is awaited. It is not dropped.
 abbrev pub AsksBy : Dialogue → Gathered → Dialogue → Type 0

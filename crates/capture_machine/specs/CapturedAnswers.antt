@@ -27,6 +27,7 @@ use Rattle.capture_machine.specs.LargeRequests.{with_ack}
 use Rattle.capture_machine.specs.Rounds.{Dialogue, Round, no_draw}
 use Rattle.spdm_grammar.specs.declared.names.request_code.TheConstants.{PSK_EXCHANGE}
 use Rattle.spdm_grammar.specs.declared.names.TheConstants.{MAX_MESSAGE_SIZE}
+use Rattle.spdm_grammar.specs.declared.names.message_type.TheConstants.{SPDM}
 
 -- ---- No SPDM message has more than 4,096 bytes.
 
@@ -47,7 +48,7 @@ record_answer r s sealed f = answer_bytes r (session_place s) (drop 1 (opened r.
 -- The whole answer to a body of type 5, or else of type 6.
 abbrev pub answer_to : RspSetup → History → List ℕ → Free → List ℕ
 answer_to r h body f =
-    if slice_index body 0 == 5 then clear_answer r (clear_place h) (drop 1 body) f
+    if slice_index body 0 == SPDM then clear_answer r (clear_place h) (drop 1 body) f
     else record_answer r (session_of (id_in_record (drop 1 body)) h) (drop 1 body) f
 
 -- ---- What a request may lead to.

@@ -28,6 +28,8 @@ use Rattle.capture_machine.specs.Rounds.{Dialogue, Round, following_tag, dialogu
 use Rattle.responder_machine.specs.Setup.{towards}
 use Rattle.world_machine.specs.Setup.{Configuration, known_of}
 use Rattle.spdm_grammar.specs.declared.names.response_code.TheConstants.{PSK_EXCHANGE_RSP, CHUNK_SEND_ACK}
+use Rattle.secured_record.specs.declared.TheConstants.{MIN_RECORD_SIZE}
+use Rattle.spdm_grammar.specs.declared.names.message_type.TheConstants.{SECURED, SPDM}
 
 -- The reasons, of which the first that holds is the one. It is no packet, is dropped by its receiver, or completes a
 -- body of another type than 5 and 6; it does not go between the responder and a requester that is set up; it comes out
@@ -57,7 +59,7 @@ is_get_version _ = false
 -- A body that encodes GET_VERSION comes at any place, also in an encoding that no requester sends.
 abbrev pub may_come : Option Round → List ℕ → Bool
 may_come None body = true
-may_come (Some round) body = round.answered || (body_type body == 5 && is_get_version (request_value (drop 1 body)))
+may_come (Some round) body = round.answered || (body_type body == SPDM && is_get_version (request_value (drop 1 body)))
 
 -- A request is out of turn without the tag owner bit, and where it is no copy, with another tag than the next, or
 -- before the last round has an answer.
@@ -93,7 +95,7 @@ finish_in (Some sent) = finish_by sent.aim sent.content
 
 -- A record with an inner message has at most 16 bytes of padding.
 abbrev pub is_padded : List ℕ → List ℕ → Bool
-is_padded sealed inner = nat_le (length sealed) (26 + length inner + 16)
+is_padded sealed inner = nat_le (length sealed) (MIN_RECORD_SIZE + length inner + 16)
 
 -- A record names a session and opens there, its padding is no longer than it may be, and its inner message is apart
 -- from the PSK_FINISH that is owed.
@@ -107,7 +109,7 @@ is_finish_apart d sealed (Some finish) =
 
 -- A record is apart from the PSK_FINISH that is owed.
 abbrev pub asks_apart : Dialogue → List ℕ → Bool
-asks_apart d body = body_type body == 6 && owes d && is_finish_apart d (drop 1 body) (finish_in (outstanding d.requester))
+asks_apart d body = body_type body == SECURED && owes d && is_finish_apart d (drop 1 body) (finish_in (outstanding d.requester))
 
 -- How many bytes verify data have: the length of the hash that was chosen.
 abbrev pub verify_size : Dialogue → ℕ
@@ -115,7 +117,7 @@ verify_size d = hash_len (terms_of (negotiation_of (clear_turns d.responder)))
 
 -- PSK_EXCHANGE_RSP, plain or in an acknowledgement.
 abbrev pub carries_exchange : List ℕ → Bool
-carries_exchange body = body_type body == 5 && (slice_index body 2 == PSK_EXCHANGE_RSP || (slice_index body 2 == CHUNK_SEND_ACK && slice_index body 8 == PSK_EXCHANGE_RSP))
+carries_exchange body = body_type body == SPDM && (slice_index body 2 == PSK_EXCHANGE_RSP || (slice_index body 2 == CHUNK_SEND_ACK && slice_index body 8 == PSK_EXCHANGE_RSP))
 
 -- An answer may be given that carries PSK_EXCHANGE_RSP, and from which this one is apart.
 abbrev pub RepliesApart : RspSetup → Dialogue → Round → List ℕ → Type 0
@@ -181,19 +183,19 @@ IsVerifyApart w older packet = (ds : List Dialogue) × Leads w older ds × IsApa
 -- in the session that it names.
 abbrev pub request_why : Dialogue → List ℕ → Why
 request_why d body =
-    if body_type body == 5 || opens_asking d.setup (session_named (without_owed d) (drop 1 body)) (drop 1 body) then BadRequest
+    if body_type body == SPDM || opens_asking d.setup (session_named (without_owed d) (drop 1 body)) (drop 1 body) then BadRequest
     else BadRecord
 
 -- An answer that is in turn, likewise.
 abbrev pub reply_why : RspSetup → Dialogue → List ℕ → Option Round → Why
 reply_why r d answer None = WrongTurn
 reply_why r d answer (Some round) =
-    if body_type answer == 5 || opens_answering r d.responder (body_type round.body == 5) (drop 1 round.body) (drop 1 answer) then BadReply
+    if body_type answer == SPDM || opens_answering r d.responder (body_type round.body == SPDM) (drop 1 round.body) (drop 1 answer) then BadReply
     else BadRecord
 
 -- The type of the body is neither 5 nor 6.
 abbrev pub is_other_type : List ℕ → Bool
-is_other_type body = not (body_type body == 5 || body_type body == 6)
+is_other_type body = not (body_type body == SPDM || body_type body == SECURED)
 
 -- A packet with which more is awaited always conforms.
 abbrev pub comes_why : Dialogue → Gathered → Option Why

@@ -19,6 +19,7 @@ use Rattle.responder_machine.specs.Turn.Effect.{NoEffect, Took, TookData}
 use Rattle.spdm_machine.specs.Sessions.{id_in_exchange}
 use Rattle.spdm_grammar.specs.declared.names.request_code.TheConstants.{CHUNK_GET, PSK_EXCHANGE}
 use Rattle.spdm_grammar.specs.declared.names.TheConstants.{MAX_MESSAGE_SIZE}
+use Rattle.spdm_grammar.specs.declared.names.message_type.TheConstants.{SPDM}
 
 -- ---- Requests whose large answer was not seen.
 
@@ -75,7 +76,7 @@ seen answer entry = entry
 
 -- A body of type 5 goes to the clear part, any other to the session of the id that stands in its record.
 abbrev pub place_named : List ℕ → Option ℕ
-place_named body = if slice_index body 0 == 5 then None else Some (id_in_record (drop 1 body))
+place_named body = if slice_index body 0 == SPDM then None else Some (id_in_record (drop 1 body))
 
 -- The entry is a message that came to this place.
 abbrev pub is_in : Option ℕ → Entry → Bool

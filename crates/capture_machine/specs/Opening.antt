@@ -14,13 +14,14 @@ use Rattle.responder_machine.specs.Setup.{RspSetup}
 use Rattle.requester_machine.specs.Setup.{ReqSetup}
 use Rattle.responder_machine.specs.Turn.{Turn, takes}
 use Rattle.spdm_grammar.specs.declared.names.request_code.TheConstants.{END_SESSION}
+use Rattle.spdm_grammar.specs.declared.names.TheConstants.{MAX_RECORDS}
 
 -- ---- As a request.
 
 -- A record opens under the next request key and number; a key that sealed 65,536 records has none.
 unfoldable pub opens_asking : ReqSetup → requester_session.Steps → List ℕ → Bool
 opens_asking q s sealed =
-    requester_session.is_accepted s && nat_lt (requester_session.request_next s) 65536
+    requester_session.is_accepted s && nat_lt (requester_session.request_next s) MAX_RECORDS
     && is_none (record_fault (requester_session.session_terms s).choice (requester_records.request_purpose q.psk s) (requester_session.request_next s) (requester_session.id_bytes s) sealed)
 
 -- The inner message that it has then.
@@ -33,7 +34,7 @@ inner_asking q s sealed =
 -- As the next answer of a live session, whose key has a number left.
 unfoldable pub opens_next : RspSetup → Events → List ℕ → Bool
 opens_next r s sealed =
-    is_live s && nat_lt (response_next s) 65536
+    is_live s && nat_lt (response_next s) MAX_RECORDS
     && is_none (record_fault (session_terms s).choice (response_purpose r.psk s) (response_next s) (id_bytes s) sealed)
 
 -- As the answer to a turn of a session.

@@ -34,7 +34,7 @@ impl Party {
         round: &Round,
         answer: &[u8],
     ) -> Result<Result<Onward, Why>, OutOfMemory>
-        requires { length answer.now ≤ 4161 }
+        requires { length answer.now ≤ MAX_BODY_SIZE }
         ensures told { (w : Configuration) (q : ReqSetup) (older : List (List ℕ)) (rows : List Row)
             (packet : List ℕ) (route : RouteFields) (s : Sending)
             → IsAnswer w q older packet route answer.now → length older < 2 ^ 64 - 2
@@ -97,7 +97,7 @@ impl Conversation {
         round: &Round,
         answer: &[u8],
     ) -> Result<Result<Onward, Why>, OutOfMemory>
-        requires { length answer.now ≤ 4161 }
+        requires { length answer.now ≤ MAX_BODY_SIZE }
         ensures told { (w : Configuration) (q : ReqSetup) (older : List (List ℕ)) (rows : List Row)
             (packet : List ℕ) (route : RouteFields) → IsAnswer w q older packet route answer.now
             → length older < 2 ^ 64 - 2 → w.responder.beat < 256
@@ -133,7 +133,7 @@ impl Conversation {
         round: &Round,
         answer: &[u8],
     ) -> Result<Result<Onward, Why>, OutOfMemory>
-        requires { length answer.now ≤ 4161 }
+        requires { length answer.now ≤ MAX_BODY_SIZE }
         ensures told { (w : Configuration) (q : ReqSetup) (older : List (List ℕ)) (rows : List Row)
             (packet : List ℕ) (route : RouteFields) → IsAnswer w q older packet route answer.now
             → length older < 2 ^ 64 - 2 → w.responder.beat < 256

@@ -1,3 +1,5 @@
+ghost use Rattle.spdm_grammar.specs.declared.names.TheConstants.{MAX_BODY_SIZE};
+
 use crate::{Conversation, Party};
 use check_laws::{
     LargeRequest, Piece, Round, SessionTable, copy_is_request, is_get_version, round_is_request,
@@ -53,7 +55,7 @@ impl Party {
         ensures told { (w : Configuration) (q : ReqSetup) (older : List (List ℕ)) (rows : List Row)
             (packet : List ℕ) (route : RouteFields) (k : Kept)
             → IsRequest w q older packet route body.now → length older < 2 ^ 64 - 1
-            → length body.now ≤ 4161 → round.now ≡ k.round → route.tag ≡ tag
+            → length body.now ≤ MAX_BODY_SIZE → round.now ≡ k.round → route.tag ≡ tag
             → asked_why k.round (Whole route body.now) ≡ None → Keeps w q older k
             → IsParty self.old w q k rows → StandsForRows table.old w (length older) rows
             → IsJudgedRequest w q older rows packet (Whole route body.now) result self.new
@@ -161,7 +163,7 @@ impl Party {
     ) -> Result<Option<LargeRequest>, Why>
         ensures told { (w : Configuration) (q : ReqSetup) (older : List (List ℕ)) (rows : List Row)
             (packet : List ℕ) (route : RouteFields) → IsRequest w q older packet route body.now
-            → length older < 2 ^ 64 - 1 → length body.now ≤ 4161 → route.tag ≡ tag
+            → length older < 2 ^ 64 - 1 → length body.now ≤ MAX_BODY_SIZE → route.tag ≡ tag
             → round.now ≡ round_of w.responder.eid q.eid older
             → asked_why round.now (Whole route body.now) ≡ None
             → StandsAs self.old large w q older rows → StandsForRows table.old w (length older) rows
@@ -198,7 +200,7 @@ impl Conversation {
     ) -> Result<(), Why>
         ensures told { (w : Configuration) (q : ReqSetup) (older : List (List ℕ)) (rows : List Row)
             (packet : List ℕ) (route : RouteFields) → IsRequest w q older packet route body.now
-            → length older < 2 ^ 64 - 1 → length body.now ≤ 4161 → route.tag ≡ tag
+            → length older < 2 ^ 64 - 1 → length body.now ≤ MAX_BODY_SIZE → route.tag ≡ tag
             → round.now ≡ round_of w.responder.eid q.eid older
             → asked_why round.now (Whole route body.now) ≡ None → is_first_chunk body.now ≡ false
             → self.old.large ≡ None → StandsFor self.old w q older rows
@@ -220,7 +222,7 @@ impl Conversation {
     ) -> Result<(), Why>
         ensures told { (w : Configuration) (q : ReqSetup) (older : List (List ℕ)) (rows : List Row)
             (packet : List ℕ) (route : RouteFields) → IsRequest w q older packet route body.now
-            → length older < 2 ^ 64 - 1 → length body.now ≤ 4161 → route.tag ≡ tag
+            → length older < 2 ^ 64 - 1 → length body.now ≤ MAX_BODY_SIZE → route.tag ≡ tag
             → round.now ≡ round_of w.responder.eid q.eid older
             → asked_why round.now (Whole route body.now) ≡ None → StandsFor self.old w q older rows
             → StandsForRows table.old w (length older) rows
@@ -249,7 +251,7 @@ impl Conversation {
     ) -> Result<(), Why>
         ensures told { (w : Configuration) (q : ReqSetup) (older : List (List ℕ)) (rows : List Row)
             (packet : List ℕ) (route : RouteFields) → IsRequest w q older packet route body.now
-            → length older < 2 ^ 64 - 1 → length body.now ≤ 4161 → route.tag ≡ tag
+            → length older < 2 ^ 64 - 1 → length body.now ≤ MAX_BODY_SIZE → route.tag ≡ tag
             → round.now ≡ round_of w.responder.eid q.eid older
             → asked_why round.now (Whole route body.now) ≡ None → StandsFor self.old w q older rows
             → StandsForRows table.old w (length older) rows

@@ -1,6 +1,7 @@
 ghost use Rattle.std.specs.Prelude.{◌≡◌, Err, Ok, if◌then◌else◌};
 ghost use Rattle.check_requester.specs.Asker.{is_first_chunk};
 ghost use Rattle.check_ends.specs.declared.onward.Onward.TheVariants as onward;
+ghost use Rattle.spdm_grammar.specs.declared.names.TheConstants.{MAX_BODY_SIZE};
 
 use crate::Onward;
 use check_laws::{Places, Round, SessionTable};
@@ -89,7 +90,7 @@ impl Party {
     ) -> Result<Onward, Why>
         ensures told { (w : Configuration) (q : ReqSetup) (older : List (List ℕ)) (rows : List Row)
             (k : Kept) (route : RouteFields) → Keeps w q older k → length older < 2 ^ 64 - 1
-            → length body.now ≤ 4161 → round.now ≡ k.round → route.tag ≡ tag
+            → length body.now ≤ MAX_BODY_SIZE → round.now ≡ k.round → route.tag ≡ tag
             → asked_why k.round (Whole route body.now) ≡ None → IsParty self.old w q k rows
             → StandsForRows table.old w (length older) rows
             → IsAsked w q older rows k route body.now result self.new table.new }
@@ -112,7 +113,7 @@ impl Party {
     ) -> Result<(), Why>
         ensures told { (w : Configuration) (q : ReqSetup) (older : List (List ℕ)) (rows : List Row)
             (k : Kept) (route : RouteFields) → Carries w q older k → length older < 2 ^ 64 - 1
-            → length body.now ≤ 4161 → round.now ≡ k.round → route.tag ≡ tag
+            → length body.now ≤ MAX_BODY_SIZE → round.now ≡ k.round → route.tag ≡ tag
             → asked_why k.round (Whole route body.now) ≡ None → IsBeside self.old w q k rows
             → StandsForRows table.old w (length older) rows
             → IsAskedBeside w q older rows k route body.now result self.new table.new }

@@ -1,3 +1,5 @@
+ghost use Rattle.spdm_grammar.specs.declared.names.TheConstants.{MAX_BODY_SIZE};
+
 use crate::{Onward, Party};
 use check_laws::{Change, Round, SessionTable};
 use check_requester::Heard;
@@ -63,7 +65,7 @@ impl Party {
         round: &Round,
         answer: &[u8],
     ) -> Result<Result<Onward, Why>, OutOfMemory>
-        requires { length answer.now ≤ 4161 }
+        requires { length answer.now ≤ MAX_BODY_SIZE }
         ensures told { (w : Configuration) (q : ReqSetup) (older : List (List ℕ)) (rows : List Row)
             (k : Kept) (route : RouteFields) → Keeps w q older k → length older < 2 ^ 64 - 2
             → w.responder.beat < 256 → round.now ≡ k.round
@@ -86,7 +88,7 @@ impl Party {
         round: &Round,
         answer: &[u8],
     ) -> Result<Result<Onward, Why>, OutOfMemory>
-        requires { length answer.now ≤ 4161 }
+        requires { length answer.now ≤ MAX_BODY_SIZE }
         ensures told { (w : Configuration) (q : ReqSetup) (older : List (List ℕ)) (rows : List Row)
             (k : Kept) (route : RouteFields) → Keeps w q older k → length older < 2 ^ 64 - 2
             → w.responder.beat < 256 → round.now ≡ k.round

@@ -20,12 +20,13 @@ use Rattle.capture_machine.specs.CapturedAnswers.{AnswersAgain}
 use Rattle.capture_machine.specs.Rounds.{Round}
 use Rattle.capture_machine.specs.SessionTable.{Row}
 use Rattle.world_machine.specs.Setup.{Configuration}
+use Rattle.spdm_grammar.specs.declared.names.message_type.TheConstants.{SPDM}
 
 -- The answer to a record is LargeResponse again, whose large response was not seen.
 pub record IsAgainInRecord (w : Configuration) (k : Kept) (tag : ℕ) (answer : List ℕ) : Type 0 where
   pub round : Round
   pub answers : AnswersRound k tag round
-  pub record_is : (slice_index round.body 0 == 5) ≡ false
+  pub record_is : (slice_index round.body 0 == SPDM) ≡ false
   pub whole : List ℕ
   pub behind : History
   pub again : AnswersAgain (responder_for w k) (restored k) round answer behind whole

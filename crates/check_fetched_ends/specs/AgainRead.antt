@@ -18,10 +18,11 @@ use Rattle.spdm_grammar.specs.Message.RequestMessage.{GetMeasurements}
 use Rattle.spdm_grammar.specs.declared.names.error_number.TheConstants.{LARGE_RESPONSE}
 use Rattle.spdm_grammar.specs.declared.names.response_code.TheConstants.{ERROR}
 use Rattle.capture_machine.specs.LargeAnswers.{IsLargeAnswer}
+use Rattle.spdm_grammar.specs.declared.names.message_type.TheConstants.{SPDM}
 
 -- An inner message holds LargeResponse.
 abbrev pub holds_large : (inner : List ℕ) → Bool
-holds_large inner = slice_index inner 0 == 5 && (slice_index inner 2 == ERROR && slice_index inner 3 == LARGE_RESPONSE)
+holds_large inner = slice_index inner 0 == SPDM && (slice_index inner 2 == ERROR && slice_index inner 3 == LARGE_RESPONSE)
 
 -- A message asks in a live session for this operation of GET_MEASUREMENTS, whose blocks are there, and some answer is
 -- sent in chunks.

@@ -19,6 +19,7 @@ use Rattle.capture_machine.specs.Capture.{IsBody}
 use Rattle.capture_machine.specs.CapturedAnswers.{AnswersPlainly}
 use Rattle.capture_machine.specs.Rounds.{Round}
 use Rattle.world_machine.specs.Setup.{Configuration}
+use Rattle.spdm_grammar.specs.declared.names.message_type.TheConstants.{SPDM}
 
 -- ---- In the clear.
 
@@ -46,7 +47,7 @@ VersionAsksNone = (w : Configuration) (q : ReqSetup) (older : List (List ℕ)) (
 abbrev pub SessionAsksOn : Type 0
 SessionAsksOn = (w : Configuration) (q : ReqSetup) (older : List (List ℕ)) (f : Fetching) (round : Round) (answer : List ℕ) (id : ℕ)
     → IsFetchingOf w q older f → f.at ≡ Some id → f.kept.round ≡ Some round → round.body ≢ clear_body (canonical_request GetVersion)
-    → (slice_index answer 0 == 5) ≡ true
+    → (slice_index answer 0 == SPDM) ≡ true
     → (asks_upon f.kept round.tag answer ≡ true) × (accepted_from f.kept round.tag answer ≡ None)
 
 -- ---- Wherever it is fetched.

@@ -22,11 +22,12 @@ use Rattle.spdm_grammar.specs.declared.names.request_code.TheConstants.{GET_MEAS
 use Rattle.capture_machine.specs.Rounds.{Round}
 use Rattle.capture_machine.specs.SessionTable.{Row}
 use Rattle.world_machine.specs.Setup.{Configuration}
+use Rattle.spdm_grammar.specs.declared.names.message_type.TheConstants.{SPDM}
 
 -- The answer to a request in the clear is LargeResponse by what it shows.
 abbrev pub IsLargeInClear : Configuration → Kept → ℕ → (answer : List ℕ) → Type 0
 IsLargeInClear w k tag answer =
-    (round : Round) × AnswersRound k tag round × ((slice_index round.body 0 == 5) ≡ true)
+    (round : Round) × AnswersRound k tag round × ((slice_index round.body 0 == SPDM) ≡ true)
     × IsShownLarge (responder_for w k) k.responder round.tag round.body answer
 
 -- The requests whose answer may have any length: GET_MEASUREMENTS and PSK_EXCHANGE.

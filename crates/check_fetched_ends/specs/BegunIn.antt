@@ -24,11 +24,12 @@ use Rattle.spdm_grammar.specs.declared.told.why.Why as declared
 use Rattle.capture_machine.specs.Rounds.{Round}
 use Rattle.capture_machine.specs.SessionTable.{Row}
 use Rattle.world_machine.specs.Setup.{Configuration}
+use Rattle.spdm_grammar.specs.declared.names.message_type.TheConstants.{SPDM}
 
 -- The answer to a record is LargeResponse by what it shows.
 abbrev pub IsLargeInRecord : Configuration → Kept → ℕ → (answer : List ℕ) → Type 0
 IsLargeInRecord w k tag answer =
-    (round : Round) × AnswersRound k tag round × ((slice_index round.body 0 == 5) ≡ false)
+    (round : Round) × AnswersRound k tag round × ((slice_index round.body 0 == SPDM) ≡ false)
     × IsShownLarge (responder_for w k) k.responder round.tag round.body answer
 
 -- Where a part of a large response is left, it is no such answer.
@@ -48,7 +49,7 @@ IsBegunIn w q older rows k route answer (begun.Fetching fetched) new before afte
     × StandsForRows after w (length older + 1) (rows_upon k next.kept rows)
 IsBegunIn w q older rows k route answer (begun.Told told) new before after =
     IsReplied w q older rows k route answer told new after
-    × ((round : Round) → k.round ≡ Some round → (slice_index round.body 0 == 5) ≡ false)
+    × ((round : Round) → k.round ≡ Some round → (slice_index round.body 0 == SPDM) ≡ false)
     × IsLeftOther w k route.tag answer told
 
 -- The table stays, but where a fetch begins, or the answer goes on whole.

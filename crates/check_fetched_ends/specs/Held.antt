@@ -125,7 +125,7 @@ chunk_held held body whole = nth_chunk held.transfer (slice_index body 4) whole 
 -- These bytes have that chunk, and it can be cut.
 pub record CanBeCut (held : Held) (whole : List ℕ) : Type 0 where
   pub low : MIN_DATA_TRANSFER_SIZE ≤ held.transfer
-  pub high : held.transfer ≤ 4096
+  pub high : held.transfer ≤ MAX_MESSAGE_SIZE
   pub more : held.answer.number < chunk_count held.transfer whole
 
 -- An answer is CHUNK_RESPONSE in the clear with this chunk.

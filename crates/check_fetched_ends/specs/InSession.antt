@@ -26,12 +26,13 @@ use Rattle.spdm_grammar.specs.Fields.{zeros}
 use Rattle.spdm_grammar.specs.Message.RequestMessage.{GetVersion}
 use Rattle.spdm_grammar.specs.Requests.{canonical_request}
 use Rattle.spdm_grammar.specs.Responses.{canonical_response}
-use Rattle.spdm_grammar.specs.declared.names.TheConstants.{MAX_MESSAGE_SIZE}
+use Rattle.spdm_grammar.specs.declared.names.TheConstants.{MAX_MESSAGE_SIZE, MAX_OPAQUE_LEN}
 use Rattle.spdm_grammar.specs.declared.names.response_code.TheConstants.{CHUNK_RESPONSE}
 use Rattle.capture_machine.specs.LargeAnswers.{IsLargeAnswer, with_large}
 use Rattle.capture_machine.specs.Opening.{turn_in}
 use Rattle.capture_machine.specs.SessionTable.{Row}
 use Rattle.world_machine.specs.Setup.{Configuration}
+use Rattle.spdm_grammar.specs.declared.names.message_type.TheConstants.{SPDM}
 
 -- ---- The texts of answers.
 
@@ -82,7 +83,7 @@ IsFilled fetched message (Some whole) =
 -- MEASUREMENTS for an operation, with some nonce and some opaque data.
 abbrev pub IsMeasuredBy : RspSetup → (op : ℕ) → (whole : List ℕ) → Type 0
 IsMeasuredBy r op whole =
-    (f : Free) × (length f.nonce ≡ 32) × (length f.measured_opaque ≤ 1024) × (whole ≡ canonical_response (measurements_answer r f op))
+    (f : Free) × (length f.nonce ≡ 32) × (length f.measured_opaque ≤ MAX_OPAQUE_LEN) × (whole ≡ canonical_response (measurements_answer r f op))
 
 -- The request of the large response of a session may lead to all MEASUREMENTS for this operation that are sent in
 -- chunks, and to nothing else.
@@ -119,8 +120,8 @@ pub record IsReadIn (party : Party) (fetched : InSession) (w : Configuration) (q
   pub kept : IsFetchedIn party fetched w q f rows
   pub same : kept.whole ≡ whole
   pub left : fetched.left ≡ true
-  pub record_is : (slice_index body 0 == 5) ≡ false
-  pub sealed : (slice_index answer 0 == 5) ≡ false
+  pub record_is : (slice_index body 0 == SPDM) ≡ false
+  pub sealed : (slice_index answer 0 == SPDM) ≡ false
   pub text : List ℕ
   pub read : IsTextOf (responder_for w f.kept) (with_large (Some fetched.id) whole f.kept.responder) body answer text
   pub holds : Holds text message

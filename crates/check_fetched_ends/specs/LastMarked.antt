@@ -10,6 +10,7 @@ use Rattle.check_late_laws.specs.declared.late_fetch.marks.Marks.{Marks}
 use Rattle.responder_machine.specs.History.{Entry, History, KeptRecord}
 use Rattle.spdm_machine.specs.Sessions.{id_in_exchange}
 use Rattle.capture_machine.specs.LargeAnswers.{id_begun}
+use Rattle.spdm_grammar.specs.declared.names.TheConstants.{MAX_SESSIONS}
 
 -- The marks stand for this history.
 abbrev pub MarksStandAt : Option Marks → History → Type 0
@@ -18,7 +19,7 @@ MarksStandAt (Some marks) h = marking.StandsFor marks h
 
 -- The session of this id from 1 to 4 was touched; one of another id there is none.
 abbrev pub is_touched_at : (id : ℕ) → History → Bool
-is_touched_at id h = if id == 0 || nat_lt 4 id then false else touched id h
+is_touched_at id h = if id == 0 || nat_lt MAX_SESSIONS id then false else touched id h
 
 -- The fetch began late, and the session that these bytes begin was touched since their request.
 abbrev pub begins_touched : Option Marks → (exchange : Bool) → (whole : List ℕ) → History → Bool

@@ -25,14 +25,15 @@ use Rattle.responder_machine.specs.Responder.{is_repeat, kept_reply}
 use Rattle.capture_machine.specs.Rounds.{Round}
 use Rattle.capture_machine.specs.SessionTable.{Row}
 use Rattle.world_machine.specs.Setup.{Configuration}
+use Rattle.spdm_grammar.specs.declared.names.message_type.TheConstants.{SPDM}
 
 -- A body is GET_MEASUREMENTS or PSK_EXCHANGE in the clear, by its type and its code: their answers have a free length.
 abbrev pub is_free_body : (body : List ℕ) → Bool
-is_free_body body = slice_index body 0 == 5 && has_free_length (code_of (drop 1 body))
+is_free_body body = slice_index body 0 == SPDM && has_free_length (code_of (drop 1 body))
 
 -- An answer is LargeResponse in the clear.
 abbrev pub is_large_body : (answer : List ℕ) → Bool
-is_large_body answer = slice_index answer 0 == 5 && shows_large (drop 1 answer)
+is_large_body answer = slice_index answer 0 == SPDM && shows_large (drop 1 answer)
 
 -- A message is the one that was taken last in the clear, and this was its reply.
 abbrev pub gets_again : History → (tag : ℕ) → (message reply : List ℕ) → Bool

@@ -14,6 +14,7 @@ use Rattle.responder_machine.specs.Responder.{is_repeat}
 use Rattle.responder_machine.specs.Session.{id_in_record, is_live, session_of}
 use Rattle.capture_machine.specs.Rounds.{Dialogue, Round}
 use Rattle.world_machine.specs.Setup.{Configuration}
+use Rattle.spdm_grammar.specs.declared.names.message_type.TheConstants.{SPDM}
 
 -- A message in the clear was taken: it was no repeat before its answer, and is one after it.
 abbrev pub is_taken_by : (before behind : History) → (tag : ℕ) → (m : List ℕ) → Bool
@@ -23,13 +24,13 @@ is_taken_by before behind tag m = not (is_repeat (kept_of before) tag m) && is_r
 abbrev pub is_touched_by : (before behind : History) → (request answer : List ℕ) → Bool
 is_touched_by before behind request answer =
     let id = id_in_record request in
-    if slice_index answer 0 == 5 then is_live (session_of id before) && not (is_live (session_of id behind))
+    if slice_index answer 0 == SPDM then is_live (session_of id before) && not (is_live (session_of id behind))
     else not (is_kept_record before request)
 
 -- Whether the session of an id is touched after an answer.
 abbrev pub touched_behind : (before behind : History) → (tag : ℕ) → (body answer : List ℕ) → (id : ℕ) → Bool
 touched_behind before behind tag body answer id =
-    if slice_index body 0 == 5 then (if is_taken_by before behind tag (drop 1 body) then false else touched id before)
+    if slice_index body 0 == SPDM then (if is_taken_by before behind tag (drop 1 body) then false else touched id before)
     else ((id_in_record (drop 1 body) == id && is_touched_by before behind (drop 1 body) answer) || touched id before)
 
 -- The marks stand for the responder's history of each walk over the packets.

@@ -27,6 +27,7 @@ use Rattle.spdm_machine.specs.Packets.{gathered_from}
 use Rattle.capture_machine.specs.Rounds.{Dialogue}
 use Rattle.capture_machine.specs.SessionTable.{Row, rows_between}
 use Rattle.world_machine.specs.Setup.{Configuration}
+use Rattle.spdm_grammar.specs.declared.names.message_type.TheConstants.{SPDM}
 
 -- ---- What is kept.
 
@@ -57,7 +58,7 @@ NoneAsked w q older packet tag answer = (k : Kept) → Keeps w q older k → jud
 -- An answer may be LargeResponse again: to GET_MEASUREMENTS or PSK_EXCHANGE in the clear, or to the last record of its session.
 abbrev pub may_come_again : History → (body answer : List ℕ) → Bool
 may_come_again h body answer =
-    if slice_index body 0 == 5 then is_free_body body && is_large_body answer
+    if slice_index body 0 == SPDM then is_free_body body && is_large_body answer
     else repeats (last_of (session_of (id_in_record (drop 1 body)) h)) (drop 1 body)
 
 -- Of an answer: it goes on; or no walk goes on with it, and then why.

@@ -16,6 +16,7 @@ use Rattle.spdm_grammar.specs.declared.names.response_code.TheConstants.{ERROR}
 use Rattle.capture_machine.specs.CapturedAnswers.{MayLeadTo}
 use Rattle.capture_machine.specs.LargeAnswers.{is_large, takes_get, with_large}
 use Rattle.capture_machine.specs.Rounds.{Round}
+use Rattle.spdm_grammar.specs.declared.names.message_type.TheConstants.{SPDM}
 
 -- The message is ERROR.
 abbrev pub is_error : (message : List ℕ) → Bool
@@ -40,7 +41,7 @@ pub record LeadsWith (r : RspSetup) (id : ℕ) (f : Fetching) (round : Round) (a
 -- The request is a record, and no entry to which it may lead so gives a chunk. While a chunk is left to be given, this tells
 -- of one that goes whole whether its request was refused.
 pub record IsOtherAnswer (r : RspSetup) (fetched : InSession) (f : Fetching) (round : Round) (answer : List ℕ) (refuses : Bool) : Type 0 where
-  pub record_is : (slice_index round.body 0 == 5) ≡ false
+  pub record_is : (slice_index round.body 0 == SPDM) ≡ false
   pub none : (v : List ℕ) (e : Entry) → LeadsWith r fetched.id f round answer v e → takes_get e ≡ false
   pub refused : fetched.left ≡ true → (v : List ℕ) (e : Entry) → LeadsWith r fetched.id f round answer v e → is_large e ≡ false → is_refused e ≡ refuses
 

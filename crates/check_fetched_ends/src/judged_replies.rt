@@ -1,4 +1,6 @@
 ghost use Rattle.std.specs.Prelude.{◌≡◌, ◌==◌, slice_index};
+ghost use Rattle.spdm_grammar.specs.declared.names.TheConstants.{MAX_BODY_SIZE};
+ghost use Rattle.spdm_grammar.specs.declared.names.message_type.TheConstants.{SPDM};
 
 use crate::{
     BegunHeld, BegunIn, Fetch, Held, InSession, JudgedEnds, Upon, begins_held, begins_in_session,
@@ -15,7 +17,7 @@ use spdm_grammar::names::request_code::GET_MEASUREMENTS;
 
 // Whether a body is a message in the clear.
 pub(crate) fn is_clear(body: &[u8]) -> bool
-    ensures { result ≡ (slice_index body.now 0 == 5) }
+    ensures { result ≡ (slice_index body.now 0 == SPDM) }
 {
     byte_at(body, 0) == SPDM
 }
@@ -54,7 +56,7 @@ impl JudgedEnds {
         round: &Round,
         answer: &[u8],
     ) -> Result<Result<Onward, Why>, OutOfMemory>
-        requires { length answer.now ≤ 4161 }
+        requires { length answer.now ≤ MAX_BODY_SIZE }
         ensures told { (w : Configuration) (q : ReqSetup) (older : List (List ℕ)) (rows : List Row)
             (packet : List ℕ) (route : RouteFields) (f : Fetching)
             → IsAnswer w q older packet route answer.now → length older < 2 ^ 64 - 2
@@ -94,7 +96,7 @@ impl JudgedEnds {
         round: &Round,
         answer: &[u8],
     ) -> Result<Result<Onward, Why>, OutOfMemory>
-        requires { length answer.now ≤ 4161 }
+        requires { length answer.now ≤ MAX_BODY_SIZE }
         ensures { (w : Configuration) (q : ReqSetup) (older : List (List ℕ)) (rows : List Row)
             (packet : List ℕ) (route : RouteFields) (f : Fetching)
             → IsAnswer w q older packet route answer.now → length older < 2 ^ 64 - 2
@@ -132,7 +134,7 @@ impl JudgedEnds {
         round: &Round,
         answer: &[u8],
     ) -> Result<Result<Onward, Why>, OutOfMemory>
-        requires { length answer.now ≤ 4161 }
+        requires { length answer.now ≤ MAX_BODY_SIZE }
         ensures told { (w : Configuration) (q : ReqSetup) (older : List (List ℕ)) (rows : List Row)
             (packet : List ℕ) (route : RouteFields) (k : Kept)
             → IsAnswer w q older packet route answer.now → length older < 2 ^ 64 - 2
@@ -168,7 +170,7 @@ impl JudgedEnds {
         round: &Round,
         answer: &[u8],
     ) -> Result<Result<Onward, Why>, OutOfMemory>
-        requires { length answer.now ≤ 4161 }
+        requires { length answer.now ≤ MAX_BODY_SIZE }
         ensures told { (w : Configuration) (q : ReqSetup) (older : List (List ℕ)) (rows : List Row)
             (packet : List ℕ) (route : RouteFields) (k : Kept)
             → IsAnswer w q older packet route answer.now → length older < 2 ^ 64 - 2
@@ -202,7 +204,7 @@ impl JudgedEnds {
         round: &Round,
         answer: &[u8],
     ) -> Result<Result<Onward, Why>, OutOfMemory>
-        requires { length answer.now ≤ 4161 }
+        requires { length answer.now ≤ MAX_BODY_SIZE }
         ensures told { (w : Configuration) (q : ReqSetup) (older : List (List ℕ)) (rows : List Row)
             (packet : List ℕ) (route : RouteFields) → IsAnswer w q older packet route answer.now
             → length older < 2 ^ 64 - 2 → w.responder.beat < 256
@@ -238,7 +240,7 @@ impl JudgedEnds {
         round: &Round,
         answer: &[u8],
     ) -> Result<Result<Onward, Why>, OutOfMemory>
-        requires { length answer.now ≤ 4161 }
+        requires { length answer.now ≤ MAX_BODY_SIZE }
         ensures told { (w : Configuration) (q : ReqSetup) (older : List (List ℕ)) (rows : List Row)
             (packet : List ℕ) (route : RouteFields) → IsAnswer w q older packet route answer.now
             → length older < 2 ^ 64 - 2 → w.responder.beat < 256
@@ -270,7 +272,7 @@ impl JudgedEnds {
         round: &Round,
         answer: &[u8],
     ) -> Result<Result<Onward, Why>, OutOfMemory>
-        requires { length answer.now ≤ 4161 }
+        requires { length answer.now ≤ MAX_BODY_SIZE }
         ensures told { (w : Configuration) (q : ReqSetup) (older : List (List ℕ)) (rows : List Row)
             (packet : List ℕ) (route : RouteFields) → IsAnswer w q older packet route answer.now
             → length older < 2 ^ 64 - 2 → w.responder.beat < 256
@@ -303,7 +305,7 @@ impl JudgedEnds {
         round: &Round,
         answer: &[u8],
     ) -> Result<Result<Onward, Why>, OutOfMemory>
-        requires { length answer.now ≤ 4161 }
+        requires { length answer.now ≤ MAX_BODY_SIZE }
         ensures told { (w : Configuration) (q : ReqSetup) (older : List (List ℕ)) (rows : List Row)
             (packet : List ℕ) (route : RouteFields) → IsAnswer w q older packet route answer.now
             → length older < 2 ^ 64 - 2 → w.responder.beat < 256

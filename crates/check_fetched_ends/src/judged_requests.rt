@@ -1,3 +1,5 @@
+ghost use Rattle.spdm_grammar.specs.declared.names.TheConstants.{MAX_BODY_SIZE};
+
 use crate::JudgedEnds;
 use check_laws::{Round, SessionTable};
 use spdm_grammar::Why;
@@ -28,7 +30,7 @@ impl JudgedEnds {
     ) -> Result<(), Why>
         ensures told { (w : Configuration) (q : ReqSetup) (older : List (List ℕ)) (rows : List Row)
             (packet : List ℕ) (route : RouteFields) → IsRequest w q older packet route body.now
-            → length older < 2 ^ 64 - 1 → length body.now ≤ 4161 → route.tag ≡ tag
+            → length older < 2 ^ 64 - 1 → length body.now ≤ MAX_BODY_SIZE → route.tag ≡ tag
             → round.now ≡ round_of w.responder.eid q.eid older
             → asked_why round.now (Whole route body.now) ≡ None → StandsFor self.old w q older rows
             → StandsForRows table.old w (length older) rows

@@ -1,3 +1,6 @@
+ghost use Rattle.spdm_grammar.specs.declared.names.TheConstants.{MAX_BODY_SIZE};
+ghost use Rattle.spdm_grammar.specs.declared.names.message_type.TheConstants.{SPDM};
+
 use crate::clear_fetch::late_begins::{begins_late, may_begin_late};
 use crate::judged_replies::is_clear;
 use crate::marked_ends::{is_live_in, moves_behind, repeats_clear, repeats_record};
@@ -63,7 +66,7 @@ impl MarkedEnds {
     ) -> Result<(), Why>
         ensures told { (w : Configuration) (q : ReqSetup) (older : List (List ℕ)) (rows : List Row)
             (packet : List ℕ) (route : RouteFields) → IsRequest w q older packet route body.now
-            → length older < 2 ^ 64 - 1 → length body.now ≤ 4161 → route.tag ≡ tag
+            → length older < 2 ^ 64 - 1 → length body.now ≤ MAX_BODY_SIZE → route.tag ≡ tag
             → round.now ≡ round_of w.responder.eid q.eid older
             → asked_why round.now (Whole route body.now) ≡ None → StandsFor self.old w q older rows
             → StandsForRows table.old w (length older) rows
@@ -81,7 +84,7 @@ impl MarkedEnds {
         round: &Round,
         answer: &[u8],
     ) -> Result<Result<Onward, Why>, OutOfMemory>
-        requires { length answer.now ≤ 4161 }
+        requires { length answer.now ≤ MAX_BODY_SIZE }
         ensures told { (w : Configuration) (q : ReqSetup) (older : List (List ℕ)) (rows : List Row)
             (packet : List ℕ) (route : RouteFields) → IsAnswer w q older packet route answer.now
             → length older < 2 ^ 64 - 2 → w.responder.beat < 256
@@ -121,7 +124,7 @@ impl MarkedEnds {
         round: &Round,
         answer: &[u8],
     ) -> Result<Result<(), Why>, OutOfMemory>
-        requires { length answer.now ≤ 4161 }
+        requires { length answer.now ≤ MAX_BODY_SIZE }
         ensures told { (w : Configuration) (q : ReqSetup) (older : List (List ℕ)) (rows : List Row)
             (packet : List ℕ) (route : RouteFields) → IsAnswer w q older packet route answer.now
             → length older < 2 ^ 64 - 2 → w.responder.beat < 256
@@ -151,14 +154,14 @@ impl MarkedEnds {
         round: &Round,
         answer: &[u8],
     ) -> Result<Result<(), Why>, OutOfMemory>
-        requires { length answer.now ≤ 4161 }
+        requires { length answer.now ≤ MAX_BODY_SIZE }
         ensures told { (w : Configuration) (q : ReqSetup) (older : List (List ℕ)) (rows : List Row)
             (packet : List ℕ) (route : RouteFields) → IsAnswer w q older packet route answer.now
             → length older < 2 ^ 64 - 2 → w.responder.beat < 256
             → round.now ≡ round_of w.responder.eid q.eid older
             → IsSetUp setup.now (towards w.responder (known_of q))
             → answered_why round.now (Whole route answer.now) ≡ None
-            → (slice_index (body_in round.now) 0 == 5) ≡ true
+            → (slice_index (body_in round.now) 0 == SPDM) ≡ true
             → self.old.ends.fetched ≡ None → self.old.ends.talk.large ≡ None
             → StandsFor self.old w q older rows → StandsForRows table.old w (length older) rows
             → IfOk result (λ told. IsJudgedAnswer w q older rows packet route answer.now told self.new
@@ -184,14 +187,14 @@ impl MarkedEnds {
         round: &Round,
         answer: &[u8],
     ) -> Result<Result<(), Why>, OutOfMemory>
-        requires { length answer.now ≤ 4161 }
+        requires { length answer.now ≤ MAX_BODY_SIZE }
         ensures told { (w : Configuration) (q : ReqSetup) (older : List (List ℕ)) (rows : List Row)
             (packet : List ℕ) (route : RouteFields) → IsAnswer w q older packet route answer.now
             → length older < 2 ^ 64 - 2 → w.responder.beat < 256
             → round.now ≡ round_of w.responder.eid q.eid older
             → IsSetUp setup.now (towards w.responder (known_of q))
             → answered_why round.now (Whole route answer.now) ≡ None
-            → (slice_index (body_in round.now) 0 == 5) ≡ false
+            → (slice_index (body_in round.now) 0 == SPDM) ≡ false
             → self.old.ends.fetched ≡ None → self.old.ends.talk.large ≡ None
             → StandsFor self.old w q older rows → StandsForRows table.old w (length older) rows
             → IfOk result (λ told. IsJudgedAnswer w q older rows packet route answer.now told self.new
@@ -234,7 +237,7 @@ impl MarkedEnds {
         round: &Round,
         answer: &[u8],
     ) -> Result<Result<(), Why>, OutOfMemory>
-        requires { length answer.now ≤ 4161 }
+        requires { length answer.now ≤ MAX_BODY_SIZE }
         ensures told { (w : Configuration) (q : ReqSetup) (older : List (List ℕ)) (rows : List Row)
             (packet : List ℕ) (route : RouteFields) → IsAnswer w q older packet route answer.now
             → length older < 2 ^ 64 - 2 → w.responder.beat < 256

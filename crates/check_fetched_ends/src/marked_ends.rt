@@ -15,6 +15,7 @@ ghost use Rattle.responder_machine.specs.Setup.{RspSetup};
 ghost use Rattle.capture_machine.specs.Rounds.{Dialogue};
 ghost use Rattle.capture_machine.specs.SessionTable.{Row};
 ghost use Rattle.world_machine.specs.Setup.{Configuration};
+ghost use Rattle.spdm_grammar.specs.declared.names.message_type.TheConstants.{SPDM};
 
 use crate::{Fetch, JudgedEnds};
 use responder_core::{Connection, record_id};
@@ -85,12 +86,12 @@ pub(crate) fn moves_behind(
 ) -> bool
     ensures { (w : Configuration) (q : ReqSetup) (older : List (List ℕ)) (rows : List Row)
         (d : Dialogue) (h : History) → judged.StandsFor ends.now w q older rows → Walks w q older d
-        → ((slice_index body.now 0 == 5) ≡ true → repeats ≡ is_repeat (kept_of h) tag (drop 1 body.now))
-        → ((slice_index body.now 0 == 5) ≡ false
+        → ((slice_index body.now 0 == SPDM) ≡ true → repeats ≡ is_repeat (kept_of h) tag (drop 1 body.now))
+        → ((slice_index body.now 0 == SPDM) ≡ false
         → (kept ≡ is_kept_record h (drop 1 body.now))
         × (live ≡ is_live (session_of (id_in_record (drop 1 body.now)) h))
         × ((held : Held) → ends.now.fetched ≡ Some (fetch.InClear held) → ⊥))
-        → result ≡ (if slice_index body.now 0 == 5 then is_taken_by h d.responder tag (drop 1 body.now)
+        → result ≡ (if slice_index body.now 0 == SPDM then is_taken_by h d.responder tag (drop 1 body.now)
         else is_touched_by h d.responder (drop 1 body.now) answer.now) }
 {
     let message = behind_type(body);

@@ -24,6 +24,8 @@ use Rattle.capture_machine.specs.LargeAnswers.{judging, place_named, takes_get, 
 use Rattle.capture_machine.specs.Opening.{turn_in}
 use Rattle.capture_machine.specs.Rounds.{Dialogue, Round}
 use Rattle.world_machine.specs.Setup.{Configuration, known_of}
+use Rattle.spdm_grammar.specs.declared.names.TheConstants.{MAX_PADDING}
+use Rattle.spdm_grammar.specs.declared.names.message_type.TheConstants.{SPDM}
 
 -- The outcome gives a chunk of a large response.
 abbrev pub gives_chunk : Outcome → Bool
@@ -94,9 +96,9 @@ text_with r h body whole sealed =
 -- as the answer to the request, and a padding of at most 16 bytes.
 abbrev pub ShowsChunk : RspSetup → History → (body answer whole : List ℕ) → Type 0
 ShowsChunk r h body answer whole =
-    (handle : ℕ) × MatchBool (slice_index body 0 == 5)
+    (handle : ℕ) × MatchBool (slice_index body 0 == SPDM)
     (answer ≡ clear_body (chunk_given h body whole handle))
-    ((pad : List ℕ) × (length pad ≤ 16) × (text_with r h body whole (drop 1 answer) ≡ plain_text (5 ∷ chunk_given h body whole handle) pad))
+    ((pad : List ℕ) × (length pad ≤ MAX_PADDING) × (text_with r h body whole (drop 1 answer) ≡ plain_text (SPDM ∷ chunk_given h body whole handle) pad))
 
 -- In a walk in which some bytes are fetched, an answer that gives a chunk shows their next one.
 abbrev pub ChunkIsShown : Type 0
@@ -115,6 +117,6 @@ LastShowsChunk = (c : Configuration) (q : ReqSetup) (older : List (List ℕ)) (d
 -- What an answer to a record holds depends on no byte of them: it is opened alike, whatever it is.
 abbrev pub TextIsAlike : Type 0
 TextIsAlike = (c : Configuration) (q : ReqSetup) (older : List (List ℕ)) (d : Dialogue) (w v : List ℕ) (round : Round) (sealed : List ℕ)
-    → Walks c q older d → d.fetching ≡ Some w → d.round ≡ Some round → (slice_index round.body 0 == 5) ≡ false
+    → Walks c q older d → d.fetching ≡ Some w → d.round ≡ Some round → (slice_index round.body 0 == SPDM) ≡ false
     → ArePending d.responder round.body w v
     → text_with (towards c.responder (known_of d.setup)) d.responder round.body w sealed ≡ text_with (towards c.responder (known_of d.setup)) d.responder round.body v sealed

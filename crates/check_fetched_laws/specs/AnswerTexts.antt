@@ -12,14 +12,15 @@ use Rattle.spdm_machine.specs.Bodies.{record_body}
 use Rattle.check_fetched_laws.specs.AlikeAnswers.{text_with}
 use Rattle.check_fetched_laws.specs.JudgedFor.{JudgesFor}
 use Rattle.capture_machine.specs.LargeAnswers.{place_named, with_large}
+use Rattle.spdm_grammar.specs.declared.names.message_type.TheConstants.{SPDM}
 
 -- A text holds this SPDM message, and some padding.
 abbrev pub Holds : (text message : List ℕ) → Type 0
-Holds text message = (pad : List ℕ) × (text ≡ plain_text (5 ∷ message) pad)
+Holds text message = (pad : List ℕ) × (text ≡ plain_text (SPDM ∷ message) pad)
 
 -- It holds none.
 abbrev pub HoldsNone : (text : List ℕ) → Type 0
-HoldsNone text = (message pad : List ℕ) → length message < 65535 → text ≡ plain_text (5 ∷ message) pad → ⊥
+HoldsNone text = (message pad : List ℕ) → length message < 65535 → text ≡ plain_text (SPDM ∷ message) pad → ⊥
 
 -- The history with these bytes as the large response of the session that a record names.
 abbrev pub history_for : History → (request whole : List ℕ) → History

@@ -19,6 +19,7 @@ use Rattle.capture_machine.specs.Difference.{CompletesApart, RepliesApart, is_ap
 use Rattle.capture_machine.specs.LargeAnswers.{place_named, seen, with_large}
 use Rattle.capture_machine.specs.Rounds.{Dialogue, Round}
 use Rattle.world_machine.specs.Setup.{Configuration, known_of}
+use Rattle.spdm_grammar.specs.declared.names.message_type.TheConstants.{SPDM}
 
 -- The request of an entry whose answer was not seen leads, after these drops, to other bytes as its large response at
 -- the drops and the values that the whole shows, which are allowed.
@@ -43,12 +44,12 @@ pub record IsLastApart (r : RspSetup) (h : History) (round : Round) (answer whol
 -- whether verify data are alone wrong. The heartbeat period is a byte.
 abbrev pub LastApartIsShown : Type 0
 LastApartIsShown = (r : RspSetup) (d : Dialogue) (round : Round) (answer whole : List ℕ) (gets : List Entry) (entry : Entry) (before : History)
-    → r.beat < 256 → d.fetching ≡ Some whole → (slice_index round.body 0 == 5) ≡ true
+    → r.beat < 256 → d.fetching ≡ Some whole → (slice_index round.body 0 == SPDM) ≡ true
     → AreGets gets → IsUnseenRequest entry → d.responder ≡ gets ++ entry ∷ before
     → CompletesApart r d round answer ↔ IsLastApart r d.responder round answer whole entry before (verify_size d)
 
 -- No other answer in the clear is apart meanwhile.
 abbrev pub RepliesAreNotApart : Type 0
 RepliesAreNotApart = (c : Configuration) (q : ReqSetup) (older : List (List ℕ)) (d : Dialogue) (whole : List ℕ) (round : Round) (answer : List ℕ)
-    → Walks c q older d → d.fetching ≡ Some whole → d.round ≡ Some round → (slice_index round.body 0 == 5) ≡ true
+    → Walks c q older d → d.fetching ≡ Some whole → d.round ≡ Some round → (slice_index round.body 0 == SPDM) ≡ true
     → RepliesApart (towards c.responder (known_of d.setup)) d round answer → ⊥

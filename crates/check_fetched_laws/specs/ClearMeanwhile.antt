@@ -26,6 +26,7 @@ use Rattle.check_laws.specs.Walks.{Walks}
 use Rattle.responder_machine.specs.Refusal.{has_pending}
 use Rattle.check_late_laws.specs.Fetching.{Fetching, IsFetchingOf}
 use Rattle.check_late_laws.specs.FetchingLaws.{TurnsFetching}
+use Rattle.spdm_grammar.specs.declared.names.message_type.TheConstants.{SPDM}
 
 -- A repeat is answered with the stored reply, and nothing changes.
 abbrev pub RepeatGoesSame : Type 0
@@ -91,7 +92,7 @@ VersionBeginsNone = (r : RspSetup) (d : Dialogue) (whole : List ℕ) (round : Ro
 abbrev pub NoneTurnsInClear : Type 0
 NoneTurnsInClear = (w : Configuration) (q : ReqSetup) (older : List (List ℕ)) (f next : Fetching) (round : Round) (route : RouteFields) (answer : List ℕ)
     → 6 ≤ (responder_for w f.kept).transfer → IsFetchingOf w q older f → f.kept.round ≡ Some round
-    → (slice_index round.body 0 == 5) ≡ true → round.body ≢ clear_body (canonical_request GetVersion)
+    → (slice_index round.body 0 == SPDM) ≡ true → round.body ≢ clear_body (canonical_request GetVersion)
     → TurnsFetching w f (Whole route answer) next → ⊥
 
 -- In a walk no large response is pending in the clear, as what is kept of the responder says it: while one is fetched

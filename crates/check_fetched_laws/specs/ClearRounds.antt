@@ -13,6 +13,7 @@ use Rattle.check_late_laws.specs.Fetching.{Fetching, IsFetchingOf}
 use Rattle.capture_machine.specs.LargeAnswers.{place_named}
 use Rattle.capture_machine.specs.Rounds.{Dialogue, Round}
 use Rattle.world_machine.specs.Setup.{Configuration, known_of}
+use Rattle.spdm_grammar.specs.declared.names.message_type.TheConstants.{SPDM}
 
 -- A round in the clear is GET_VERSION; or a repeat; or CHUNK_GET for the next chunk of these bytes.
 abbrev pub IsClearRound : RspSetup → History → (whole : List ℕ) → Round → Type 0
@@ -24,7 +25,7 @@ IsClearRound r h whole round =
 -- In a walk in which some bytes are fetched, a round in the clear is one of these three.
 abbrev pub GetIsNext : Type 0
 GetIsNext = (c : Configuration) (q : ReqSetup) (older : List (List ℕ)) (d : Dialogue) (whole : List ℕ) (round : Round)
-    → Walks c q older d → d.fetching ≡ Some whole → d.round ≡ Some round → (slice_index round.body 0 == 5) ≡ true
+    → Walks c q older d → d.fetching ≡ Some whole → d.round ≡ Some round → (slice_index round.body 0 == SPDM) ≡ true
     → IsClearRound (towards c.responder (known_of d.setup)) d.responder whole round
 
 -- While a large response is fetched there is a round, which is GET_VERSION, or went to the place where the answer is

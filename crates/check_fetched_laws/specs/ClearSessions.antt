@@ -14,6 +14,7 @@ use Rattle.spdm_machine.specs.Sessions.{is_past_handshake}
 use Rattle.capture_machine.specs.CapturedAnswers.{MayLeadTo}
 use Rattle.capture_machine.specs.LargeAnswers.{is_large, is_unseen_effect, unseen}
 use Rattle.capture_machine.specs.Opening.{opens_answering}
+use Rattle.spdm_grammar.specs.declared.names.message_type.TheConstants.{SPDM}
 
 -- ---- What came.
 
@@ -44,7 +45,7 @@ IsUnseenRequest _ = ⊥
 
 -- So LargeResponse leaves it.
 abbrev pub LargeIsUnseen : Type 0
-LargeIsUnseen = (r : RspSetup) (h : History) (tag : ℕ) (body : List ℕ) (entry : Entry) → (slice_index body 0 == 5) ≡ true
+LargeIsUnseen = (r : RspSetup) (h : History) (tag : ℕ) (body : List ℕ) (entry : Entry) → (slice_index body 0 == SPDM) ≡ true
     → MayLeadTo r h tag body (Adds entry) → is_large entry ≡ true → IsUnseenRequest (unseen entry)
 
 -- ---- The session in its handshake.

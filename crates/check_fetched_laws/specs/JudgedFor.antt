@@ -23,6 +23,7 @@ use Rattle.capture_machine.specs.CapturedAnswers.{MayLeadTo}
 use Rattle.capture_machine.specs.LargeAnswers.{is_large, place_named, unseen, with_large}
 use Rattle.capture_machine.specs.Rounds.{Dialogue, Round}
 use Rattle.world_machine.specs.Setup.{Configuration}
+use Rattle.spdm_grammar.specs.declared.names.message_type.TheConstants.{SPDM}
 
 -- It stands for this history, in which a large response of the place was not seen, with these bytes as that answer.
 abbrev pub JudgesFor : Connection → RspSetup → History → (place : Option ℕ) → (whole : List ℕ) → Type 0
@@ -56,7 +57,7 @@ PendingIsFetched = (c : Configuration) (q : ReqSetup) (older : List (List ℕ)) 
 abbrev pub PendingIsMeasured : Type 0
 PendingIsMeasured = (c : Configuration) (q : ReqSetup) (older : List (List ℕ)) (d : Dialogue) (whole : List ℕ) (round : Round)
     → Walks c q older d → d.fetching ≡ Some whole → d.round ≡ Some round → has_pending (place_with d.responder round.body whole) ≡ true
-    → (slice_index round.body 0 == 5) ≡ false → IsMeasured (id_in_record (drop 1 round.body)) d.responder whole
+    → (slice_index round.body 0 == SPDM) ≡ false → IsMeasured (id_in_record (drop 1 round.body)) d.responder whole
 
 -- ---- How it begins.
 

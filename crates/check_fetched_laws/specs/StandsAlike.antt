@@ -27,6 +27,7 @@ use Rattle.capture_machine.specs.LargeAnswers.{is_large}
 use Rattle.capture_machine.specs.Rounds.{Dialogue, no_draw}
 use Rattle.world_machine.specs.Setup.{Configuration, known_of}
 use Rattle.responder_machine.specs.Answer.{version_answer}
+use Rattle.spdm_grammar.specs.declared.names.message_type.TheConstants.{SPDM}
 
 -- They have the same turns in the clear, kept message, sessions, ended record and queue.
 pub record AreAlike (h g : History) : Type 0 where
@@ -70,7 +71,7 @@ VersionIsGiven = (r : RspSetup) (h : History) (tag : ℕ) (outcome : Outcome) �
 
 -- An answer in the clear goes by LargeResponse only where sizes are known.
 abbrev pub LargeIsSized : Type 0
-LargeIsSized = (r : RspSetup) (h : History) (tag : ℕ) (body : List ℕ) (entry : Entry) → (slice_index body 0 == 5) ≡ true
+LargeIsSized = (r : RspSetup) (h : History) (tag : ℕ) (body : List ℕ) (entry : Entry) → (slice_index body 0 == SPDM) ≡ true
     → MayLeadTo r h tag body (Adds entry) → is_large entry ≡ true → sizes_are_known (phase_of (clear_turns h)) ≡ true
 
 -- In a walk in which a large response is fetched in the clear, the responder takes messages of four bytes, and

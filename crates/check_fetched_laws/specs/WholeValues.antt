@@ -14,12 +14,13 @@ use Rattle.check_laws.specs.AnswersShown.{LeadsAt, values_shown_by}
 use Rattle.check_laws.specs.LargeShown.{whole_of}
 use Rattle.capture_machine.specs.CapturedAnswers.{MayLeadTo}
 use Rattle.capture_machine.specs.LargeAnswers.{is_large}
+use Rattle.spdm_grammar.specs.declared.names.message_type.TheConstants.{SPDM}
 
 -- The values in the fields of the whole answer to a body; what it does not show stays as it is in these.
 abbrev pub body_whole : RspSetup → History → (body : List ℕ) → Free → (whole : List ℕ) → Free
 body_whole r h body f whole =
     let s = session_of (id_in_record (drop 1 body)) h in
-    if slice_index body 0 == 5 then clear_whole (clear_place h) (drop 1 body) f whole (chunk_in (request_at (clear_place h) (drop 1 body)))
+    if slice_index body 0 == SPDM then clear_whole (clear_place h) (drop 1 body) f whole (chunk_in (request_at (clear_place h) (drop 1 body)))
     else whole_values (session_place s) (drop 1 (opened r.psk s (drop 1 body))) f whole
 
 -- The values that LargeResponse and the whole answer show together: the handle and the padding of a record stand in the

@@ -1,10 +1,12 @@
 ghost use Rattle.std.specs.Prelude.{◌≤◌, MatchOption, length};
 ghost use Rattle.check_fetched_laws.specs.AnswerTexts.{Holds, HoldsNone, IsReadBy};
+ghost use Rattle.secured_record.specs.declared.TheConstants.{MAX_RECORD_SIZE, MIN_RECORD_SIZE};
 
 use byteorder::{ByteOrder, LittleEndian};
 use responder_core::Connection;
-use session_keys::{SPDM_MESSAGE, behind_type, byte_at};
+use session_keys::{behind_type, byte_at};
 use spdm_basis::RecordFrame;
+use spdm_grammar::names::message_type::SPDM;
 
 // The bytes of the length before an inner message.
 const SIZE_BYTES: usize = 2;
@@ -18,7 +20,7 @@ pub fn message_in(text: &[u8]) -> Option<&[u8]>
         return None;
     }
     let inner = text.split_at(SIZE_BYTES).1.split_at(size).0;
-    if byte_at(inner, 0) != SPDM_MESSAGE {
+    if byte_at(inner, 0) != SPDM {
         return None;
     }
     Some(behind_type(inner))
@@ -34,8 +36,8 @@ pub fn read_answer(
     sealed: &[u8],
     text: &mut RecordFrame,
 ) -> bool
-    requires least { 26 ≤ length sealed.now }
-    requires most { length sealed.now ≤ 4160 }
+    requires least { MIN_RECORD_SIZE ≤ length sealed.now }
+    requires most { length sealed.now ≤ MAX_RECORD_SIZE }
     ensures { IsReadBy connection.now request.now sealed.now text.new result }
 {
     let mut inner = RecordFrame::new();

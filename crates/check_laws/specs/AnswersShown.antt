@@ -30,6 +30,7 @@ use Rattle.capture_machine.specs.CapturedAnswers.{MayLeadTo, answer_to}
 use Rattle.capture_machine.specs.LargeAnswers.{is_large, unseen}
 use Rattle.capture_machine.specs.Opening.{turn_in}
 use Rattle.capture_machine.specs.Rounds.{no_draw}
+use Rattle.spdm_grammar.specs.declared.names.message_type.TheConstants.{SPDM}
 
 -- The least values that a responder may choose at a place: the least free id, and the shortest of all else.
 abbrev pub least_values : History → Place → Free
@@ -127,7 +128,7 @@ record_values r h request sealed =
 -- Where nothing is added to the history, nothing was chosen.
 abbrev pub values_for : RspSetup → History → (body answer : List ℕ) → Outcome → Free
 values_for r h body answer (Adds entry) =
-    if slice_index body 0 == 5 then clear_values r h (drop 1 body) (drop 1 answer)
+    if slice_index body 0 == SPDM then clear_values r h (drop 1 body) (drop 1 answer)
     else record_values r h (drop 1 body) (drop 1 answer)
 values_for r h body answer _ = least_values h (place_for h body)
 

@@ -15,6 +15,7 @@ use Rattle.check_laws.specs.declared.change.Change.{Change}
 use Rattle.capture_machine.specs.Rounds.{Dialogue, Round}
 use Rattle.world_machine.specs.Setup.{Configuration}
 use Rattle.capture_machine.specs.SessionTable.{accepted_between, has_begun, is_new, last_begun}
+use Rattle.spdm_grammar.specs.declared.names.TheConstants.{MAX_SESSIONS}
 
 -- The RspSessionID of the session that was begun.
 abbrev pub begun_between : Dialogue → Dialogue → Option ℕ
@@ -66,7 +67,7 @@ pub record IsChange (change : Change) (before after : Dialogue) : Type 0 where
 
 -- One of the four ids that a session may have.
 abbrev pub IsFew : ℕ → Type 0
-IsFew id = (1 ≤ id) × (id ≤ 4)
+IsFew id = (1 ≤ id) × (id ≤ MAX_SESSIONS)
 
 -- What holds of each packet of a walk: the set-up stays; a session that was begun is live; and it has one of the four
 -- ids, as has one that the requester accepts.

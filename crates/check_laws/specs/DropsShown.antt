@@ -11,6 +11,7 @@ use Rattle.check_laws.specs.AnswersShown.{LeadsAt, values_shown_by}
 use Rattle.capture_machine.specs.CapturedAnswers.{AnswersPlainly, belongs_to, is_plain}
 use Rattle.capture_machine.specs.LargeAnswers.{judging}
 use Rattle.capture_machine.specs.Rounds.{Dialogue, Round, no_draw}
+use Rattle.spdm_grammar.specs.declared.names.message_type.TheConstants.{SPDM}
 
 -- The session of this id is live and timed, so it may have been dropped without a trace.
 abbrev pub may_be_dropped : History → ℕ → Bool
@@ -41,14 +42,14 @@ clear_drops h tag m reply = if is_repeat (kept_of h) tag m then [] else dropped_
 abbrev pub record_drops : RspSetup → History → (request answer : List ℕ) → List ℕ
 record_drops r h request answer =
     let id = id_in_record request in
-    if slice_index answer 0 == 5 && (belongs_to r (session_of id h) request && may_be_dropped h id) then id ∷ [] else []
+    if slice_index answer 0 == SPDM && (belongs_to r (session_of id h) request && may_be_dropped h id) then id ∷ [] else []
 
 -- ---- A body.
 
 -- The sessions that an answer to a body shows as dropped.
 unfoldable pub drops_shown_by : RspSetup → History → ℕ → (body answer : List ℕ) → List ℕ
 drops_shown_by r h tag body answer =
-    if slice_index body 0 == 5 then clear_drops h tag (drop 1 body) (drop 1 answer) else record_drops r h (drop 1 body) answer
+    if slice_index body 0 == SPDM then clear_drops h tag (drop 1 body) (drop 1 answer) else record_drops r h (drop 1 body) answer
 
 -- ---- The law.
 

@@ -10,10 +10,11 @@ use Rattle.capture_machine.specs.CapturedRequests.{owes}
 use Rattle.capture_machine.specs.Difference.{is_copy}
 use Rattle.capture_machine.specs.Rounds.{Dialogue, dialogue_at}
 use Rattle.world_machine.specs.Setup.{Configuration}
+use Rattle.spdm_grammar.specs.declared.names.message_type.TheConstants.{SECURED}
 
 -- It completes the record that is owed. Each walk has a padding for it, and the record shows which.
 abbrev pub shows_padding : Dialogue → Gathered → Bool
-shows_padding d (Whole route body) = owes d && (body_type body == 6 && not (is_copy d.round route.tag body))
+shows_padding d (Whole route body) = owes d && (body_type body == SECURED && not (is_copy d.round route.tag body))
 shows_padding d _ = false
 
 -- ---- One dialogue.

@@ -24,6 +24,7 @@ use Rattle.capture_machine.specs.CapturedRequests.{Tells, owes, without_owed}
 use Rattle.requester_machine.specs.Owed.{with_next}
 use Rattle.capture_machine.specs.Rounds.{Dialogue, Round, following_tag, new_dialogue, new_round}
 use Rattle.world_machine.specs.Setup.{Configuration}
+use Rattle.spdm_grammar.specs.declared.names.TheConstants.{MAX_PADDING}
 
 -- How the requester is set up; what it was told and took, without the message that it owes; that message, with no
 -- padding; what the responder took from it; and the last round.
@@ -80,7 +81,7 @@ owed_with k pad sent = sent_with k.setup.psk (session_of (session_asked sent.aim
 
 abbrev pub GoesOnKept : Kept → List ℕ → History → Type 0
 GoesOnKept k body after =
-    (sent : Sent) × (pad : List ℕ) × (k.owed ≡ Some sent) × (length pad ≤ 16)
+    (sent : Sent) × (pad : List ℕ) × (k.owed ≡ Some sent) × (length pad ≤ MAX_PADDING)
     × (begins_large sent.aim ≡ false)
     × (body_of (owed_with k pad sent).content ≡ body)
     × (after ≡ with_next (Some (owed_with k pad sent)) k.requester)

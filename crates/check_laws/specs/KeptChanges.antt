@@ -16,6 +16,7 @@ use Rattle.check_laws.specs.RepliesShown.{AnswersRound, no_values, replied, resp
 use Rattle.capture_machine.specs.Rounds.{Round, no_draw}
 use Rattle.capture_machine.specs.SessionTable.{accepted_between}
 use Rattle.world_machine.specs.Setup.{Configuration}
+use Rattle.spdm_grammar.specs.declared.names.message_type.TheConstants.{SPDM}
 
 -- ---- A request.
 
@@ -34,7 +35,7 @@ KeptRoundIsRequest = (k next : Kept) (tag : ℕ) (body : List ℕ) → BeginsKep
 -- acknowledgement, and no repeat.
 abbrev pub begun_shown : History → ℕ → (body answer : List ℕ) → Option ℕ
 begun_shown h tag body answer =
-    if slice_index body 0 == 5 && not (is_repeat (kept_of h) tag (drop 1 body)) then id_begun (response_of (drop 1 answer)) else None
+    if slice_index body 0 == SPDM && not (is_repeat (kept_of h) tag (drop 1 body)) then id_begun (response_of (drop 1 answer)) else None
 
 -- The record is the last one of the ended session, or of the session that it names, and gets its reply again.
 abbrev pub is_kept_record : History → (sealed : List ℕ) → Bool
@@ -43,7 +44,7 @@ is_kept_record h sealed = repeats (ended_of h) sealed || repeats (last_of (sessi
 -- The RspSessionID in a record that its session took: the answer is a record too, and no repeat.
 abbrev pub taken_shown : History → (body answer : List ℕ) → Option ℕ
 taken_shown h body answer =
-    if slice_index body 0 == 5 || (slice_index answer 0 == 5 || is_kept_record h (drop 1 body)) then None else Some (id_in_record (drop 1 body))
+    if slice_index body 0 == SPDM || (slice_index answer 0 == SPDM || is_kept_record h (drop 1 body)) then None else Some (id_in_record (drop 1 body))
 
 -- The ReqSessionID of the PSK_EXCHANGE whose answer the requester takes by an answer.
 unfoldable pub accepted_from : Kept → ℕ → (answer : List ℕ) → Option ℕ

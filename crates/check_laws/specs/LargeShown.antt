@@ -13,6 +13,7 @@ use Rattle.check_laws.specs.DropsShown.{may_be_dropped}
 use Rattle.capture_machine.specs.CapturedAnswers.{AnswersLarge}
 use Rattle.capture_machine.specs.LargeAnswers.{gives_last, judging, unseen}
 use Rattle.capture_machine.specs.Rounds.{Dialogue, Round, no_draw}
+use Rattle.spdm_grammar.specs.declared.names.message_type.TheConstants.{SPDM}
 
 -- ---- The last chunk of a large answer.
 
@@ -41,7 +42,7 @@ first_dropped h (id ∷ ids) = if may_be_dropped h id then id ∷ [] else first_
 -- Beside four established sessions an exchange gets LargeResponse only where one of them was dropped. Nothing shows
 -- which, and none counts as dropped after it, so the first that may have been stands for each.
 abbrev pub drops_before : History → (body : List ℕ) → List ℕ
-drops_before h body = if slice_index body 0 == 5 && held_of h == 4 then first_dropped h (1 ∷ 2 ∷ 3 ∷ 4 ∷ []) else []
+drops_before h body = if slice_index body 0 == SPDM && held_of h == 4 then first_dropped h (1 ∷ 2 ∷ 3 ∷ 4 ∷ []) else []
 
 -- What a body leads to after these drops, at the values that an answer shows.
 unfoldable pub large_shown : RspSetup → History → ℕ → (body answer : List ℕ) → Outcome

@@ -10,6 +10,7 @@ use Rattle.check_laws.specs.Walks.{Walks}
 use Rattle.capture_machine.specs.CapturedRequests.{owes}
 use Rattle.capture_machine.specs.Rounds.{Dialogue}
 use Rattle.world_machine.specs.Setup.{Configuration}
+use Rattle.spdm_grammar.specs.declared.names.TheConstants.{MAX_PADDING}
 
 -- The session that a message asks something of; 0 where it asks nothing of one.
 abbrev pub session_asked : Aim → ℕ
@@ -30,9 +31,9 @@ with_padding pad d = record d { requester = with_next (next_with d.setup.psk d.r
 -- bytes.
 abbrev pub PaddingIsFree : Type 0
 PaddingIsFree = (w : Configuration) (q : ReqSetup) (older : List (List ℕ)) (d : Dialogue) (pad : List ℕ)
-    → Walks w q older d → owes d ≡ true → length pad ≤ 16 → Walks w q older (with_padding pad d)
+    → Walks w q older d → owes d ≡ true → length pad ≤ MAX_PADDING → Walks w q older (with_padding pad d)
 
 -- A message that is owed has a padding of at most 16 bytes, and is what it would be with that.
 abbrev pub OwedIsPadded : Type 0
 OwedIsPadded = (w : Configuration) (q : ReqSetup) (older : List (List ℕ)) (d : Dialogue)
-    → Walks w q older d → owes d ≡ true → (pad : List ℕ) × (length pad ≤ 16) × (with_padding pad d ≡ d)
+    → Walks w q older d → owes d ≡ true → (pad : List ℕ) × (length pad ≤ MAX_PADDING) × (with_padding pad d ≡ d)

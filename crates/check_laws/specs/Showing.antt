@@ -18,6 +18,7 @@ use Rattle.spdm_grammar.specs.Requests.{canonical_request}
 use Rattle.spdm_machine.specs.Bodies.{clear_body, record_body}
 use Rattle.check_laws.specs.Keeping.{CommandsKept, Kept}
 use Rattle.capture_machine.specs.Rounds.{no_draw}
+use Rattle.spdm_grammar.specs.declared.names.TheConstants.{MAX_PADDING}
 
 -- The command that sends such a request in the clear; none sends the others so.
 abbrev pub command_shown : RequestMessage → Option Command
@@ -63,7 +64,7 @@ inner_for h _ = None
 abbrev pub IsCommandedIn : ReqSetup → History → List ℕ → Type 0
 IsCommandedIn q h sealed =
     (command : Command) × (id : ℕ) × (inner : List ℕ) × (pad : List ℕ)
-    × (inner_for h command ≡ Some (id, inner)) × (length pad ≤ 16)
+    × (inner_for h command ≡ Some (id, inner)) × (length pad ≤ MAX_PADDING)
     × (command_fault false q h command (values_shown EndSession) ≡ None)
     × (sealed ≡ sealed_next q.psk (session_of id h) inner pad)
 

@@ -3,6 +3,7 @@ ghost use Rattle.std.specs.Bool.{Decides};
 ghost use Rattle.spdm_grammar.specs.Message.RequestMessage.{GetVersion};
 ghost use Rattle.spdm_grammar.specs.Requests.{canonical_request};
 ghost use Rattle.spdm_machine.specs.Bodies.{clear_body};
+ghost use Rattle.spdm_grammar.specs.declared.names.message_type.TheConstants.{SECURED, SPDM};
 
 use spdm_grammar::names::message_type::{SECURED, SPDM};
 
@@ -21,14 +22,14 @@ pub fn byte_at(body: &[u8], at: usize) -> u8
 
 // Whether a body is an SPDM message in the clear.
 pub fn is_clear(body: &[u8]) -> bool
-    ensures { result ≡ (slice_index body.now 0 == 5) }
+    ensures { result ≡ (slice_index body.now 0 == SPDM) }
 {
     byte_at(body, 0) == SPDM
 }
 
 // Whether it is a secured record.
 pub fn is_secured(body: &[u8]) -> bool
-    ensures { result ≡ (slice_index body.now 0 == 6) }
+    ensures { result ≡ (slice_index body.now 0 == SECURED) }
 {
     byte_at(body, 0) == SECURED
 }

@@ -4,6 +4,7 @@ ghost use Rattle.capture_machine.specs.SessionTable.{is_named};
 
 use crate::Seen;
 use spdm_grammar::SessionView;
+use spdm_grammar::names::SESSION_PLACES;
 
 /// What a packet changed between a requester and the responder, as far as rows of the table of sessions depend on it.
 #[derive(Debug, Drop)]
@@ -17,7 +18,7 @@ pub struct Change {
     /// The ReqSessionID of the session of a record by which a round began.
     pub asked: Option<u16>,
     /// The sessions with the RspSessionIDs from 1 to 4, where they are live at the responder.
-    pub views: [Option<SessionView>; 4],
+    pub views: [Option<SessionView>; SESSION_PLACES],
 }
 
 // Whether there is an id, and it is this one.

@@ -6,6 +6,7 @@ ghost use Rattle.spdm_machine.specs.Packets.{gathered_from};
 ghost use Rattle.check_laws.specs.Judged.{IsPair, IsTold, answered_of, asked_of, waiting_in};
 ghost use Rattle.check_laws.specs.Order.{answered_why, asked_why, is_answer, is_request, round_answered, round_by_request, round_of};
 ghost use Rattle.capture_machine.specs.Difference.{is_other_type};
+ghost use Rattle.spdm_grammar.specs.declared.names.TheConstants.{MAX_BODY_SIZE};
 
 use crate::{Brought, Round};
 use mctp_framing::{Assembler, Fed, PacketView, Route};
@@ -39,7 +40,7 @@ fn is_other_type(body: &[u8]) -> bool
 fn take_asked(round: &mut Round, eid: u8, route: Route, body: &[u8]) -> Result<Brought, Why>
     ensures told { IsTold (asked_why round.old (Whole (route_of route) body.now))
         (asked_of eid round.old (Whole (route_of route) body.now)) result }
-    ensures round { waiting_in round.old < 2 ^ 64 - 1 → length body.now ≤ 4161 → OnOk result
+    ensures round { waiting_in round.old < 2 ^ 64 - 1 → length body.now ≤ MAX_BODY_SIZE → OnOk result
         (round.new ≡ round_by_request round.old (Whole (route_of route) body.now)) }
 {
     if is_other_type(body) {

@@ -2,14 +2,15 @@ ghost use Rattle.std.specs.Prelude.{◌≡◌, ◌<◌};
 
 use crate::Change;
 use crate::change::is_named;
+use spdm_grammar::names::{MAX_SESSIONS, SESSION_PLACES};
 
 /// Where the entries of one requester stand in the table of sessions, counted from 0.
 #[derive(Debug, Drop)]
 pub struct Places {
     // Of the live sessions, by the RspSessionIDs from 1 to 4.
-    pub(crate) live: [Option<usize>; 4],
+    pub(crate) live: [Option<usize>; SESSION_PLACES],
     // Of those that still have a ReqSessionID, by the ReqSessionIDs from 1 to 4.
-    pub(crate) asks: [Option<usize>; 4],
+    pub(crate) asks: [Option<usize>; SESSION_PLACES],
 }
 
 impl Places {
@@ -33,7 +34,7 @@ impl Places {
         ensures { result ≡ kept_for self.now.asks id }
     {
         match id {
-            Some(id) if id > 0 && id <= 4 => self.asks[usize::from(id) - 1],
+            Some(id) if id > 0 && id <= MAX_SESSIONS => self.asks[usize::from(id) - 1],
             _ => None,
         }
     }

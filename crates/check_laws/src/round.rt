@@ -6,10 +6,12 @@ ghost use Rattle.check_laws.specs.Order.{asks_wrong, replies_wrong, round_answer
 ghost use Rattle.capture_machine.specs.Capture.{may_begin};
 ghost use Rattle.capture_machine.specs.Difference.{is_copy, is_get_version, may_come};
 ghost use Rattle.capture_machine.specs.Rounds.{following_tag};
+ghost use Rattle.spdm_grammar.specs.declared.names.TheConstants.{MAX_BODY_SIZE};
 
 use spdm_basis::Buffer;
 use spdm_codec::read_request;
 use spdm_grammar::Request;
+use spdm_grammar::names::MAX_BODY_SIZE;
 use spdm_grammar::names::message_type::SPDM;
 use std::marker::Model;
 
@@ -26,7 +28,7 @@ const GET_VERSION: &[u8] = &[SPDM, 0x10, 0x84, 0, 0];
 pub struct Round {
     begun: bool,
     tag: u8,
-    body: Buffer<4161>,
+    body: Buffer<MAX_BODY_SIZE>,
     waiting: u64,
     answered: bool,
 }
@@ -144,7 +146,7 @@ impl Round {
 
     /// A request of at most 4,161 bytes came in turn: a copy of the last one, or one that begins a round.
     pub fn ask(&mut self, tag: u8, body: &[u8])
-        ensures { waiting_in self.old < 2 ^ 64 - 1 → length body.now ≤ 4161
+        ensures { waiting_in self.old < 2 ^ 64 - 1 → length body.now ≤ MAX_BODY_SIZE
             → self.new ≡ round_asked self.old tag body.now }
     {
         if self.is_copy(tag, body) {

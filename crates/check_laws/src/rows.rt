@@ -1,5 +1,6 @@
 use crate::{Change, Places, Seen, SessionTable};
 use spdm_basis::OutOfMemory;
+use spdm_grammar::names::MAX_SESSIONS;
 
 impl SessionTable {
     ghost use Rattle.std.specs.Prelude.{◌≡◌, ◌<◌, ◌-◌, ◌^◌, ◌+◌, ◌++◌, List, ℕ, IfOk, IsSome, OnErr, OnOk, length};
@@ -52,7 +53,7 @@ impl SessionTable {
         ensures memory { OnErr result (IsSome change.now.begun) }
     {
         let view = match change.begun {
-            Some(id) if id > 0 && id <= 4 => &change.views[usize::from(id) - 1],
+            Some(id) if id > 0 && id <= MAX_SESSIONS => &change.views[usize::from(id) - 1],
             _ => return Ok(None),
         };
         let Some(view) = view else {

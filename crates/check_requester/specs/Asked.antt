@@ -10,6 +10,7 @@ use Rattle.check_requester.specs.declared.asker.Asker.{Asker}
 use Rattle.capture_machine.specs.Difference.{Why, asks_apart, request_why}
 use Rattle.capture_machine.specs.Difference.Why.{BadVerify}
 use Rattle.capture_machine.specs.Rounds.{Dialogue}
+use Rattle.spdm_grammar.specs.declared.names.message_type.TheConstants.{SECURED}
 
 -- Whether it begins a round whole: then what is kept is that of the history after it.
 abbrev pub IsAskedBy : ReqSetup → Kept → (body : List ℕ) → Bool → (new : Asker) → Type 0
@@ -23,7 +24,7 @@ IsRefusedFor d body why = (asks_apart d body ≡ false) × (request_why d body �
 
 -- A body is a record, where nothing is owed and nothing outstanding.
 pub record ComesPlain (k : Kept) (body : List ℕ) : Type 0 where
-  pub secured : (slice_index body 0 == 6) ≡ true
+  pub secured : (slice_index body 0 == SECURED) ≡ true
   pub owed : k.owed ≡ None
   pub none : outstanding k.requester ≡ None
 

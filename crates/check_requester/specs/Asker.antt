@@ -18,6 +18,7 @@ use Rattle.check_requester.specs.declared.asker.Asker.{Asker}
 use Rattle.check_requester.specs.declared.asker_setup.AskerSetup.{AskerSetup}
 use Rattle.requester_machine.specs.Owed.{with_next}
 use Rattle.world_machine.specs.Setup.{Configuration}
+use Rattle.spdm_grammar.specs.declared.names.TheConstants.{MAX_PADDING}
 
 -- ---- What is kept.
 
@@ -54,7 +55,7 @@ is_first_chunk body = slice_index body 2 == CHUNK_SEND && (slice_index body 5 ==
 -- A body is the message that is owed after this history, with some padding, and leads to this history.
 abbrev pub SendsOwed : ReqSetup → (bare : History) → Sent → (body : List ℕ) → (after : History) → Type 0
 SendsOwed q bare sent body after =
-    (pad : List ℕ) × (length pad ≤ 16) × (begins_large sent.aim ≡ false)
+    (pad : List ℕ) × (length pad ≤ MAX_PADDING) × (begins_large sent.aim ≡ false)
     × (body_of (sent_with q.psk (session_of (session_asked sent.aim) bare) pad sent).content ≡ body)
     × (after ≡ with_next (Some (sent_with q.psk (session_of (session_asked sent.aim) bare) pad sent)) bare)
 

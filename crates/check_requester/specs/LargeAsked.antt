@@ -22,7 +22,7 @@ use Rattle.spdm_grammar.specs.Message.RequestMessage.{ChunkSend, GetVersion, Psk
 use Rattle.spdm_grammar.specs.Requests.{canonical_request}
 use Rattle.spdm_grammar.specs.declared.told.command_fault.CommandFault.{CommandFault}
 use Rattle.spdm_grammar.specs.declared.told.command_fault.CommandFault.TheVariants as fault
-use Rattle.spdm_grammar.specs.declared.names.TheConstants.{MAX_MESSAGE_SIZE}
+use Rattle.spdm_grammar.specs.declared.names.TheConstants.{MAX_MESSAGE_SIZE, MAX_SESSIONS}
 use Rattle.spdm_machine.specs.Bodies.{clear_body}
 use Rattle.spdm_machine.specs.Packets.{body_type}
 use Rattle.spdm_machine.specs.Terms.{hash_len}
@@ -40,6 +40,7 @@ use Rattle.capture_machine.specs.Difference.Why.{BadRecord, BadRequest}
 use Rattle.capture_machine.specs.LargeRequests.{IsLargeRequest, common_of}
 use Rattle.capture_machine.specs.Opening.{opens_asking}
 use Rattle.capture_machine.specs.Rounds.{no_draw}
+use Rattle.spdm_grammar.specs.declared.names.message_type.TheConstants.{SPDM}
 
 -- ---- Whether one may be begun by a command.
 
@@ -53,7 +54,7 @@ is_refused_late _ = false
 pub record HasRoom (h : History) : Type 0 where
   pub free : outstanding h ≡ None
   pub connected : is_negotiated (phase_of h) ≡ true
-  pub room : (live_count h == 4) ≡ false
+  pub room : (live_count h == MAX_SESSIONS) ≡ false
 
 -- The length of the shortest PSK_EXCHANGE, and whether it is no longer than the responder takes.
 abbrev pub least_length : ReqSetup → History → ℕ
@@ -154,5 +155,5 @@ pub record IsConnectedOver (q : ReqSetup) (s : Sending) (new : Asker) : Type 0 w
 -- Whatever it is, and whatever its verify data are.
 abbrev pub refused_why : ReqSetup → History → (body : List ℕ) → Why
 refused_why q h body =
-    if body_type body == 5 || opens_asking q (session_named h (drop 1 body)) (drop 1 body) then BadRequest
+    if body_type body == SPDM || opens_asking q (session_named h (drop 1 body)) (drop 1 body) then BadRequest
     else BadRecord

@@ -9,6 +9,7 @@ use Rattle.requester_machine.specs.Message.Command.{Beat, End, Measure, Send, Up
 use Rattle.requester_machine.specs.Setup.{ReqSetup}
 use Rattle.spdm_grammar.specs.declared.names.request_code.TheConstants.{END_SESSION, GET_MEASUREMENTS, HEARTBEAT, KEY_UPDATE}
 use Rattle.capture_machine.specs.CapturedRequests.{Tells}
+use Rattle.spdm_grammar.specs.declared.names.message_type.TheConstants.{SPDM}
 
 -- Whether this command sends a body: then what is kept is that of the history after it.
 abbrev pub IsSentBy : ReqSetup → History → Command → (body : List ℕ) → Bool → (new : Asking) → Type 0
@@ -31,7 +32,7 @@ request_told id code first second =
 abbrev pub command_told : (id : ℕ) → (inner : List ℕ) → Option Command
 command_told id inner =
     if slice_index inner 0 == 1 then Some (Send id (drop 1 inner))
-    else (if slice_index inner 0 == 5 then request_told id (slice_index inner 2) (slice_index inner 3) (slice_index inner 4)
+    else (if slice_index inner 0 == SPDM then request_told id (slice_index inner 2) (slice_index inner 3) (slice_index inner 4)
     else None)
 
 -- The program tells that.

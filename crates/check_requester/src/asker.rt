@@ -1,3 +1,5 @@
+ghost use Rattle.spdm_grammar.specs.declared.names.TheConstants.{MAX_BODY_SIZE};
+
 use crate::asker_setup::AskerSetup;
 use crate::owed_messages::sends_owed;
 use psk_session::InnerPair;
@@ -60,7 +62,7 @@ impl Asker {
     /// is a record. Else nothing changes.
     pub fn goes_on(&mut self, body: &[u8]) -> bool
         ensures { (w : Configuration) (q : ReqSetup) (older : List (List ℕ)) (k : Kept)
-            → Carries w q older k → length older < 2 ^ 64 - 1 → length body.now ≤ 4161
+            → Carries w q older k → length older < 2 ^ 64 - 1 → length body.now ≤ MAX_BODY_SIZE
             → IsAsker self.old q k → IsGoneOn q k body.now result self.new }
     {
         if !self.owes {

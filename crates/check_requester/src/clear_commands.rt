@@ -10,17 +10,20 @@ ghost use Rattle.spdm_grammar.specs.Message.{exchange_message, request_message};
 ghost use Rattle.spdm_machine.specs.Bodies.{clear_body};
 ghost use Rattle.check_requester.specs.Asker.{IsKeptSetup};
 ghost use Rattle.check_requester.specs.Commanded.{IsOpenedAs, IsSentByCommand, IsSentFor, IsToldAs, IsToldSome, is_in_clear, values_in};
+ghost use Rattle.spdm_grammar.specs.declared.names.TheConstants.{MAX_MESSAGE_SIZE, MAX_SESSIONS};
 
 use crate::asker_setup::AskerSetup;
 use crate::owed_messages::{LONG_CONTEXT, is_first_chunk};
 use requester_core::{Asking, Body, Command, FreeValues};
 use spdm_codec::read_request;
 use spdm_grammar::names::message_type::SPDM;
-use spdm_grammar::names::{MAX_OPAQUE_LEN, PSK_EXCHANGE_FIELDS_LEN};
+use spdm_grammar::names::{
+    MAX_MESSAGE_SIZE, MAX_OPAQUE_LEN, MAX_SESSIONS, PSK_EXCHANGE_FIELDS_LEN,
+};
 use spdm_grammar::{Exchange, Request};
 
 // The most bytes of a PSK_EXCHANGE, and of its opaque data.
-const MAX_LEN: usize = 4096;
+const MAX_LEN: usize = MAX_MESSAGE_SIZE as usize;
 
 // Whether a body is this message in the clear.
 fn is_clear_of(body: &[u8], message: &[u8]) -> bool
@@ -42,7 +45,7 @@ fn tells(
     message: &[u8],
 ) -> bool
     requires least { 1 ≤ free.now.id }
-    requires most { free.now.id ≤ 4 }
+    requires most { free.now.id ≤ MAX_SESSIONS }
     ensures { (q : ReqSetup) (h : History) (f : Free) → IsKeptSetup setup.now q
         → IsFree free.now f → f.pad ≡ [] → IsAllowed q h f → length h < 2 ^ 64 - 1
         → StandsFor asking.old q h → is_in_clear (command_of command.entry) ≡ true
@@ -80,7 +83,7 @@ fn tells_plainly(
 // Whether PSK_EXCHANGE with this context and opaque data, and with the own hint, is short enough.
 fn is_short(setup: &AskerSetup, exchange: &Exchange<'_>) -> bool
     ensures { Decides result (12 + length setup.now.hint + length exchange.now.context.now + length
-        exchange.now.opaque.now ≤ 4096) }
+        exchange.now.opaque.now ≤ MAX_MESSAGE_SIZE) }
 {
     PSK_EXCHANGE_FIELDS_LEN
         .saturating_add(setup.hint.as_slice().len())
@@ -98,10 +101,10 @@ pub(crate) fn may_open(asking: &Asking, setup: &AskerSetup, exchange: &Exchange<
         → IsAllowed q h (values_in (exchange_message exchange.now)) }
     ensures refused { (q : ReqSetup) (h : History) → IsKeptSetup setup.now q
         → length h < 2 ^ 64 - 1 → outstanding h ≡ None → StandsFor asking.now q h → result ≡ false
-        → IsAllowed q h (values_in (exchange_message exchange.now)) → live_count h ≡ 4 }
+        → IsAllowed q h (values_in (exchange_message exchange.now)) → live_count h ≡ MAX_SESSIONS }
 {
     let id = exchange.req_id;
-    if id == 0 || id > 4 {
+    if id == 0 || id > MAX_SESSIONS {
         return false;
     }
     if asking.view(id).is_some() {

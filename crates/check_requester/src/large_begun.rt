@@ -11,13 +11,13 @@ use crate::owed_messages::{LONG_CONTEXT, is_first_chunk, write_outstanding};
 use check_laws::{LargeRequest, is_secured};
 use requester_core::{Asking, Body, Command, FreeValues};
 use spdm_grammar::CommandFault;
-use spdm_grammar::names::PSK_EXCHANGE_FIELDS_LEN;
+use spdm_grammar::names::{MAX_MESSAGE_SIZE, PSK_EXCHANGE_FIELDS_LEN};
 
 // A kind of measurement summary that there is none of, so that Open is refused.
 const NO_SUMMARY: u8 = 2;
 
 // The most bytes of a PSK_EXCHANGE.
-const MAX_LEN: usize = 4096;
+const MAX_LEN: usize = MAX_MESSAGE_SIZE as usize;
 
 // Whether a command that was refused so has all else that it needs.
 fn is_refused_late(fault: CommandFault) -> bool

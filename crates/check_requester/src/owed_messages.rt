@@ -8,6 +8,7 @@ ghost use Rattle.requester_machine.specs.Message.Aim.{InSession};
 ghost use Rattle.requester_machine.specs.Setup.{ReqSetup};
 ghost use Rattle.check_requester.specs.Asker.{IsKeptSetup, IsSentOwed, is_first_chunk};
 ghost use Rattle.requester_machine.specs.Owed.{with_next};
+ghost use Rattle.spdm_grammar.specs.declared.names.TheConstants.{MAX_BODY_SIZE};
 
 use crate::asker_setup::AskerSetup;
 use check_laws::byte_at;
@@ -50,7 +51,7 @@ pub(crate) fn write_outstanding(asking: &mut Asking, setup: &AskerSetup, room: &
 // Takes a body as the record that is owed.
 fn take_record(asking: &mut Asking, pair: &mut InnerPair, body: &[u8]) -> bool
     ensures { (q : ReqSetup) (bare : History) (sent : Sent) (id : ℕ) (ask : message.Ask)
-        → TookLast bare id → sent.aim ≡ InSession id ask → length body.now ≤ 4161
+        → TookLast bare id → sent.aim ≡ InSession id ask → length body.now ≤ MAX_BODY_SIZE
         → StandsFor asking.old q (with_next (Some sent) bare)
         → IsSentOwed q bare sent body.now result asking.new }
 {
@@ -70,7 +71,7 @@ pub(crate) fn sends_owed(
     body: &[u8],
 ) -> bool
     ensures { (q : ReqSetup) (bare : History) (sent : Sent) → IsKeptSetup setup.now q
-        → TookFor bare sent.aim → length bare < 2 ^ 64 - 1 → length body.now ≤ 4161
+        → TookFor bare sent.aim → length bare < 2 ^ 64 - 1 → length body.now ≤ MAX_BODY_SIZE
         → StandsFor asking.old q (with_next (Some sent) bare)
         → IsSentOwed q bare sent body.now result asking.new }
 {

@@ -12,6 +12,8 @@ ghost use Rattle.check_requester.specs.RefusedRequest.{IsFinishShown, finish_apa
 ghost use Rattle.capture_machine.specs.Difference as difference;
 ghost use Rattle.capture_machine.specs.Difference.{finish_in};
 ghost use Rattle.capture_machine.specs.Opening.{opens_asking};
+ghost use Rattle.spdm_grammar.specs.declared.names.TheConstants.{MAX_RECORDS};
+ghost use Rattle.secured_record.specs.declared.TheConstants.{MAX_RECORD_SIZE};
 
 use requester_core::Asking;
 use session_keys::same_bytes;
@@ -35,7 +37,7 @@ fn named_view(asking: &Asking, sealed: &[u8]) -> Option<SessionView>
 
 // Whether a key has a number left that sealed as many records as this.
 fn has_number(next: u32) -> bool
-    ensures { result ≡ nat_lt next 65536 }
+    ensures { result ≡ nat_lt next MAX_RECORDS }
 {
     next < MAX_RECORDS
 }
@@ -136,7 +138,7 @@ pub(crate) fn is_finish_apart(
 ) -> bool
     ensures { (q : ReqSetup) (bare : History) (sent : Sent) → TookFor bare sent.aim
         → length bare < 2 ^ 64 - 1 → record.now ≡ drop 1 (body_of sent.content)
-        → length record.now ≤ 4160 → StandsFor asking.now q (with_next (Some sent) bare)
+        → length record.now ≤ MAX_RECORD_SIZE → StandsFor asking.now q (with_next (Some sent) bare)
         → result ≡ finish_apart q bare sealed.now (finish_in (Some sent)) }
 {
     let Some(view) = finish_view(asking) else {

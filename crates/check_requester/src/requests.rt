@@ -1,3 +1,6 @@
+ghost use Rattle.spdm_grammar.specs.declared.names.TheConstants.{MAX_BODY_SIZE};
+ghost use Rattle.secured_record.specs.declared.TheConstants.{MAX_RECORD_SIZE};
+
 use crate::Asker;
 use crate::owed_messages::write_outstanding;
 use crate::request_reasons::{is_finish_apart, opens_before, opens_next};
@@ -26,7 +29,7 @@ impl Asker {
     /// is owed, as GET_VERSION, or as that of a command. Else nothing is said of what is kept.
     pub fn asks(&mut self, body: &[u8]) -> bool
         ensures { (w : Configuration) (q : ReqSetup) (older : List (List ℕ)) (k : Kept)
-            → Carries w q older k → length older < 2 ^ 64 - 1 → length body.now ≤ 4161
+            → Carries w q older k → length older < 2 ^ 64 - 1 → length body.now ≤ MAX_BODY_SIZE
             → IsAsker self.old q k → IsAskedBy q k body.now result self.new }
     {
         if self.goes_on(body) {
@@ -144,7 +147,7 @@ impl Asker {
     // open, none sends it.
     fn judge_record(&mut self, sealed: &[u8]) -> Result<(), Why>
         ensures { (w : Configuration) (q : ReqSetup) (older : List (List ℕ)) (k : Kept)
-            → Carries w q older k → length older < 2 ^ 64 - 1 → length sealed.now ≤ 4160
+            → Carries w q older k → length older < 2 ^ 64 - 1 → length sealed.now ≤ MAX_RECORD_SIZE
             → IsAsker self.old q k → k.owed ≡ None → outstanding k.requester ≡ None
             → IsJudged q k (record_body sealed.now) result self.new }
     {
@@ -169,7 +172,7 @@ impl Asker {
     /// refused. Where it is refused, nothing is said of what is kept.
     pub fn judge(&mut self, body: &[u8]) -> Result<(), Why>
         ensures { (w : Configuration) (q : ReqSetup) (older : List (List ℕ)) (k : Kept)
-            → Carries w q older k → length older < 2 ^ 64 - 1 → length body.now ≤ 4161
+            → Carries w q older k → length older < 2 ^ 64 - 1 → length body.now ≤ MAX_BODY_SIZE
             → IsAsker self.old q k → IsJudged q k body.now result self.new }
     {
         if self.comes_plain(body) {

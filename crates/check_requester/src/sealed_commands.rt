@@ -8,6 +8,7 @@ ghost use Rattle.spdm_machine.specs.Bodies.{record_body};
 ghost use Rattle.check_requester.specs.Asker.{IsKeptSetup};
 ghost use Rattle.check_requester.specs.Commanded.{IsSentByCommand};
 ghost use Rattle.check_requester.specs.SealedTold.{IsSentBy, TellsCommand, command_told, request_told};
+ghost use Rattle.secured_record.specs.declared.TheConstants.{MAX_RECORD_SIZE};
 
 use crate::asker_setup::AskerSetup;
 use crate::owed_messages::LONG_CONTEXT;
@@ -81,7 +82,7 @@ fn seals(
     sealed: &[u8],
 ) -> bool
     ensures { (q : ReqSetup) (h : History) → IsKeptSetup setup.now q → length h < 2 ^ 64 - 1
-        → length sealed.now ≤ 4160 → StandsFor asking.old q h
+        → length sealed.now ≤ MAX_RECORD_SIZE → StandsFor asking.old q h
         → asks_session (command_of command.entry) ≡ true → IsSentBy q h
         (command_of command.entry) (record_body sealed.now) result asking.new }
 {
@@ -109,7 +110,7 @@ pub(crate) fn sends_opened(
     sealed: &[u8],
 ) -> bool
     ensures { (q : ReqSetup) (h : History) → IsKeptSetup setup.now q → length h < 2 ^ 64 - 1
-        → length sealed.now ≤ 4160 → outstanding h ≡ None → StandsFor asking.old q h
+        → length sealed.now ≤ MAX_RECORD_SIZE → outstanding h ≡ None → StandsFor asking.old q h
         → OpensAs q.psk (session_named h sealed.now) sealed.now true inner.now
         → IsSentByCommand q h (record_body sealed.now) result asking.new }
 {
@@ -131,7 +132,7 @@ pub(crate) fn sends_sealed(
     sealed: &[u8],
 ) -> bool
     ensures { (q : ReqSetup) (h : History) → IsKeptSetup setup.now q → length h < 2 ^ 64 - 1
-        → length sealed.now ≤ 4160 → outstanding h ≡ None → StandsFor asking.old q h
+        → length sealed.now ≤ MAX_RECORD_SIZE → outstanding h ≡ None → StandsFor asking.old q h
         → IsSentByCommand q h (record_body sealed.now) result asking.new }
 {
     if !asking.open_next(sealed, inner) {

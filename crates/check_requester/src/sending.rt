@@ -10,6 +10,7 @@ ghost use Rattle.requester_machine.specs.Setup.{ReqSetup};
 ghost use Rattle.check_requester.specs.Asker.{IsKeptSetup};
 ghost use Rattle.check_requester.specs.Commanded.{IsSentByCommand};
 ghost use Rattle.check_requester.specs.SealedTold.{IsSentBy};
+ghost use Rattle.spdm_grammar.specs.declared.names.TheConstants.{MAX_BODY_SIZE};
 
 use crate::asker_setup::AskerSetup;
 use crate::clear_commands::sends_clear;
@@ -66,7 +67,7 @@ pub(crate) fn sends_command(
     body: &[u8],
 ) -> bool
     ensures { (q : ReqSetup) (h : History) → IsKeptSetup setup.now q → length h < 2 ^ 64 - 1
-        → length body.now ≤ 4161 → outstanding h ≡ None → StandsFor asking.old q h
+        → length body.now ≤ MAX_BODY_SIZE → outstanding h ≡ None → StandsFor asking.old q h
         → IsSentByCommand q h body.now result asking.new }
 {
     if is_clear(body) {

@@ -17,6 +17,8 @@ use Rattle.responder_session.specs.declared.answer_key.AnswerKey.{AnswerKey}
 use Rattle.spdm_grammar.specs.declared.names.request_code.TheConstants.{END_SESSION}
 use Rattle.check_responder.specs.declared.answer_keys.AnswerKeys.{AnswerKeys}
 use Rattle.check_responder.specs.declared.coming.Coming.{Coming}
+use Rattle.spdm_grammar.specs.declared.names.TheConstants.{MAX_SESSIONS}
+use Rattle.spdm_grammar.specs.declared.names.message_type.TheConstants.{SPDM}
 
 -- ---- What is kept.
 
@@ -40,7 +42,7 @@ IsEndedKey r (_ ∷ older) key = IsEndedKey r older key
 
 -- The key that is kept for a RspSessionID; none where it is 0 or above 4.
 abbrev pub last_key : AnswerKeys → ℕ → Option AnswerKey
-last_key seen id = if id == 0 || nat_lt 4 id then None else slice_index_or seen.last (id - 1) None
+last_key seen id = if id == 0 || nat_lt MAX_SESSIONS id then None else slice_index_or seen.last (id - 1) None
 
 -- They are kept of this history.
 pub record StandFor (seen : AnswerKeys) (r : RspSetup) (h : History) : Type 0 where
@@ -59,7 +61,7 @@ is_taken_in r s is_ended sealed = not is_ended && (not (repeats (last_of s) seal
 
 abbrev pub will_take : RspSetup → History → (body : List ℕ) → Bool
 will_take r h body =
-    not (slice_index body 0 == 5) && is_taken_in r (session_named h body) (repeats (ended_of h) (drop 1 body)) (drop 1 body)
+    not (slice_index body 0 == SPDM) && is_taken_in r (session_named h body) (repeats (ended_of h) (drop 1 body)) (drop 1 body)
 
 -- The key of the answer to a record that is taken, which depends on no free value; none where the body is none.
 abbrev pub IsComingKey : RspSetup → History → (body : List ℕ) → Option AnswerKey → Type 0

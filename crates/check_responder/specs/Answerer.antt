@@ -14,7 +14,7 @@ use Rattle.spdm_grammar.specs.Message.{RequestMessage, ResponseMessage}
 use Rattle.spdm_grammar.specs.Message.RequestMessage.{GetMeasurements, PskExchange}
 use Rattle.spdm_grammar.specs.Message.ResponseMessage.{Measurements, PskExchangeRsp}
 use Rattle.spdm_grammar.specs.Responses.{canonical_response}
-use Rattle.spdm_grammar.specs.declared.names.TheConstants.{MAX_MESSAGE_SIZE}
+use Rattle.spdm_grammar.specs.declared.names.TheConstants.{MAX_APP_DATA_LEN, MAX_MESSAGE_SIZE, MAX_OPAQUE_LEN, MAX_PADDING}
 use Rattle.spdm_grammar.specs.declared.names.error_number.TheConstants.{LARGE_RESPONSE}
 use Rattle.spdm_grammar.specs.declared.names.response_code.TheConstants.{ERROR}
 use Rattle.spdm_machine.specs.Terms.{hash_len}
@@ -45,7 +45,7 @@ is_id id = nat_le 1 id && nat_le id 4
 
 -- The application data and the padding of a record have no more bytes than these.
 abbrev pub are_few : (reply pad : List ℕ) → Bool
-are_few reply pad = nat_le (length reply) 1024 && nat_le (length pad) 16
+are_few reply pad = nat_le (length reply) MAX_APP_DATA_LEN && nat_le (length pad) MAX_PADDING
 
 -- The test of the values whose bounds no type of the program has.
 abbrev pub are_allowed : History → Place → Free → Bool
@@ -53,17 +53,17 @@ are_allowed h p f = is_id f.id && (is_unused h f.id && (nat_le (hash_len (place_
 
 -- The bounds that the types of the program have.
 pub record AreBounded (f : Free) : Type 0 where
-  pub exchange_opaque : length f.exchange_opaque ≤ 1024
+  pub exchange_opaque : length f.exchange_opaque ≤ MAX_OPAQUE_LEN
   pub nonce : length f.nonce ≡ 32
-  pub measured_opaque : length f.measured_opaque ≤ 1024
+  pub measured_opaque : length f.measured_opaque ≤ MAX_OPAQUE_LEN
   pub handle : f.handle < 256
 
 -- ---- Values that are shown.
 
 -- The fields of a response that show values have no more bytes than these.
 abbrev pub HasShortFields : ResponseMessage → Type 0
-HasShortFields (PskExchangeRsp rsp) = (length rsp.context < 2 ^ 16) × (length rsp.opaque ≤ 1024)
-HasShortFields (Measurements measured) = (length measured.nonce ≡ 32) × (length measured.opaque ≤ 1024)
+HasShortFields (PskExchangeRsp rsp) = (length rsp.context < 2 ^ 16) × (length rsp.opaque ≤ MAX_OPAQUE_LEN)
+HasShortFields (Measurements measured) = (length measured.nonce ≡ 32) × (length measured.opaque ≤ MAX_OPAQUE_LEN)
 HasShortFields _ = Unit {0}
 
 -- Of these values no more is set than the shortest that is allowed.
@@ -74,7 +74,7 @@ pub record AreShort (p : Place) (f : Free) : Type 0 where
 
 -- An answer at a place that has these values is too long, or its opaque data are.
 abbrev pub AreTooLong : RspSetup → Place → List ℕ → Free → Type 0
-AreTooLong r p m f = (MAX_MESSAGE_SIZE < length (answer_bytes r p m f)) ⊎ (1024 < length f.measured_opaque)
+AreTooLong r p m f = (MAX_MESSAGE_SIZE < length (answer_bytes r p m f)) ⊎ (MAX_OPAQUE_LEN < length f.measured_opaque)
 
 -- A context like this, or one of more than 4,096 bytes.
 abbrev pub IsLongerContext : Free → Option FreeValues → Type 0
@@ -83,7 +83,7 @@ IsLongerContext f (Some values) = IsFree values f
 
 -- Opaque data like these, or of more than 1,024 bytes.
 abbrev pub IsLongerOpaque : Free → Option FreeValues → Type 0
-IsLongerOpaque f None = 1024 < length f.measured_opaque
+IsLongerOpaque f None = MAX_OPAQUE_LEN < length f.measured_opaque
 IsLongerOpaque f (Some values) = IsFree values f
 
 -- Values that are free in the answer to a request, or longer ones than any answer has.

@@ -11,6 +11,7 @@ use Rattle.check_responder.specs.declared.opening.Opening.TheVariants as opening
 use Rattle.responder_machine.specs.Setup.{RspSetup}
 use Rattle.capture_machine.specs.Opening.{opens_answering}
 use Rattle.capture_machine.specs.Rounds.{Dialogue, Round}
+use Rattle.spdm_grammar.specs.declared.names.message_type.TheConstants.{SPDM}
 
 -- There is a key, and this says whether a record opens under it.
 abbrev pub IsByKey : Option AnswerKey → (sealed : List ℕ) → (is : Bool) → Type 0
@@ -27,8 +28,8 @@ IsOpening coming sealed opening.ByKey is = IsByKey coming.key sealed is
 -- The answer to a round is in the clear, or it opens: for the one reason or the other it is refused where it is wrong.
 abbrev pub is_readable : RspSetup → Dialogue → Round → (answer : List ℕ) → Bool
 is_readable r d round answer =
-    slice_index answer 0 == 5
-    || opens_answering r d.responder (slice_index round.body 0 == 5) (drop 1 round.body) (drop 1 answer)
+    slice_index answer 0 == SPDM
+    || opens_answering r d.responder (slice_index round.body 0 == SPDM) (drop 1 round.body) (drop 1 answer)
 
 -- This is told of it.
 abbrev pub IsReason : RspSetup → Dialogue → Round → Coming → (answer : List ℕ) → Opening → Type 0

@@ -13,16 +13,17 @@ use Rattle.check_responder.specs.ShownBy.{IsRecordGiven, shows_last}
 use Rattle.check_responder.specs.declared.given.Given.{Given}
 use Rattle.check_responder.specs.declared.given.Given.TheVariants as given
 use Rattle.capture_machine.specs.Rounds.{no_draw}
+use Rattle.spdm_grammar.specs.declared.names.message_type.TheConstants.{SPDM}
 
 -- ---- An inner message.
 
 -- It has LargeResponse in it.
 abbrev pub has_large : (inner : List ℕ) → Bool
-has_large inner = slice_index inner 0 == 5 && shows_large (response_of (drop 1 inner))
+has_large inner = slice_index inner 0 == SPDM && shows_large (response_of (drop 1 inner))
 
 -- It has CHUNK_RESPONSE with the last chunk in it.
 abbrev pub has_last : (inner : List ℕ) → Bool
-has_last inner = slice_index inner 0 == 5 && shows_last (drop 1 inner)
+has_last inner = slice_index inner 0 == SPDM && shows_last (drop 1 inner)
 
 -- What an answer brings that has this inner message.
 abbrev pub given_shown : (inner : List ℕ) → Given

@@ -12,6 +12,7 @@ ghost use Rattle.spdm_machine.specs.Bodies.{record_body};
 ghost use Rattle.spdm_machine.specs.Keys.{record_fault};
 ghost use Rattle.check_responder.specs.AnswerKeys.{IsComing, IsComingKey};
 ghost use Rattle.capture_machine.specs.Opening.{opens_next};
+ghost use Rattle.spdm_grammar.specs.declared.names.TheConstants.{MAX_SESSIONS};
 
 use crate::coming::Coming;
 use crate::opening::Opening;
@@ -20,15 +21,15 @@ use responder_core::{Connection, record_id};
 use responder_session::AnswerKey;
 use session_keys::{behind_type, byte_at, same_bytes};
 use spdm_basis::RecordFrame;
-use spdm_grammar::names::MAX_RECORDS;
 use spdm_grammar::names::message_type::SPDM;
+use spdm_grammar::names::{MAX_RECORDS, MAX_SESSIONS, SESSION_PLACES};
 
 /// The keys of answers that were given, under which a refused answer may still open: to the last record of each
 /// session, and to the last END_SESSION. Fixed size; never allocates.
 #[derive(Drop)]
 pub struct AnswerKeys {
     // By the RspSessionIDs from 1 to 4.
-    last: [Option<AnswerKey>; 4],
+    last: [Option<AnswerKey>; SESSION_PLACES],
     ended: Option<AnswerKey>,
 }
 
@@ -151,7 +152,7 @@ impl AnswerKeys {
         ensures { MatchOption result (last_key self.now id ≡ None)
             (λ key. last_key self.now id ≡ Some key.now) }
     {
-        if id == 0 || id > 4 {
+        if id == 0 || id > MAX_SESSIONS {
             return None;
         }
         self.last[usize::from(id) - 1].as_ref()
@@ -245,7 +246,7 @@ impl AnswerKeys {
         ensures { (r : RspSetup) (h : History) → connected.StandsFor connection.now r h
             → messages_of h < 2 ^ 64 - 1 → StandFor self.now r h → IsComing coming.now r h body.now
             → IsOpening coming.now sealed.now result
-            (opens_answering r h (slice_index body.now 0 == 5) (drop 1 body.now) sealed.now) }
+            (opens_answering r h (slice_index body.now 0 == SPDM) (drop 1 body.now) sealed.now) }
     {
         if is_clear(body) {
             let opens = opens_next(connection, sealed, sealed, room);
@@ -261,11 +262,11 @@ impl AnswerKeys {
 
     // Keeps a key for a RspSessionID from 1 to 4.
     fn put(&mut self, id: u16, key: AnswerKey)
-        ensures own { 1 ≤ id → id ≤ 4 → last_key self.new id ≡ Some key }
+        ensures own { 1 ≤ id → id ≤ MAX_SESSIONS → last_key self.new id ≡ Some key }
         ensures others { (i : ℕ) → i ≢ id → last_key self.new i ≡ last_key self.old i }
         ensures ended { self.new.ended ≡ self.old.ended }
     {
-        if id >= 1 && id <= 4 {
+        if id >= 1 && id <= MAX_SESSIONS {
             self.last[usize::from(id) - 1] = Some(key);
         }
     }

@@ -1,5 +1,6 @@
 ghost use Rattle.std.specs.Prelude.{◌≡◌};
 ghost use Rattle.check_responder.specs.Given.{judged_of};
+ghost use Rattle.spdm_grammar.specs.declared.names.TheConstants.{MAX_BODY_SIZE};
 
 use crate::coming::Coming;
 use crate::{Answerer, Given, Judged};
@@ -54,7 +55,7 @@ impl Answerer {
         answer: &[u8],
         text: &mut RecordFrame,
     ) -> Judged
-        requires { length answer.now ≤ 4161 }
+        requires { length answer.now ≤ MAX_BODY_SIZE }
         ensures { (r : RspSetup) (d : Dialogue) (round : Round) → IsSetUp setup.now r
             → IsAnswerer self.old r d.responder → messages_of d.responder < 2 ^ 64 - 1
             → round.tag ≡ tag → round.body ≡ body.now → IsBody body.now
@@ -70,7 +71,7 @@ impl Answerer {
 
     /// The same, where nothing is had of the body yet.
     pub fn judges(&mut self, setup: &Setup<'_>, tag: u8, body: &[u8], answer: &[u8]) -> Judged
-        requires { length answer.now ≤ 4161 }
+        requires { length answer.now ≤ MAX_BODY_SIZE }
         ensures { (r : RspSetup) (d : Dialogue) (round : Round) → IsSetUp setup.now r
             → IsAnswerer self.old r d.responder → messages_of d.responder < 2 ^ 64 - 1
             → round.tag ≡ tag → round.body ≡ body.now → IsBody body.now

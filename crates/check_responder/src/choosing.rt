@@ -10,13 +10,11 @@ ghost use Rattle.responder_machine.specs.Session.{Events, is_live, stage_of};
 ghost use Rattle.responder_machine.specs.Setup.{RspSetup};
 ghost use Rattle.spdm_machine.specs.Sessions.{is_past_handshake};
 ghost use Rattle.check_responder.specs.Answerer.{are_allowed, are_few, is_id, is_unused};
+ghost use Rattle.spdm_grammar.specs.declared.names.TheConstants.{MAX_SESSIONS};
 
 use responder_core::{Connection, FreeValues};
-use spdm_grammar::names::{MAX_PADDING, MAX_SESSIONS};
+use spdm_grammar::names::{MAX_APP_DATA_LEN, MAX_PADDING, MAX_SESSIONS};
 use spdm_grammar::{HashAlg, SessionView, Stage};
-
-// The most bytes of application data.
-const MOST_DATA: usize = 1024;
 
 // Whether a session is established.
 #[tactic(auto, unfolding(responder_machine::specs::Heard::view_of))]
@@ -42,23 +40,23 @@ fn is_unused(connection: &Connection, id: u16) -> bool
 fn is_id(id: u16) -> bool
     ensures value { result ≡ is_id id }
     ensures least { result ≡ true → 1 ≤ id }
-    ensures most { result ≡ true → id ≤ 4 }
+    ensures most { result ≡ true → id ≤ MAX_SESSIONS }
 {
-    id >= 1 && id <= 4
+    id >= 1 && id <= MAX_SESSIONS
 }
 
 // Whether the application data and the padding of a record have no more bytes than are allowed.
 fn are_few(reply: &[u8], pad: &[u8]) -> bool
     ensures { result ≡ are_few reply.now pad.now }
 {
-    reply.len() <= MOST_DATA && pad.len() <= MAX_PADDING
+    reply.len() <= MAX_APP_DATA_LEN && pad.len() <= MAX_PADDING
 }
 
 /// Whether a responder may choose these values at a place where this hash was chosen. Requires fewer than 2^64 received
 /// messages.
 pub(crate) fn are_allowed(connection: &Connection, hash: HashAlg, values: &FreeValues<'_>) -> bool
     ensures least { result ≡ true → 1 ≤ values.now.id }
-    ensures most { result ≡ true → values.now.id ≤ 4 }
+    ensures most { result ≡ true → values.now.id ≤ MAX_SESSIONS }
     ensures value { (r : RspSetup) (h : History) (p : Place) (f : Free) → StandsFor connection.now r h
         → messages_of h < 2 ^ 64 → (place_terms p).choice.hash ≡ hash → IsFree values.now f
         → result ≡ are_allowed h p f }

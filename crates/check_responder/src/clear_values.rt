@@ -27,9 +27,6 @@ use spdm_grammar::names::CHUNK_SEND_ACK_FIELDS_LEN;
 use spdm_grammar::names::response_code::CHUNK_SEND_ACK;
 use spdm_grammar::{ChunkView, HashAlg, Request};
 
-// The bytes that stand round an answer in an acknowledgement.
-const ROUND: u8 = 6;
-
 /// The least values that a responder may choose at a place where this hash was chosen.
 pub(crate) fn least_values(connection: &Connection, hash: HashAlg) -> FreeValues<'static>
     ensures { (r : RspSetup) (h : History) (p : Place) → StandsFor connection.now r h
@@ -203,7 +200,7 @@ fn read_clear<'a>(
     let least = least_values(connection, hash);
     match chunk_of(message, hash.size()) {
         Some(chunk) => {
-            let at = at_round(hash, transfer, ROUND);
+            let at = at_round(hash, transfer, CHUNK_SEND_ACK_FIELDS_LEN as u8);
             chunk_values(setup, at, so_far, &chunk, least, reply)
         }
         None => plain_values(setup, at_round(hash, transfer, 0), message, least, reply),

@@ -12,7 +12,7 @@ ghost use Rattle.responder_machine.specs.Responder.{repeats};
 ghost use Rattle.responder_machine.specs.Session.{id_in_record, last_of, session_of};
 ghost use Rattle.responder_machine.specs.Setup.{RspSetup};
 ghost use Rattle.responder_session.specs.Deeds.{AreFree};
-ghost use Rattle.spdm_grammar.specs.declared.names.TheConstants.{MAX_MESSAGE_SIZE};
+ghost use Rattle.spdm_grammar.specs.declared.names.TheConstants.{MAX_APP_DATA_LEN, MAX_MESSAGE_SIZE, MAX_OPAQUE_LEN, MAX_PADDING};
 ghost use Rattle.spdm_machine.specs.Bodies.{record_body};
 ghost use Rattle.check_laws.specs.AnswersShown.{least_values};
 
@@ -24,8 +24,8 @@ use crate::clear_values::{at_round, least_values};
 use crate::record_values::text_values;
 use responder_core::{Connection, FreeValues, Setup, record_id};
 use responder_session::RecordFree;
-use session_keys::{MOST_DATA, SessionTerms, behind_type, same_bytes};
-use spdm_grammar::names::MAX_PADDING;
+use session_keys::{SessionTerms, behind_type, same_bytes};
+use spdm_grammar::names::{MAX_APP_DATA_LEN, MAX_PADDING};
 use spdm_grammar::{HashAlg, Heard};
 
 // Whether this record is sent, by what is told.
@@ -42,7 +42,7 @@ fn is_sent(heard: Heard, out: &[u8], sealed: &[u8]) -> bool
 fn record_free<'a>(values: &'a FreeValues<'_>) -> RecordFree<'a>
     ensures free { (f : Free) → IsFree values.now f → AreFree result f }
     ensures nonce { length result.nonce.now ≡ 32 }
-    ensures opaque { length result.opaque.now ≤ 1024 }
+    ensures opaque { length result.opaque.now ≤ MAX_OPAQUE_LEN }
     ensures reply { result.reply.now ≡ values.now.reply.now }
     ensures pad { result.pad.now ≡ values.now.pad.now }
 {
@@ -59,9 +59,9 @@ fn record_free<'a>(values: &'a FreeValues<'_>) -> RecordFree<'a>
 pub(crate) fn least_free() -> RecordFree<'static>
     ensures free { (h : History) (p : Place) → AreFree result (least_values h p) }
     ensures nonce { length result.nonce.now ≡ 32 }
-    ensures opaque { length result.opaque.now ≤ 1024 }
-    ensures reply { length result.reply.now ≤ 1024 }
-    ensures pad { length result.pad.now ≤ 16 }
+    ensures opaque { length result.opaque.now ≤ MAX_OPAQUE_LEN }
+    ensures reply { length result.reply.now ≤ MAX_APP_DATA_LEN }
+    ensures pad { length result.pad.now ≤ MAX_PADDING }
 {
     RecordFree {
         nonce: &[0; 32],
@@ -92,15 +92,15 @@ fn may_give(
     inner: &[u8],
     values: &FreeValues<'_>,
 ) -> bool
-    ensures reply { result ≡ true → length values.now.reply.now ≤ 1024 }
-    ensures pad { result ≡ true → length values.now.pad.now ≤ 16 }
+    ensures reply { result ≡ true → length values.now.reply.now ≤ MAX_APP_DATA_LEN }
+    ensures pad { result ≡ true → length values.now.pad.now ≤ MAX_PADDING }
     ensures told { (r : RspSetup) (h : History) (p : Place) (f : Free) → IsSetUp setup.now r
         → StandsFor connection.now r h → messages_of h < 2 ^ 64 → IsFree values.now f
         → (place_terms p).choice.hash ≡ hash
         → (result ≡ true) ↔ (IsAllowed h p f × (length (answer_bytes r p (drop 1 inner.now) f) ≤ MAX_MESSAGE_SIZE)) }
 {
     values_are_bounded(values);
-    if values.reply.len() > MOST_DATA {
+    if values.reply.len() > MAX_APP_DATA_LEN {
         return false;
     }
     if values.pad.len() > MAX_PADDING {
@@ -139,9 +139,9 @@ impl Answerer {
         sealed: &[u8],
     ) -> bool
         requires nonce { length free.now.nonce.now ≡ 32 }
-        requires opaque { length free.now.opaque.now ≤ 1024 }
-        requires reply { length free.now.reply.now ≤ 1024 }
-        requires pad { length free.now.pad.now ≤ 16 }
+        requires opaque { length free.now.opaque.now ≤ MAX_OPAQUE_LEN }
+        requires reply { length free.now.reply.now ≤ MAX_APP_DATA_LEN }
+        requires pad { length free.now.pad.now ≤ MAX_PADDING }
         ensures told { (r : RspSetup) (h : History) (tag : ℕ) (f : Free) → IsSetUp setup.now r
             → IsAnswerer self.old r h → messages_of h < 2 ^ 64 - 1 → AreFree free.now f
             → (result ≡ true) ↔ (body_of (on_record r h tag request.now f no_draw)

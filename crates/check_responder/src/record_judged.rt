@@ -1,3 +1,5 @@
+ghost use Rattle.spdm_grammar.specs.declared.names.TheConstants.{MAX_BODY_SIZE};
+
 use crate::answer_keys::prepare_record;
 use crate::coming::Coming;
 use crate::sealed_answers::whole_if;
@@ -29,7 +31,7 @@ impl Answerer {
         answer: &[u8],
         text: &mut RecordFrame,
     ) -> Option<Given>
-        requires { length answer.now ≤ 4161 }
+        requires { length answer.now ≤ MAX_BODY_SIZE }
         ensures told { (r : RspSetup) (h : History) (tag : ℕ) → IsSetUp setup.now r
             → IsAnswerer self.old r h → messages_of h < 2 ^ 64 - 1
             → IsComing coming.now r h (record_body request.now)
@@ -58,7 +60,7 @@ impl Answerer {
         request: &[u8],
         answer: &[u8],
     ) -> Option<Given>
-        requires { length answer.now ≤ 4161 }
+        requires { length answer.now ≤ MAX_BODY_SIZE }
         ensures told { (r : RspSetup) (h : History) (tag : ℕ) → IsSetUp setup.now r
             → IsAnswerer self.old r h → messages_of h < 2 ^ 64 - 1
             → IsGivenTo r h tag (record_body request.now) answer.now result }

@@ -1,6 +1,7 @@
 ghost use Rattle.std.specs.Prelude.{◌≡◌};
 ghost use Rattle.check_responder.specs.RecordAnswers.{given_shown, whole_if};
 ghost use Rattle.check_responder.specs.ShownBy.{shows_last};
+ghost use Rattle.secured_record.specs.declared.TheConstants.{MAX_RECORD_SIZE};
 
 use crate::answerer::{response_of, shows_large};
 use crate::clear_answers::blocks_are_few;
@@ -10,12 +11,11 @@ use crate::record_values::inner_part;
 use crate::{Answerer, Given};
 use responder_core::Setup;
 use responder_session::AnswerKey;
-use session_keys::{SPDM_MESSAGE, behind_type, byte_at};
+use secured_record::MIN_RECORD_SIZE;
+use session_keys::{behind_type, byte_at};
 use spdm_basis::RecordFrame;
+use spdm_grammar::names::message_type::SPDM;
 use spdm_grammar::names::response_code::CHUNK_RESPONSE;
-
-// The fewest bytes of a record.
-const LEAST_RECORD: usize = 26;
 
 // The mark of a last chunk.
 const LAST_CHUNK: u8 = 1;
@@ -32,7 +32,7 @@ fn given_shown(inner: &[u8]) -> Given
     ensures { result ≡ given_shown inner.now }
 {
     let response = behind_type(inner);
-    if byte_at(inner, 0) != SPDM_MESSAGE {
+    if byte_at(inner, 0) != SPDM {
         return Given::Whole;
     }
     if shows_large(response_of(response)) {
@@ -82,7 +82,7 @@ impl Answerer {
         sealed: &[u8],
         text: &mut RecordFrame,
     ) -> Option<Given>
-        requires { length sealed.now ≤ 4160 }
+        requires { length sealed.now ≤ MAX_RECORD_SIZE }
         ensures told { (r : RspSetup) (h : History) (tag : ℕ) → IsSetUp setup.now r
             → IsAnswerer self.old r h → messages_of h < 2 ^ 64 - 1 → IsTaken r h request.now
             → inner.now ≡ opened r.psk (session_of (id_in_record request.now) h) request.now
@@ -98,7 +98,7 @@ impl Answerer {
             → IfSome result (λ given. IsAnswerer self.new r (after h (on_record r h tag request.now
             (record_values r h request.now sealed.now) no_draw))) }
     {
-        if sealed.len() < LEAST_RECORD {
+        if sealed.len() < MIN_RECORD_SIZE {
             return None;
         }
         key.text(sealed, text);
@@ -134,7 +134,7 @@ impl Answerer {
         sealed: &[u8],
         text: &mut RecordFrame,
     ) -> Option<Given>
-        requires { length sealed.now ≤ 4160 }
+        requires { length sealed.now ≤ MAX_RECORD_SIZE }
         ensures told { (r : RspSetup) (h : History) (tag : ℕ) → IsSetUp setup.now r
             → IsAnswerer self.old r h → messages_of h < 2 ^ 64 - 1
             → IsComing coming.now r h (record_body request.now)

@@ -5,6 +5,7 @@ use crate::record_answers::is_repeated;
 use check_laws::{is_clear, rest_of};
 use responder_core::record_id;
 use spdm_grammar::SessionView;
+use spdm_grammar::names::SESSION_PLACES;
 
 // What a right answer shows of what it changes of the table of sessions.
 impl Answerer {
@@ -52,7 +53,7 @@ impl Answerer {
 
     /// The sessions with the RspSessionIDs from 1 to 4, where they are live. Requires fewer than 2^64 received
     /// messages.
-    pub fn views(&self) -> [Option<SessionView>; 4]
+    pub fn views(&self) -> [Option<SessionView>; SESSION_PLACES]
         ensures { (r : RspSetup) (h : History) → IsAnswerer self.now r h → messages_of h < 2 ^ 64
             → result ≡ views_in h }
     {

@@ -7,6 +7,7 @@ ghost use Rattle.spdm_grammar.specs.Message.RequestMessage.{GetMeasurements, Psk
 ghost use Rattle.spdm_grammar.specs.Responses.{response_in};
 ghost use Rattle.check_responder.specs.Answerer.{HasShortFields};
 ghost use Rattle.check_laws.specs.AnswersShown.{asks_summary, with_fields};
+ghost use Rattle.spdm_grammar.specs.declared.names.TheConstants.{MAX_OPAQUE_LEN};
 
 use responder_core::FreeValues;
 use spdm_codec::read_response;
@@ -37,7 +38,7 @@ fn read_sound(reply: &[u8], hash_len: usize, summary: bool) -> Option<Response<'
 // The values in the fields of PSK_EXCHANGE_RSP.
 fn with_exchange<'a>(values: FreeValues<'a>, rsp: &ExchangeRsp<'a>) -> FreeValues<'a>
     requires context { length rsp.now.context.now < 2 ^ 16 }
-    requires opaque { length rsp.now.opaque.now ≤ 1024 }
+    requires opaque { length rsp.now.opaque.now ≤ MAX_OPAQUE_LEN }
     ensures { (f : Free) → IsFree values.entry f → IsFree result (record f {
       id = rsp.now.rsp_id;
       context = rsp.now.context.now;
@@ -59,7 +60,7 @@ fn with_exchange<'a>(values: FreeValues<'a>, rsp: &ExchangeRsp<'a>) -> FreeValue
 // The values in the fields of MEASUREMENTS.
 fn with_measured<'a>(values: FreeValues<'a>, measured: &Measured<'a>) -> FreeValues<'a>
     requires nonce { length measured.now.nonce.now ≡ 32 }
-    requires opaque { length measured.now.opaque.now ≤ 1024 }
+    requires opaque { length measured.now.opaque.now ≤ MAX_OPAQUE_LEN }
     ensures { (f : Free) → IsFree values.entry f → IsFree result (record f {
       nonce = measured.now.nonce.now;
       measured_opaque = measured.now.opaque.now;

@@ -8,14 +8,15 @@ ghost use Rattle.spdm_grammar.specs.Message.{request_message};
 ghost use Rattle.spdm_grammar.specs.Requests.{request_in};
 ghost use Rattle.check_responder.specs.Answerer.{AreLonger, IsLongerContext, IsLongerOpaque};
 ghost use Rattle.check_laws.specs.AnswersShown.{lengthened};
+ghost use Rattle.spdm_grammar.specs.declared.names.TheConstants.{MAX_OPAQUE_LEN};
 
 use responder_core::FreeValues;
 use spdm_codec::read_request;
-use spdm_grammar::names::MAX_OPAQUE_LEN;
+use spdm_grammar::names::{MAX_MESSAGE_SIZE, MAX_OPAQUE_LEN};
 use spdm_grammar::{HashAlg, Request};
 
 /// The most bytes of an SPDM message.
-pub(crate) const MOST_BYTES: usize = 4096;
+pub(crate) const MOST_BYTES: usize = MAX_MESSAGE_SIZE as usize;
 
 // As many zeros as a value may have that makes an answer longer: a hash has at most 48 bytes.
 const ZEROS: [u8; 4144] = [0; 4144];
@@ -58,7 +59,7 @@ fn with_context<'a>(values: FreeValues<'a>, context: &'a [u8]) -> FreeValues<'a>
 
 // These values with other opaque data of MEASUREMENTS.
 fn with_opaque<'a>(values: FreeValues<'a>, opaque: &'a [u8]) -> FreeValues<'a>
-    requires { length opaque.now ≤ 1024 }
+    requires { length opaque.now ≤ MAX_OPAQUE_LEN }
     ensures { (f : Free) → IsFree values.entry f
         → IsFree result (record f { measured_opaque = opaque.now }) }
 {

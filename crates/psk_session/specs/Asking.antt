@@ -15,6 +15,7 @@ use Rattle.psk_session.specs.declared.ask.Ask.{Ask}
 use Rattle.psk_session.specs.declared.ask.Ask.TheVariants as ask
 use Rattle.psk_session.specs.declared.ask_fault.AskFault.{AskFault}
 use Rattle.psk_session.specs.declared.ask_fault.AskFault.TheVariants.{NotNegotiated, KeySpent, TooLong}
+use Rattle.spdm_grammar.specs.declared.names.TheConstants.{MAX_APP_DATA_LEN}
 
 -- What it asks, as a step of the session.
 abbrev pub asked_of : Ask → message.Ask
@@ -36,7 +37,7 @@ command_of ask.End = End 0
 
 -- It is application data of more than 1,024 bytes.
 abbrev pub is_long : Ask → Bool
-is_long (ask.Data bytes) = nat_lt 1024 (length bytes.now)
+is_long (ask.Data bytes) = nat_lt MAX_APP_DATA_LEN (length bytes.now)
 is_long _ = false
 
 -- Its fault, the first that holds: it was not negotiated, a key sealed too many records for it, or it is too long.

@@ -7,6 +7,7 @@ use Rattle.spdm_grammar.specs.declared.told.event.BadReply.TheVariants as bad
 use Rattle.spdm_grammar.specs.declared.messages.malformed.Malformed.{Malformed}
 use Rattle.requester_machine.specs.InnerMessages.{inner_fault}
 use Rattle.requester_machine.specs.Setup.{ReqSetup}
+use Rattle.spdm_grammar.specs.declared.names.message_type.TheConstants.{SPDM}
 
 -- A response, or application data.
 pub data Contents : Type 0 where
@@ -26,5 +27,5 @@ contents_by None false reading bytes = Ok (AppData bytes)
 -- nothing.
 abbrev pub contents_of : ReqSetup → (hash_len : ℕ) → List ℕ → Result Contents BadReply
 contents_of q hash_len inner =
-    contents_by (inner_fault q inner) (slice_index inner 0 == 5)
+    contents_by (inner_fault q inner) (slice_index inner 0 == SPDM)
     (response_reading hash_len false (drop 1 inner)) (drop 1 inner)

@@ -14,6 +14,8 @@ use Rattle.psk_session.specs.Finishing as finishing
 use Rattle.psk_session.specs.Opening.{accepted, finish_inner}
 use Rattle.psk_session.specs.ReqSession.{IsAwaiting}
 use Rattle.psk_session.specs.declared.req_session.ReqSession.{ReqSession}
+use Rattle.spdm_grammar.specs.declared.names.TheConstants.{MAX_PADDING}
+use Rattle.secured_record.specs.declared.TheConstants.{MAX_RECORD_SIZE}
 
 -- The key and the id are those under which a session of these steps seals its records now.
 pub record SealsFor (key : DirectionSecret) (id : SessionId) (psk : List ℕ) (s : Steps) : Type 0
@@ -46,31 +48,31 @@ IsOwnOpened psk s sealed (Err fault) out = own_fault psk s sealed ≡ Some fault
 -- The session would seal this inner message so next, with some padding of at most 16 bytes.
 abbrev pub IsPadded : (psk : List ℕ) → Steps → (inner sealed : List ℕ) → Type 0
 IsPadded psk s inner sealed =
-    (pad : List ℕ) × (length pad ≤ 16) × (sealed ≡ sealed_next psk s inner pad)
+    (pad : List ℕ) × (length pad ≤ MAX_PADDING) × (sealed ≡ sealed_next psk s inner pad)
 
 -- Whether it does; bytes beyond the 4,160 of a record are none.
 abbrev pub TellsPadded : (psk : List ℕ) → Steps → (inner sealed : List ℕ) → Bool → Type 0
 TellsPadded psk s inner sealed true = IsPadded psk s inner sealed
-TellsPadded psk s inner sealed false = length sealed ≤ 4160 → IsPadded psk s inner sealed → ⊥
+TellsPadded psk s inner sealed false = length sealed ≤ MAX_RECORD_SIZE → IsPadded psk s inner sealed → ⊥
 
 -- The session awaits the answer to a record that has another padding now; or the bytes are no such record.
 abbrev pub IsRepadded : (psk : List ℕ) → Steps → Ask → (inner sealed : List ℕ)
     → (new : ReqSession) → Bool → Type 0
 IsRepadded psk s a inner sealed new true =
-    (pad : List ℕ) × (length pad ≤ 16) × (sealed ≡ sealed_next psk s inner pad)
+    (pad : List ℕ) × (length pad ≤ MAX_PADDING) × (sealed ≡ sealed_next psk s inner pad)
     × IsAwaiting new psk (with_asked psk s a inner pad) a
 IsRepadded psk s a inner sealed new false =
-    length sealed ≤ 4160 → IsPadded psk s inner sealed → ⊥
+    length sealed ≤ MAX_RECORD_SIZE → IsPadded psk s inner sealed → ⊥
 
 -- The same of a session whose PSK_FINISH was sent.
 abbrev pub IsFinishRepadded : (psk : List ℕ) → Negotiation → (exchange answer sealed : List ℕ)
     → (new : finishing.Seen) → Bool → Type 0
 IsFinishRepadded psk n exchange answer sealed new true =
-    (pad : List ℕ) × (length pad ≤ 16)
+    (pad : List ℕ) × (length pad ≤ MAX_PADDING)
     × (sealed ≡ sealed_next psk (accepted n exchange answer)
     (finish_inner psk (accepted n exchange answer)) pad)
     × finishing.StandsFor new psk n exchange answer pad
 IsFinishRepadded psk n exchange answer sealed new false =
-    length sealed ≤ 4160
+    length sealed ≤ MAX_RECORD_SIZE
     → IsPadded psk (accepted n exchange answer) (finish_inner psk (accepted n exchange answer))
     sealed → ⊥

@@ -32,6 +32,7 @@ use Rattle.psk_session.specs.Inner.{Contents}
 use Rattle.psk_session.specs.Inner.Contents.{Spoken, AppData}
 use Rattle.psk_session.specs.declared.reply.Reply.{Reply}
 use Rattle.psk_session.specs.declared.reply.Reply.TheVariants as reply
+use Rattle.secured_record.specs.declared.TheConstants.{MAX_RECORD_SIZE}
 
 -- It is no answer; END_SESSION_ACK; the answer, with its application data or measurement record; KEY_UPDATE_ACK to an
 -- update; or LargeResponse, with the operation and the handle of the large response.
@@ -162,7 +163,7 @@ Fits s a answer (Bad fault) = ⊤
 Fits s a answer Ended = ⊤
 Fits s a answer (Answered reply bytes) =
     (may_bring (effect_of answer (op_in a) reply) a ≡ true) × (asks_all a ≡ false)
-    × (data_in (effect_of answer (op_in a) reply) ≡ bytes) × (length bytes ≤ 4160)
+    × (data_in (effect_of answer (op_in a) reply) ≡ bytes) × (length bytes ≤ MAX_RECORD_SIZE)
 Fits s a answer (Updated all) = a ≡ AskUpdate all
 Fits s a answer (Large op handle) =
     (asks_all a ≡ false) × (stage_for a ≡ stage.Open) × (request_next s ≤ 65300)

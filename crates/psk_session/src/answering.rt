@@ -1,3 +1,5 @@
+ghost use Rattle.spdm_grammar.specs.declared.names.TheConstants.{MAX_PADDING};
+
 use crate::Reply;
 use crate::ask::Awaited;
 use crate::outcome::Outcome;
@@ -51,7 +53,7 @@ impl ReqSession {
 
     // Asks by VerifyNewKey, which follows the answer to an update.
     fn verify(&mut self, pad: &[u8])
-        requires { length pad.now ≤ 16 }
+        requires { length pad.now ≤ MAX_PADDING }
         ensures asked { (psk : List ℕ) (s : Steps) → Keeps self.old.kept psk s (response_epoch s)
             → stage_of s ≡ stages.Verifying → request_next s ≤ 65535
             → FewFor AskVerify (request_next s + 1) (response_next s)
@@ -79,7 +81,7 @@ impl ReqSession {
 
     // Asks for the chunk of this number of the large response to an operation, after what was gathered.
     fn fetch(&mut self, op: u8, handle: u8, number: u16, pad: &[u8])
-        requires { length pad.now ≤ 16 }
+        requires { length pad.now ≤ MAX_PADDING }
         ensures asked { (psk : List ℕ) (s : Steps) (before : List ChunkMessage)
             → Keeps self.old.kept psk s (response_epoch s) → stage_of s ≡ stages.Open
             → request_next s ≤ 65535
@@ -98,7 +100,7 @@ impl ReqSession {
     // What an outcome leads to.
     pub(crate) fn led(&mut self, outcome: Outcome, pad: &[u8]) -> Told
         requires epoch { self.old.kept.request.epoch < 2 ^ 64 - 1 }
-        requires pad { length pad.now ≤ 16 }
+        requires pad { length pad.now ≤ MAX_PADDING }
         ensures follows { (psk : List ℕ) (s : Steps) (a : message.Ask) (sealed answer : List ℕ)
             → Keeps self.old.kept psk s (awaited_epoch s a) → stage_of s ≡ stage_for a
             → waiting_ask s ≡ Some a → FewFor a (request_next s) (response_next s)
@@ -136,7 +138,7 @@ impl ReqSession {
 
     // Asks for the next chunk of a large response to an operation, after the one that has this number.
     pub(crate) fn go_on(&mut self, op: u8, handle: u8, number: u16, pad: &[u8]) -> Told
-        requires { length pad.now ≤ 16 }
+        requires { length pad.now ≤ MAX_PADDING }
         ensures follows { (psk : List ℕ) (s : Steps) (sealed : List ℕ) (at_handle at_number : ℕ)
             (before : List ChunkMessage) (c : ChunkMessage)
             → handle ≡ c.handle → number ≡ c.number

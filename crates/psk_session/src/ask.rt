@@ -1,5 +1,5 @@
-use session_keys::MOST_DATA;
 use spdm_grammar::Stage;
+use spdm_grammar::names::MAX_APP_DATA_LEN;
 
 /// A request to send in an open session.
 #[derive(Clone, Copy)]
@@ -88,6 +88,6 @@ impl Ask<'_> {
     pub(crate) fn is_long(&self) -> bool
         ensures { result ≡ is_long self.now }
     {
-        matches!(self, Ask::Data(bytes) if bytes.len() > MOST_DATA)
+        matches!(self, Ask::Data(bytes) if bytes.len() > MAX_APP_DATA_LEN)
     }
 }

@@ -16,23 +16,26 @@ ghost use Rattle.transcript.specs.Lane.{lane_hash};
 ghost use Rattle.transcript.specs.Transcripts.{Negotiation, vca_of};
 ghost use Rattle.psk_session.specs.Finishing.{finish_message};
 ghost use Rattle.psk_session.specs.Opening.{accepted, finish_record};
+ghost use Rattle.spdm_grammar.specs.declared.names.TheConstants.{MAX_PADDING};
+ghost use Rattle.spdm_grammar.specs.declared.names.message_type.TheConstants.{SPDM};
 
 use crate::requests::write_finish;
 use secured_record::RecordKey;
-use session_keys::{Handshake, SPDM_MESSAGE, seal_record};
+use session_keys::{Handshake, seal_record};
 use spdm_basis::{Buffer, Frame, HashBytes, RecordFrame, SessionId};
+use spdm_grammar::names::message_type::SPDM;
 use transcript::Lane;
 
 // The record of an SPDM message of at most 52 bytes, under the key of a purpose.
 fn seal_short(key: &RecordKey, id: SessionId, number: u16, message: &[u8], pad: &[u8]) -> Buffer<96>
     requires message { length message.now ≤ 52 }
-    requires pad { length pad.now ≤ 16 }
+    requires pad { length pad.now ≤ MAX_PADDING }
     ensures { (choice : Choice) (p : Purpose) → IsKeyOf key.now choice p
         → result ≡ sealed_of choice p number (session_id_bytes id.req id.rsp)
-        (5 ∷ message.now) pad.now }
+        (SPDM ∷ message.now) pad.now }
 {
     let mut inner = Buffer::<64>::new();
-    let _ = inner.extend(&[SPDM_MESSAGE]);
+    let _ = inner.extend(&[SPDM]);
     let _ = inner.extend(message);
     let mut record = RecordFrame::new();
     seal_record(key, id, number, inner.as_slice(), pad, &mut record);
@@ -69,7 +72,7 @@ pub fn verify_of_finish(handshake: &Handshake, lane: &Lane) -> HashBytes
 // The record of PSK_FINISH, with this padding.
 pub fn seal_finish(handshake: &Handshake, id: SessionId, message: &[u8], pad: &[u8]) -> Buffer<96>
     requires message { length message.now ≤ 52 }
-    requires pad { length pad.now ≤ 16 }
+    requires pad { length pad.now ≤ MAX_PADDING }
     ensures { (psk : List ℕ) (n : Negotiation) (exchange answer : List ℕ)
         → IsHandshakeOf handshake.now (terms_of n).choice psk (t1_of (accepted n exchange answer))
         → id ≡ session_id (accepted n exchange answer)

@@ -17,6 +17,8 @@ ghost use Rattle.requester_machine.specs.Session.{t1_of};
 ghost use Rattle.spdm_machine.specs.Terms.{terms_of};
 ghost use Rattle.psk_session.specs.Opening.{accepted, finishing};
 ghost use Rattle.requester_machine.specs.Shown.{view_of};
+ghost use Rattle.spdm_grammar.specs.declared.names.TheConstants.{MAX_PADDING};
+ghost use Rattle.secured_record.specs.declared.TheConstants.{MAX_RECORD_SIZE};
 
 use crate::finish_record::{seal_finish, verify_of_finish};
 use crate::inner::{Inner, read_inner};
@@ -74,7 +76,7 @@ impl Finishing {
     ) -> Finishing
         requires lane { lane_hash lane ≡ terms.choice.hash }
         requires keys { handshake.keys.hash ≡ terms.choice.hash }
-        requires pad { length pad.now ≤ 16 }
+        requires pad { length pad.now ≤ MAX_PADDING }
         ensures { (psk : List ℕ) (n : Negotiation) (exchange answer : List ℕ)
             → AreTermsOf terms n exchange
             → IsHandshakeOf handshake (terms_of n).choice psk
@@ -124,7 +126,7 @@ impl Finishing {
     /// The record of PSK_FINISH, to be sent again.
     pub fn again(&self) -> &[u8]
         ensures value { result.now ≡ self.now.sent }
-        ensures fits { length result.now ≤ 4160 }
+        ensures fits { length result.now ≤ MAX_RECORD_SIZE }
     {
         self.sent.as_slice()
     }

@@ -6,7 +6,9 @@ ghost use Rattle.psk_session.specs.Held.{Reads};
 ghost use Rattle.psk_session.specs.Inner.{contents_of};
 
 use crate::answers::read_answer;
-use session_keys::{APP_DATA, MOST_DATA, SPDM_MESSAGE, behind_type, byte_at};
+use session_keys::{APP_DATA, behind_type, byte_at};
+use spdm_grammar::names::MAX_APP_DATA_LEN;
+use spdm_grammar::names::message_type::SPDM;
 use spdm_grammar::{BadReply, Response};
 
 // What an inner message holds: a response, or application data.
@@ -22,13 +24,13 @@ fn inner_fault(transfer: u32, inner: &[u8]) -> Option<BadReply>
 {
     let kind = byte_at(inner, 0);
     let long = behind_type(inner).len();
-    if kind == SPDM_MESSAGE && long > transfer as usize {
+    if kind == SPDM && long > transfer as usize {
         return Some(BadReply::TooLong);
     }
-    if kind == APP_DATA && long > MOST_DATA {
+    if kind == APP_DATA && long > MAX_APP_DATA_LEN {
         return Some(BadReply::TooLong);
     }
-    if kind != SPDM_MESSAGE && kind != APP_DATA {
+    if kind != SPDM && kind != APP_DATA {
         return Some(BadReply::Malformed(0));
     }
     None
@@ -43,7 +45,7 @@ pub fn read_inner(transfer: u32, hash_len: usize, inner: &[u8]) -> Result<Inner<
         return Err(fault);
     }
     let bytes = behind_type(inner);
-    if byte_at(inner, 0) != SPDM_MESSAGE {
+    if byte_at(inner, 0) != SPDM {
         return Ok(Inner::Data(bytes));
     }
     match read_answer(bytes, hash_len, false) {

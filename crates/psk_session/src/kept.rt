@@ -1,4 +1,5 @@
 ghost use Rattle.std.specs.Prelude.{◌≡◌, ◌<◌, ◌+◌, ◌-◌, ◌^◌, if◌then◌else◌, min};
+ghost use Rattle.spdm_grammar.specs.declared.names.TheConstants.{MAX_PADDING, MAX_RECORDS};
 
 use crate::ask::{Ask, Awaited};
 use crate::ask_fault::AskFault;
@@ -33,7 +34,7 @@ pub struct Kept {
 
 // The number of a record, which has two bytes.
 pub fn record_number(next: u32) -> u16
-    ensures { next < 65536 → result ≡ next }
+    ensures { next < MAX_RECORDS → result ≡ next }
 {
     next.min(65_535) as u16
 }
@@ -229,7 +230,7 @@ impl Kept {
     // Seals an inner message as the next record of requests, overwriting `out`.
     pub fn seal(&mut self, inner: &[u8], pad: &[u8], out: &mut RecordFrame)
         requires inner { length inner.now ≤ 1025 }
-        requires pad { length pad.now ≤ 16 }
+        requires pad { length pad.now ≤ MAX_PADDING }
         ensures record { (psk : List ℕ) (s : Steps) (epoch : ℕ) → Keeps self.old psk s epoch
             → request_next s ≤ 65535 → out.new ≡ sealed_next psk s inner.now pad.now }
         ensures keeps { (psk : List ℕ) (s : Steps) (epoch : ℕ) (awaited : Awaited)

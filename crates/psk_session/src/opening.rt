@@ -10,6 +10,7 @@ ghost use Rattle.psk_session.specs.Opening.{StandsFor, accepted, open_fault};
 ghost use Rattle.psk_session.specs.Finishing as finishing;
 ghost use Rattle.session_keys.specs.Handshake.{IsHandshakeOf};
 ghost use Rattle.psk_session.specs.Opened.{IsTaken};
+ghost use Rattle.spdm_grammar.specs.declared.names.TheConstants.{MAX_PADDING};
 
 use crate::answers::{read_exchange_rsp, told_id};
 use crate::{Finishing, OpenFault, SessionTerms};
@@ -113,7 +114,7 @@ impl Opening {
         answer: &[u8],
         pad: &[u8],
     ) -> Result<Finishing, (Opening, OpenFault)>
-        requires { length pad.now ≤ 16 }
+        requires { length pad.now ≤ MAX_PADDING }
         ensures { (psk : List ℕ) (n : Negotiation) (exchange : List ℕ)
             → StandsFor self psk n exchange
             → IsTaken self psk n exchange answer.now pad.now result }
@@ -128,7 +129,7 @@ impl Opening {
     // The session with its sound answer, whose handshake this is.
     fn accept(self, answer: &[u8], handshake: Handshake, pad: &[u8]) -> Finishing
         requires hash { handshake.keys.hash ≡ self.terms.choice.hash }
-        requires pad { length pad.now ≤ 16 }
+        requires pad { length pad.now ≤ MAX_PADDING }
         ensures { (psk : List ℕ) (n : Negotiation) (exchange : List ℕ)
             → StandsFor self psk n exchange
             → IsHandshakeOf handshake (terms_of n).choice psk

@@ -2,6 +2,7 @@ ghost use Rattle.std.specs.Prelude.{◌≡◌, ◌≤◌, ℕ, List, OnErr, leng
 ghost use Rattle.requester_machine.specs.Records.{sealed_next};
 ghost use Rattle.requester_machine.specs.Session.{Steps, request_next};
 ghost use Rattle.psk_session.specs.OwnRecords.{IsOwnOpened, SealsFor, TellsPadded};
+ghost use Rattle.secured_record.specs.declared.TheConstants.{MAX_RECORD_SIZE};
 
 use crate::finishing::Finishing;
 use crate::inner_pair::InnerPair;
@@ -37,7 +38,7 @@ fn is_padded_little(
     sent: &[u8],
     pair: &mut InnerPair,
 ) -> bool
-    requires { length sent.now ≤ 4160 }
+    requires { length sent.now ≤ MAX_RECORD_SIZE }
     ensures { (psk : List ℕ) (s : Steps) (inner pad : List ℕ) → SealsFor key.now id psk s
         → number ≡ request_next s → sent.now ≡ sealed_next psk s inner pad
         → TellsPadded psk s inner sent.now result }
@@ -58,11 +59,11 @@ fn is_padded_other(
     sealed: &[u8],
     pair: &mut InnerPair,
 ) -> bool
-    requires { length sent.now ≤ 4160 }
+    requires { length sent.now ≤ MAX_RECORD_SIZE }
     ensures told { (psk : List ℕ) (s : Steps) (inner pad : List ℕ) → SealsFor key.now id psk s
         → number ≡ request_next s → sent.now ≡ sealed_next psk s inner pad
         → TellsPadded psk s inner sealed.now result }
-    ensures fits { result ≡ true → length sealed.now ≤ 4160 }
+    ensures fits { result ≡ true → length sealed.now ≤ MAX_RECORD_SIZE }
 {
     if key.open(id, number, sent, &mut pair.asked).is_err() {
         return false;
@@ -83,11 +84,11 @@ fn is_padded_anew(
     sealed: &[u8],
     pair: &mut InnerPair,
 ) -> bool
-    requires { length sent.now ≤ 4160 }
+    requires { length sent.now ≤ MAX_RECORD_SIZE }
     ensures told { (psk : List ℕ) (s : Steps) (inner pad : List ℕ) → SealsFor key.now id psk s
         → number ≡ request_next s → sent.now ≡ sealed_next psk s inner pad
         → TellsPadded psk s inner sealed.now result }
-    ensures fits { result ≡ true → length sealed.now ≤ 4160 }
+    ensures fits { result ≡ true → length sealed.now ≤ MAX_RECORD_SIZE }
 {
     if same_bytes(sealed, sent) {
         return is_padded_little(key, id, number, sent, pair);
@@ -148,7 +149,7 @@ impl ReqSession {
         ensures told { (psk : List ℕ) (s : Steps) (a : message.Ask) (inner pad : List ℕ)
             → IsAwaiting self.now psk (with_asked psk s a inner pad) a
             → TellsPadded psk s inner sealed.now result }
-        ensures fits { result ≡ true → length sealed.now ≤ 4160 }
+        ensures fits { result ≡ true → length sealed.now ≤ MAX_RECORD_SIZE }
     {
         is_padded_anew(
             &self.kept.request,

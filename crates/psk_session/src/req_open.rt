@@ -4,6 +4,7 @@ ghost use Rattle.requester_machine.specs.Shown.{view_of};
 ghost use Rattle.psk_session.specs.AskTook.{IsAsked};
 ghost use Rattle.psk_session.specs.ReqOpen.{StandsFor};
 ghost use Rattle.psk_session.specs.ReqSession.{IsOpen};
+ghost use Rattle.spdm_grammar.specs.declared.names.TheConstants.{MAX_PADDING};
 
 use crate::req_session::ReqSession;
 use crate::{Ask, AskFault, Waiting};
@@ -49,7 +50,7 @@ impl ReqOpen {
     /// nothing. Requires an epoch below 2^64 - 1 for the response key.
     pub fn ask(self, ask: Ask<'_>, pad: &[u8]) -> Result<Waiting, (ReqOpen, AskFault)>
         requires epoch { self.kept.response.epoch < 2 ^ 64 - 1 }
-        requires pad { length pad.now ≤ 16 }
+        requires pad { length pad.now ≤ MAX_PADDING }
         ensures { (psk : List ℕ) (s : Steps) → StandsFor self psk s
             → IsAsked self psk s ask.entry pad.now result }
     {

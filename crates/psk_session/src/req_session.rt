@@ -14,6 +14,8 @@ ghost use Rattle.psk_session.specs.Stepped.{IsAskedBy, IsLeft, IsToldOf};
 ghost use Rattle.psk_session.specs.Waiting as waiting;
 ghost use Rattle.psk_session.specs.Waiting.{Awaits, awaited_epoch};
 ghost use Rattle.psk_session.specs.declared.standing.Standing.TheVariants as standing;
+ghost use Rattle.spdm_grammar.specs.declared.names.TheConstants.{MAX_PADDING};
+ghost use Rattle.secured_record.specs.declared.TheConstants.{MAX_RECORD_SIZE};
 
 use crate::ask::{Ask, Awaited};
 use crate::ask_fault::AskFault;
@@ -116,7 +118,7 @@ impl ReqSession {
     /// The record last sealed, while a response is awaited: to be sent again.
     pub fn again(&self) -> &[u8]
         ensures value { result.now ≡ (waiting_of self.now).sent }
-        ensures fits { length result.now ≤ 4160 }
+        ensures fits { length result.now ≤ MAX_RECORD_SIZE }
     {
         self.sent.as_slice()
     }
@@ -134,7 +136,7 @@ impl ReqSession {
     pub fn ask(&mut self, ask: Ask<'_>, pad: &[u8]) -> Result<(), AskFault>
         requires open { is_open self.old.standing ≡ true }
         requires epoch { self.old.kept.response.epoch < 2 ^ 64 - 1 }
-        requires pad { length pad.now ≤ 16 }
+        requires pad { length pad.now ≤ MAX_PADDING }
         ensures asked { (psk : List ℕ) (s : Steps) → IsOpen self.old psk s
             → IsAskedBy psk s ask.entry pad.now self.new result }
         ensures standing { OnOk result (is_awaiting self.new.standing ≡ true) }
@@ -153,7 +155,7 @@ impl ReqSession {
     fn make(&mut self, ask: Ask<'_>, pad: &[u8])
         requires epoch { self.old.kept.response.epoch < 2 ^ 64 - 1 }
         requires fits { is_long ask ≡ false }
-        requires pad { length pad.now ≤ 16 }
+        requires pad { length pad.now ≤ MAX_PADDING }
         ensures asked { (psk : List ℕ) (s : Steps) → open_state.StandsFor (open_of self.old) psk s
             → ask_fault s ask.entry ≡ None
             → IsAwaiting self.new psk (asked psk s ask.entry pad.now) (asked_of ask.entry) }
@@ -168,7 +170,7 @@ impl ReqSession {
     // Seals the inner message that was written, and awaits this.
     pub(crate) fn send(&mut self, awaited: Awaited, pad: &[u8])
         requires inner { length self.old.brought ≤ 1025 }
-        requires pad { length pad.now ≤ 16 }
+        requires pad { length pad.now ≤ MAX_PADDING }
         ensures sent { (psk : List ℕ) (s : Steps) (a : message.Ask)
             → Keeps self.old.kept psk s (awaited_epoch s a) → stage_of s ≡ stage_for a
             → request_next s ≤ 65535 → FewFor a (request_next s + 1) (response_next s)
@@ -196,7 +198,7 @@ impl ReqSession {
     pub fn take_with(&mut self, sealed: &[u8], pad: &[u8]) -> Told
         requires awaiting { is_awaiting self.old.standing ≡ true }
         requires epoch { self.old.kept.request.epoch < 2 ^ 64 - 1 }
-        requires pad { length pad.now ≤ 16 }
+        requires pad { length pad.now ≤ MAX_PADDING }
         ensures told { (psk : List ℕ) (s : Steps) (a : message.Ask) → IsAwaiting self.old psk s a
             → IsToldOf self.old psk s a sealed.now pad.now self.new result }
         ensures standing { IsLeft self.old self.new result }

@@ -3,12 +3,14 @@ ghost use Rattle.spdm_grammar.specs.Message.RequestMessage.{PskFinish};
 ghost use Rattle.spdm_grammar.specs.Message.{request_message};
 ghost use Rattle.spdm_grammar.specs.Requests.{canonical_request, IsSoundRequest};
 ghost use Rattle.requester_machine.specs.Sending.{inner_request, inner_data, operation_of};
+ghost use Rattle.spdm_grammar.specs.declared.names.TheConstants.{MAX_APP_DATA_LEN};
 
-use session_keys::{APP_DATA, SPDM_MESSAGE};
+use session_keys::APP_DATA;
 use spdm_basis::{Frame, RecordFrame};
 use spdm_codec::write_request;
 use spdm_grammar::Request;
 use spdm_grammar::names::key_operation::{UPDATE_ALL_KEYS, UPDATE_KEY};
+use spdm_grammar::names::message_type::SPDM;
 use spdm_grammar::names::request_code::{END_SESSION, GET_MEASUREMENTS, HEARTBEAT, KEY_UPDATE};
 use spdm_grammar::names::spdm_version::V1_2;
 
@@ -30,11 +32,11 @@ pub fn write_finish(verify: &[u8], out: &mut Frame)
 
 // Overwrites `out` with the inner message of a request of four bytes, by its code and its two parameters.
 fn write_four(code: u8, first: u8, second: u8, out: &mut RecordFrame)
-    ensures value { out.new ≡ SPDM_MESSAGE ∷ V1_2 ∷ code ∷ first ∷ second ∷ [] }
+    ensures value { out.new ≡ SPDM ∷ V1_2 ∷ code ∷ first ∷ second ∷ [] }
     ensures size { length out.new ≡ 5 }
 {
     out.clear();
-    let _ = out.extend(&[SPDM_MESSAGE, V1_2, code, first, second]);
+    let _ = out.extend(&[SPDM, V1_2, code, first, second]);
 }
 
 // Overwrites `out` with the inner message of a request of at most six bytes. A function of its own, since it zeroes a
@@ -48,7 +50,7 @@ fn write_any(request: &Request<'_>, out: &mut RecordFrame)
     let mut message = Frame::new();
     let _ = write_request(request, 0, &mut message);
     out.clear();
-    let _ = out.extend(&[SPDM_MESSAGE]);
+    let _ = out.extend(&[SPDM]);
     let _ = out.extend(message.as_slice());
 }
 
@@ -70,7 +72,7 @@ pub fn write_inner_request(request: &Request<'_>, out: &mut RecordFrame)
 
 // Overwrites `out` with the inner message of application data.
 pub fn write_inner_data(bytes: &[u8], out: &mut RecordFrame)
-    requires { length bytes.now ≤ 1024 }
+    requires { length bytes.now ≤ MAX_APP_DATA_LEN }
     ensures value { out.new ≡ inner_data bytes.now }
     ensures size { length out.new ≤ 1025 }
 {

@@ -4,6 +4,7 @@ ghost use Rattle.requester_machine.specs.Session.{Steps, taken_of};
 ghost use Rattle.requester_machine.specs.Shown.{view_of};
 ghost use Rattle.psk_session.specs.Took.{IsTook};
 ghost use Rattle.psk_session.specs.Waiting.{StandsFor};
+ghost use Rattle.spdm_grammar.specs.declared.names.TheConstants.{MAX_PADDING};
 
 use crate::req_session::ReqSession;
 use crate::told::Told;
@@ -59,7 +60,7 @@ impl Waiting {
     /// Same as `take`, with this padding for the further record, of at most 16 bytes.
     pub fn take_with(self, sealed: &[u8], pad: &[u8]) -> Took
         requires epoch { self.kept.request.epoch < 2 ^ 64 - 1 }
-        requires pad { length pad.now ≤ 16 }
+        requires pad { length pad.now ≤ MAX_PADDING }
         ensures { (psk : List ℕ) (s : Steps) (a : Ask) → StandsFor self psk s a
             → IsTook self psk s a sealed.now pad.now result }
     {

@@ -5,6 +5,7 @@ use Rattle.spdm_basis.specs.Tests.{first_of_tests}
 use Rattle.requester.specs.declared.config.ReqConfig.{ReqConfig}
 use Rattle.requester.specs.declared.fault.ReqConfigFault.{ReqConfigFault}
 use Rattle.requester.specs.declared.fault.ReqConfigFault.TheVariants.{OutOfMemory, SameEid, SizeRange}
+use Rattle.spdm_grammar.specs.declared.names.TheConstants.{MAX_OPAQUE_LEN}
 
 -- A size, the unit, the padding, the opaque data or the hint is out of its range.
 abbrev pub is_out_of_range : ReqConfig → Bool
@@ -12,7 +13,7 @@ is_out_of_range c =
     not (may_be_own (record { transfer = c.transfer; max = c.max }) c.flags.chunk)
     || (nat_lt c.unit 64 || nat_lt 1024 c.unit)
     || nat_lt 16 c.pad
-    || nat_lt 1024 (length c.opaque.now)
+    || nat_lt MAX_OPAQUE_LEN (length c.opaque.now)
     || nat_lt 64 (length c.hint.now)
 
 -- The first reason, in this order. Allocation failure is none of them.

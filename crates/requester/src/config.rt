@@ -4,6 +4,7 @@ ghost use Rattle.requester.specs.Config.{config_fault, is_out_of_range};
 use crate::ReqConfigFault;
 use negotiate::Sizes;
 use spdm_basis::{Eid, Psk};
+use spdm_grammar::names::MAX_OPAQUE_LEN;
 use spdm_grammar::{FlagSet, Suites};
 
 /// The configuration of a requester.
@@ -46,7 +47,7 @@ impl ReqConfig<'_> {
         !sizes.may_be_own(self.flags.chunk)
             || (self.unit < 64 || self.unit > 1024)
             || self.pad > 16
-            || self.opaque.len() > 1024
+            || self.opaque.len() > MAX_OPAQUE_LEN
             || self.hint.len() > 64
     }
 

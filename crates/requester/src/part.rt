@@ -1,4 +1,5 @@
 ghost use Rattle.std.specs.Prelude.{◌≤◌, length};
+ghost use Rattle.spdm_grammar.specs.declared.names.TheConstants.{MAX_PADDING};
 
 use crate::{ReqConfig, ReqConfigFault};
 use mctp_framing::Route;
@@ -23,7 +24,7 @@ pub struct Part {
     pub(crate) suites: Suites,
     pub(crate) ghost unit_low: { 64 ≤ unit },
     pub(crate) ghost unit_high: { unit ≤ 1024 },
-    pub(crate) ghost pad_fits: { pad ≤ 16 },
+    pub(crate) ghost pad_fits: { pad ≤ MAX_PADDING },
 }
 
 impl Part {

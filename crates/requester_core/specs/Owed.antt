@@ -14,6 +14,8 @@ use Rattle.requester_machine.specs.Session.{session_of}
 use Rattle.requester_machine.specs.Setup.{ReqSetup}
 use Rattle.spdm_machine.specs.Bodies.{record_body}
 use Rattle.spdm_machine.specs.Keys.{Draw}
+use Rattle.spdm_grammar.specs.declared.names.TheConstants.{MAX_PADDING}
+use Rattle.secured_record.specs.declared.TheConstants.{MAX_RECORD_SIZE}
 
 -- ---- What is sent upon the newest entry.
 
@@ -55,19 +57,19 @@ IsOwedAs q bare id pad sent sealed =
 abbrev pub AreRepaddedIn : ReqSetup → (bare : History) → (whole : Sent → History) → (id : ℕ) → Sent
     → (sealed : List ℕ) → (new : Sessions) → Bool → Type 0
 AreRepaddedIn q bare whole id sent sealed new true =
-    (pad : List ℕ) × (length pad ≤ 16) × IsOwedAs q bare id pad sent sealed
+    (pad : List ℕ) × (length pad ≤ MAX_PADDING) × IsOwedAs q bare id pad sent sealed
     × sessions.StandsFor new q (whole (owed_with q bare id pad sent))
 AreRepaddedIn q bare whole id sent sealed new false =
-    length sealed ≤ 4160 → (pad : List ℕ) → length pad ≤ 16 → IsOwedAs q bare id pad sent sealed → ⊥
+    length sealed ≤ MAX_RECORD_SIZE → (pad : List ℕ) → length pad ≤ MAX_PADDING → IsOwedAs q bare id pad sent sealed → ⊥
 
 -- The same of the requester.
 abbrev pub IsRepaddedIn : ReqSetup → (bare : History) → (whole : Sent → History) → (id : ℕ) → Sent
     → (sealed : List ℕ) → (new : Asking) → Bool → Type 0
 IsRepaddedIn q bare whole id sent sealed new true =
-    (pad : List ℕ) × (length pad ≤ 16) × IsOwedAs q bare id pad sent sealed
+    (pad : List ℕ) × (length pad ≤ MAX_PADDING) × IsOwedAs q bare id pad sent sealed
     × StandsFor new q (whole (owed_with q bare id pad sent))
 IsRepaddedIn q bare whole id sent sealed new false =
-    length sealed ≤ 4160 → (pad : List ℕ) → length pad ≤ 16 → IsOwedAs q bare id pad sent sealed → ⊥
+    length sealed ≤ MAX_RECORD_SIZE → (pad : List ℕ) → length pad ≤ MAX_PADDING → IsOwedAs q bare id pad sent sealed → ⊥
 
 -- A message that was sent by itself on the newest entry.
 abbrev pub AreRepadded : ReqSetup → History → (id : ℕ) → Sent → (sealed : List ℕ)

@@ -10,6 +10,8 @@ use Rattle.requester_machine.specs.Records.{sealed_next}
 use Rattle.requester_machine.specs.Session.{Steps, is_accepted, session_of}
 use Rattle.requester_core.specs.Slot.{IsSlotOf}
 use Rattle.requester_core.specs.declared.in_sessions.slot.Slot.{Slot}
+use Rattle.spdm_grammar.specs.declared.names.TheConstants.{MAX_PADDING}
+use Rattle.secured_record.specs.declared.TheConstants.{MAX_RECORD_SIZE}
 
 -- ---- Which session a record names.
 
@@ -73,7 +75,7 @@ OpensNamed psk s sealed false out = (names sealed s && opens_own psk s sealed) �
 abbrev pub IsSlotRepadded : (psk : List ℕ) → Steps → Ask → (inner sealed : List ℕ) → (new : Slot)
     → Bool → Type 0
 IsSlotRepadded psk s a inner sealed new true =
-    (pad : List ℕ) × (length pad ≤ 16) × (sealed ≡ sealed_next psk s inner pad)
+    (pad : List ℕ) × (length pad ≤ MAX_PADDING) × (sealed ≡ sealed_next psk s inner pad)
     × IsSlotOf new psk (with_asked psk s a inner pad)
 IsSlotRepadded psk s a inner sealed new false =
-    length sealed ≤ 4160 → IsPadded psk s inner sealed → ⊥
+    length sealed ≤ MAX_RECORD_SIZE → IsPadded psk s inner sealed → ⊥

@@ -13,10 +13,11 @@ use Rattle.requester_machine.specs.Session.{session_of}
 use Rattle.requester_machine.specs.Setup.{ReqSetup}
 use Rattle.spdm_grammar.specs.Message.{RequestMessage}
 use Rattle.spdm_grammar.specs.Message.RequestMessage.{PskExchange}
+use Rattle.spdm_grammar.specs.declared.names.TheConstants.{MAX_SESSIONS}
 
 -- The slot of a ReqSessionID; an empty one where it is 0 or above 4.
 abbrev pub slot_of : Sessions → ℕ → Slot
-slot_of seen id = if id == 0 || nat_lt 4 id then slot.Empty else slice_index_or seen.slots (id - 1) slot.Empty
+slot_of seen id = if id == 0 || nat_lt MAX_SESSIONS id then slot.Empty else slice_index_or seen.slots (id - 1) slot.Empty
 
 -- The session that a request in the clear begins.
 abbrev pub session_begun : RequestMessage → Option ℕ

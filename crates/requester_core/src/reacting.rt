@@ -15,6 +15,7 @@ ghost use Rattle.requester_machine.specs.Shown.{event_in};
 ghost use Rattle.requester_machine.specs.UnderWay.{HasSizes};
 ghost use Rattle.spdm_grammar.specs.declared.told.event.Event.TheVariants as event;
 ghost use Rattle.spdm_machine.specs.Keys.{Draw};
+ghost use Rattle.spdm_grammar.specs.declared.names.TheConstants.{MAX_PADDING};
 
 use crate::body::{write_clear, write_record};
 use crate::clear::bodies::message_in;
@@ -79,7 +80,7 @@ impl Asking {
 
     // Handles `message`, the PSK_EXCHANGE_RSP that the session with this ReqSessionID awaits.
     fn begin(&mut self, id: u16, pad: &[u8], out: &mut Body) -> Reaction
-        requires pad { length pad.now ≤ 16 }
+        requires pad { length pad.now ≤ MAX_PADDING }
         ensures { (q : ReqSetup) (h : History) (owner : Bool) (tag : ℕ) (body : List ℕ) (f : Free)
             (d : Draw) → f.pad ≡ pad.now
             → IsExchangeFor q h owner tag body id self.old.talk self.old.talk self.old.message
@@ -94,7 +95,7 @@ impl Asking {
 
     // Handles a record for the session with this ReqSessionID, which awaits one.
     fn on_record(&mut self, id: u16, sealed: &[u8], pad: &[u8], out: &mut Body) -> Reaction
-        requires pad { length pad.now ≤ 16 }
+        requires pad { length pad.now ≤ MAX_PADDING }
         ensures { (q : ReqSetup) (h : History) (owner : Bool) (tag : ℕ) (body : List ℕ) (f : Free)
             (d : Draw) → HasSizes q → f.pad ≡ pad.now → length h < 2 ^ 64 - 1
             → sealed.now ≡ drop 1 body
@@ -128,7 +129,7 @@ impl Asking {
         pad: &[u8],
         out: &mut Body,
     ) -> Reaction
-        requires pad { length pad.now ≤ 16 }
+        requires pad { length pad.now ≤ MAX_PADDING }
         ensures { (q : ReqSetup) (h : History) (f : Free) (d : Draw) → IsSetUp setup.now q
             → f.pad ≡ pad.now → length h < 2 ^ 64 - 1 → StandsFor self.old q h
             → IsAnswered q h (hears q h owner tag body.now f d) result out.new self.new }

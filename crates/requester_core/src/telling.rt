@@ -12,6 +12,7 @@ ghost use Rattle.requester_machine.specs.Message.Command.{Connect, Measure, Open
 ghost use Rattle.requester_machine.specs.Setup.{ReqSetup};
 ghost use Rattle.requester_machine.specs.UnderWay.{HasSizes};
 ghost use Rattle.spdm_machine.specs.Keys.{Draw};
+ghost use Rattle.spdm_grammar.specs.declared.names.TheConstants.{MAX_PADDING, MAX_SESSIONS};
 
 use crate::body::{write_clear, write_record};
 use crate::{Again, Asking, Body, Command, FreeValues, Setup};
@@ -42,7 +43,7 @@ impl Asking {
         out: &mut Body,
     ) -> Result<u8, CommandFault>
         requires least { 1 ≤ free.now.id }
-        requires most { free.now.id ≤ 4 }
+        requires most { free.now.id ≤ MAX_SESSIONS }
         ensures { (q : ReqSetup) (h : History) (f : Free) (d : Draw) → IsSetUp setup.now q
             → q.psk ≡ psk.now → IsFree free.now f → IsAllowed q h f → StandsFor self.old q h
             → IsCommanded q h (asks false q h (Open summary) f d) result out.new self.new }
@@ -78,7 +79,7 @@ impl Asking {
 
     // Sends a request in the session with this ReqSessionID, in a record with this padding.
     fn ask(&mut self, id: u16, ask: Ask<'_>, pad: &[u8], out: &mut Body) -> Result<u8, CommandFault>
-        requires pad { length pad.now ≤ 16 }
+        requires pad { length pad.now ≤ MAX_PADDING }
         ensures { (q : ReqSetup) (h : History) (f : Free) (d : Draw) → f.pad ≡ pad.now
             → length h < 2 ^ 64 - 1 → StandsFor self.old q h
             → IsCommanded q h (asks false q h (command_at id ask.entry) f d) result out.new
@@ -129,8 +130,8 @@ impl Asking {
         out: &mut Body,
     ) -> Result<u8, CommandFault>
         requires least { 1 ≤ free.now.id }
-        requires most { free.now.id ≤ 4 }
-        requires pad { length pad.now ≤ 16 }
+        requires most { free.now.id ≤ MAX_SESSIONS }
+        requires pad { length pad.now ≤ MAX_PADDING }
         ensures { (q : ReqSetup) (h : History) (f : Free) (d : Draw) → IsSetUp setup.now q
             → q.psk ≡ psk.now → IsFree free.now f → f.pad ≡ pad.now → IsAllowed q h f
             → length h < 2 ^ 64 - 1 → StandsFor self.old q h → IsCommanded q h

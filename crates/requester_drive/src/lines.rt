@@ -7,6 +7,7 @@ ghost use Rattle.trace_text.specs.Whose.{fault_of};
 ghost use Rattle.spdm_basis.specs.Stream.{HasFault, Takes, TakesPrefix};
 ghost use Rattle.spdm_grammar.specs.Lines.Line.{Command, Data, Record};
 ghost use Rattle.spdm_grammar.specs.Lines.Whose.{Requester};
+ghost use Rattle.spdm_grammar.specs.declared.names.TheConstants.{MAX_MESSAGE_SIZE};
 
 use frame_stream::{write_line_frame, write_packet_frames};
 use mctp_framing::PacketList;
@@ -30,7 +31,7 @@ fn write_line<K: Sink>(sink: &mut K, line: &Line) -> Result<(), OutFault>
 
 // Writes the line of application data that came in a session.
 fn write_data<K: Sink>(sink: &mut K, id: SessionId, bytes: &[u8]) -> Result<(), OutFault>
-    requires { length bytes.now ≤ 4096 }
+    requires { length bytes.now ≤ MAX_MESSAGE_SIZE }
     ensures whole { OnOk result (Takes (K.contents sink.old)
         (line_frames (Data (Requester 1) id bytes.now ∷ [])) (K.contents sink.new)) }
     ensures prefix { OnErr result (TakesPrefix (K.contents sink.old)
@@ -45,7 +46,7 @@ fn write_data<K: Sink>(sink: &mut K, id: SessionId, bytes: &[u8]) -> Result<(), 
 
 // Writes the line of a measurement record that came.
 fn write_record<K: Sink>(sink: &mut K, bytes: &[u8]) -> Result<(), OutFault>
-    requires { length bytes.now ≤ 4096 }
+    requires { length bytes.now ≤ MAX_MESSAGE_SIZE }
     ensures whole { OnOk result (Takes (K.contents sink.old)
         (line_frames (Record 1 bytes.now ∷ [])) (K.contents sink.new)) }
     ensures prefix { OnErr result (TakesPrefix (K.contents sink.old)
@@ -61,7 +62,7 @@ fn write_record<K: Sink>(sink: &mut K, bytes: &[u8]) -> Result<(), OutFault>
 // Writes the line of the data or the measurement record that came with an event, if any came. `last` are the data or the
 // record that came last.
 fn write_came<K: Sink>(sink: &mut K, event: Event, last: &[u8]) -> Result<(), OutFault>
-    requires { length last.now ≤ 4096 }
+    requires { length last.now ≤ MAX_MESSAGE_SIZE }
     ensures whole { OnOk result (Takes (K.contents sink.old)
         (line_frames (event_data 1 event last.now)) (K.contents sink.new)) }
     ensures prefix { OnErr result (TakesPrefix (K.contents sink.old)
@@ -78,7 +79,7 @@ fn write_came<K: Sink>(sink: &mut K, event: Event, last: &[u8]) -> Result<(), Ou
 
 // Writes the lines of a packet that led to this event.
 fn write_event<K: Sink>(sink: &mut K, event: Event, last: &[u8]) -> Result<(), OutFault>
-    requires { length last.now ≤ 4096 }
+    requires { length last.now ≤ MAX_MESSAGE_SIZE }
     ensures whole { OnOk result (Takes (K.contents sink.old)
         (line_frames (event_lines 1 event last.now)) (K.contents sink.new)) }
     ensures prefix { OnErr result (TakesPrefix (K.contents sink.old)
@@ -103,7 +104,7 @@ pub(crate) fn write_given<K: Sink>(
     last: &[u8],
     sent: &PacketList,
 ) -> Result<(), OutFault>
-    requires last { length last.now ≤ 4096 }
+    requires last { length last.now ≤ MAX_MESSAGE_SIZE }
     requires short { AreShort sent.now }
     ensures whole { OnOk result (Takes (K.contents sink.old)
         (line_frames (event_lines 1 event last.now) ++ packet_frames sent.now)

@@ -9,6 +9,7 @@ use Rattle.requester_machine.specs.Setup.{ReqSetup}
 use Rattle.spdm_machine.specs.Terms.{response_value}
 use Rattle.requester_machine.specs.Message.{Aim, Sent}
 use Rattle.requester_machine.specs.Message.Aim.{Plain, ByChunks, ForChunk, InSession}
+use Rattle.spdm_grammar.specs.declared.names.message_type.TheConstants.{SECURED, SPDM}
 
 -- The code of an ERROR (DSP0274, "ERROR response message format").
 abbrev pub error_code : Option ResponseMessage → Option ℕ
@@ -21,11 +22,11 @@ error_in message = error_code (response_value message)
 
 -- A body is a type and a message: 5 for an SPDM message (DSP0275), 6 for a record (DSP0276).
 abbrev pub is_clear : List ℕ → Bool
-is_clear body = slice_index body 0 == 5
+is_clear body = slice_index body 0 == SPDM
 
 -- The type of the body is that of a record.
 abbrev pub is_record : List ℕ → Bool
-is_record body = slice_index body 0 == 6
+is_record body = slice_index body 0 == SECURED
 
 -- The tag is that of the outstanding message.
 abbrev pub has_tag : Option Sent → ℕ → Bool

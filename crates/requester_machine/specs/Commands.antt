@@ -18,6 +18,7 @@ use Rattle.requester_machine.specs.Message.{Command}
 use Rattle.requester_machine.specs.Message.Command.{Connect, Open, Send, Beat, Update, Measure, End, Retry}
 use Rattle.requester_machine.specs.Sending.{is_too_long}
 use Rattle.requester_machine.specs.Session.{Steps, session_of, is_live, session_terms, request_next, response_next}
+use Rattle.spdm_grammar.specs.declared.names.TheConstants.{MAX_APP_DATA_LEN, MAX_SESSIONS}
 
 -- All that a requester's message leaves free: the ReqSessionID, the context and the opaque data of PSK_EXCHANGE, and
 -- the padding of a record.
@@ -117,7 +118,7 @@ exchange_for q f summary = PskExchange (record { summary = summary; req_id = f.i
 
 -- Application data has more than 1,024 bytes, or PSK_EXCHANGE is too long for the responder.
 abbrev pub is_long : ReqSetup → History → Free → Command → Bool
-is_long q h f (Send id bytes) = nat_lt 1024 (length bytes)
+is_long q h f (Send id bytes) = nat_lt MAX_APP_DATA_LEN (length bytes)
 is_long q h f (Open summary) = is_too_long (connection_terms h).common (canonical_request (exchange_for q f summary))
 is_long q h f _ = false
 
@@ -130,7 +131,7 @@ command_tests q h command f =
     ∷ (needs_connection command && is_some (outstanding h), fault.Busy)
     ∷ (needs_connection command && not (is_negotiated (phase_of h)), fault.NotConnected)
     ∷ (is_nowhere h (session_in command), fault.NoSuchSession)
-    ∷ (is_open command && live_count h == 4, fault.SessionLimit)
+    ∷ (is_open command && live_count h == MAX_SESSIONS, fault.SessionLimit)
     ∷ (lacks (terms_at h (session_in command)) command, fault.NotNegotiated)
     ∷ (is_bad_summary command, fault.BadSummary)
     ∷ (is_spent_at h (session_in command) command, fault.KeySpent)

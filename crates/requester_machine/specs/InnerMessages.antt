@@ -25,6 +25,8 @@ use Rattle.requester_machine.specs.Sending.{verify_sent, chunk_sent, operation_o
 use Rattle.requester_machine.specs.Session.{Steps, when_live, session_id, session_terms}
 use Rattle.requester_machine.specs.Session.Step.{Took}
 use Rattle.spdm_grammar.specs.declared.names.error_number.TheConstants.{LARGE_RESPONSE}
+use Rattle.spdm_grammar.specs.declared.names.TheConstants.{MAX_APP_DATA_LEN}
+use Rattle.spdm_grammar.specs.declared.names.message_type.TheConstants.{SPDM}
 
 -- A record as it came to a session: the ReqSessionID and the own history of the session when it came, the record, and
 -- its inner message.
@@ -48,9 +50,9 @@ message_in came = drop 1 came.inner
 -- the inner message is empty or of another type.
 abbrev pub inner_fault : ReqSetup → List ℕ → Option BadReply
 inner_fault q inner = first_of_tests (
-    (slice_index inner 0 == 5 && nat_lt q.transfer (length (drop 1 inner)), bad.TooLong)
-    ∷ (slice_index inner 0 == 1 && nat_lt 1024 (length (drop 1 inner)), bad.TooLong)
-    ∷ (not (slice_index inner 0 == 5 || slice_index inner 0 == 1), bad.Malformed 0)
+    (slice_index inner 0 == SPDM && nat_lt q.transfer (length (drop 1 inner)), bad.TooLong)
+    ∷ (slice_index inner 0 == 1 && nat_lt MAX_APP_DATA_LEN (length (drop 1 inner)), bad.TooLong)
+    ∷ (not (slice_index inner 0 == SPDM || slice_index inner 0 == 1), bad.Malformed 0)
     ∷ [])
 
 -- The response that bytes encode in a session, or their first fault. No summary is asked for there.
@@ -157,7 +159,7 @@ data_led came _ = Err bad.WrongKind
 abbrev pub inner_led_by : ReqSetup → History → Free → Came → Ask → Option BadReply → Result Led BadReply
 inner_led_by q h f came ask (Some fault) = Err fault
 inner_led_by q h f came ask None =
-    if slice_index came.inner 0 == 5 then read_led q h f came ask (reading_of came (message_in came))
+    if slice_index came.inner 0 == SPDM then read_led q h f came ask (reading_of came (message_in came))
     else data_led came ask
 
 -- What the inner message leads to, or why it is no answer.

@@ -29,6 +29,7 @@ use Rattle.requester_machine.specs.RequesterLog.{acts_of}
 use Rattle.requester_machine.specs.Session.{Steps, session_of, is_live, request_next, request_epoch}
 use Rattle.requester_machine.specs.Session.Step.{Started, Asked, Took}
 use Rattle.requester_machine.specs.Shown.{after}
+use Rattle.spdm_grammar.specs.declared.names.TheConstants.{MAX_SESSIONS}
 
 -- ---- What the requester does, it may.
 
@@ -79,7 +80,7 @@ UnopenedAddsNothing = (q : ReqSetup) (h : History) (owner : Bool) (tag : ℕ) (b
 
 -- The sessions of a made history have ids from 1 to 4.
 abbrev pub LiveIdsAreFew : Type 0
-LiveIdsAreFew = (q : ReqSetup) (h : History) (id : ℕ) → IsMade q h → is_live (session_of id h) ≡ true → (1 ≤ id) × (id ≤ 4)
+LiveIdsAreFew = (q : ReqSetup) (h : History) (id : ℕ) → IsMade q h → is_live (session_of id h) ≡ true → (1 ≤ id) × (id ≤ MAX_SESSIONS)
 
 -- A new session's id is from 1 to 4 and was that of no live session, and it begins with its PSK_EXCHANGE under the
 -- negotiation as it stands.

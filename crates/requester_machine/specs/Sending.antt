@@ -15,6 +15,7 @@ use Rattle.requester_machine.specs.Message.Ask.{AskFinish, AskVerify, AskChunk}
 use Rattle.requester_machine.specs.Message.Content.{Clear, Sealed}
 use Rattle.requester_machine.specs.Records.{sealed_next}
 use Rattle.requester_machine.specs.Session.{Steps, session_terms, session_vca, exchange_of, exchange_answer, t1_of, request_epoch}
+use Rattle.spdm_grammar.specs.declared.names.message_type.TheConstants.{SPDM}
 
 -- ---- In the clear.
 
@@ -56,7 +57,7 @@ request_sent common h asked =
 
 -- An inner message is a type and a message: 5 for an SPDM message, 1 for application data (DSP0277).
 abbrev pub inner_request : RequestMessage → List ℕ
-inner_request request = 5 ∷ canonical_request request
+inner_request request = SPDM ∷ canonical_request request
 
 -- The inner message of application data.
 abbrev pub inner_data : List ℕ → List ℕ

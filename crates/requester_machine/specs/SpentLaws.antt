@@ -15,6 +15,7 @@ use Rattle.requester_machine.specs.Records.{answer_number}
 use Rattle.requester_machine.specs.ResponseLaws.{taken_under}
 use Rattle.requester_machine.specs.Session.{Steps, session_of, request_next, response_next}
 use Rattle.requester_machine.specs.Session.Step.{Asked, Took}
+use Rattle.spdm_grammar.specs.declared.names.TheConstants.{MAX_RECORDS}
 
 -- The number under which the answer to what waits is taken; where nothing waits, none is.
 abbrev pub number_for : Steps → Option Ask → ℕ
@@ -26,12 +27,12 @@ abbrev pub FewFor : Ask → (request response : ℕ) → Type 0
 FewFor AskFinish request response = (request ≤ 65535) × (response ≤ 65534)
 FewFor AskData request response = (request ≤ 65535) × (response ≤ 65534)
 FewFor AskBeat request response = (request ≤ 65535) × (response ≤ 65534)
-FewFor (AskUpdate true) request response = (request ≤ 65536) × (response ≤ 65535)
+FewFor (AskUpdate true) request response = (request ≤ MAX_RECORDS) × (response ≤ 65535)
 FewFor (AskUpdate false) request response = (request ≤ 65535) × (response ≤ 65533)
 FewFor AskVerify request response = (request ≤ 65535) × (response ≤ 65534)
 FewFor (AskMeasure op) request response = (request ≤ 65300) × (response ≤ 65299)
 FewFor (AskChunk op handle number before) request response = (request ≤ 65301 + number) × (response ≤ 65300 + number) × (number ≤ 157)
-FewFor AskEnd request response = (request ≤ 65536) × (response ≤ 65535)
+FewFor AskEnd request response = (request ≤ MAX_RECORDS) × (response ≤ 65535)
 
 -- What bounds them by what the session waits for.
 abbrev pub FewBy : Waits → Steps → Type 0
@@ -52,7 +53,7 @@ AreNumbersFew (_ ∷ older) = AreNumbersFew older
 pub record AreFew (s : Steps) : Type 0 where
   pub numbers : AreNumbersFew s
   pub resting : waiting_ask s ≡ None → request_next s ≤ 65535
-  pub request : request_next s ≤ 65536
+  pub request : request_next s ≤ MAX_RECORDS
   pub response : response_next s ≤ 65535
   pub awaited : number_for s (waiting_ask s) ≤ 65535
 
@@ -64,7 +65,7 @@ NumbersAreFew = (q : ReqSetup) (h : History) (id : ℕ) → IsMade q h → AreFe
 -- END_SESSION and one for which the session is lost: with these it is gone.
 abbrev pub KeysAreFew : Type 0
 KeysAreFew = (q : ReqSetup) (h : History) (id : ℕ) (p : Purpose) → IsMade q h
-    → (sealed_under q.psk p (session_of id h) ≤ 65536) × (taken_under q.psk p (session_of id h) ≤ 65535)
+    → (sealed_under q.psk p (session_of id h) ≤ MAX_RECORDS) × (taken_under q.psk p (session_of id h) ≤ 65535)
 
 -- A record that comes in answer to what is outstanding is taken under a number of at most 65,535, also where the session
 -- is gone with it.

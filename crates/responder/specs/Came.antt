@@ -21,6 +21,8 @@ use Rattle.spdm_grammar.specs.declared.told.heard.RspIgnored.TheVariants as igno
 use Rattle.spdm_machine.specs.Keys.{Draw}
 use Rattle.spdm_machine.specs.Packets.{body_type, packets_to}
 use Rattle.session_keys.specs.Drawing.{drawn_by}
+use Rattle.spdm_grammar.specs.declared.names.TheConstants.{MAX_APP_DATA_LEN}
+use Rattle.spdm_grammar.specs.declared.names.message_type.TheConstants.{SECURED, SPDM}
 
 -- This is told of it and nothing else comes of it, or it completes a body that has an outcome.
 pub data Came : Type 0 where
@@ -31,7 +33,7 @@ pub data Came : Type 0 where
 abbrev pub came_whole : Connection → Draw → RouteFields → List ℕ → Came
 came_whole c d route body =
     if not route.owner then Told (heard.Ignored ignored.NotRequest)
-    else (if not (body_type body == 5 || body_type body == 6) then Told (heard.Ignored ignored.OtherType)
+    else (if not (body_type body == SPDM || body_type body == SECURED) then Told (heard.Ignored ignored.OtherType)
     else Does route body (responder_does c.setup c.history route.tag body d))
 
 -- A packet, by what it leads to where bodies are gathered.
@@ -87,7 +89,7 @@ pub record IsMet (c : Connection) (came : Came) (tells : Heard) (sends : List (L
 
 -- The data of the session that is told of have at most 1,024 bytes.
 abbrev pub IsShort : Heard → History → Type 0
-IsShort (heard.Taken id) h = length (sessions.data_of (session_of id.rsp h)) ≤ 1024
+IsShort (heard.Taken id) h = length (sessions.data_of (session_of id.rsp h)) ≤ MAX_APP_DATA_LEN
 IsShort _ h = Unit {0}
 
 -- The data of the session that is told of, as it keeps them.

@@ -9,6 +9,7 @@ use Rattle.responder.specs.declared.config.Known.{Known}
 use Rattle.responder.specs.declared.config.RspConfig.{RspConfig}
 use Rattle.responder.specs.declared.fault.RspConfigFault.{RspConfigFault}
 use Rattle.responder.specs.declared.fault.RspConfigFault.TheVariants.{Inventory, OutOfMemory, SameEid, SamePsk, SizeRange, TooManyRequesters}
+use Rattle.spdm_grammar.specs.declared.names.TheConstants.{MAX_OPAQUE_LEN}
 
 -- A requester has this endpoint,
 abbrev pub is_eid_of_one : ℕ → List Known → Bool
@@ -37,7 +38,7 @@ abbrev pub is_out_of_range : RspConfig → Bool
 is_out_of_range c =
     not (may_be_own (record { transfer = c.transfer; max = c.max }) c.flags.chunk)
     || (nat_lt c.unit 64 || nat_lt 1024 c.unit)
-    || nat_lt 1024 (length c.opaque.now)
+    || nat_lt MAX_OPAQUE_LEN (length c.opaque.now)
     || has_long_hint c.known.now
 
 -- The first reason, whatever the measurements, in this order.

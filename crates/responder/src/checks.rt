@@ -6,6 +6,7 @@ use crate::{Known, RspConfig, RspConfigFault};
 use measurements::{Inventory, InventoryFault};
 use negotiate::Sizes;
 use spdm_basis::Eid;
+use spdm_grammar::names::MAX_OPAQUE_LEN;
 use std::alloc::Global;
 
 // Whether a requester has this endpoint ID.
@@ -70,7 +71,7 @@ impl RspConfig<'_> {
         };
         !sizes.may_be_own(self.flags.chunk)
             || (self.unit < 64 || self.unit > 1024)
-            || self.opaque.len() > 1024
+            || self.opaque.len() > MAX_OPAQUE_LEN
             || has_long_hint(self.known)
     }
 

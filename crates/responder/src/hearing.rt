@@ -7,6 +7,7 @@ ghost use Rattle.responder_machine.specs.BoundLaws.{messages_of};
 ghost use Rattle.responder_machine.specs.Does.{IsMade, clear_does, first_queued, record_does};
 ghost use Rattle.responder_machine.specs.History.{History, queue_of};
 ghost use Rattle.responder_machine.specs.Setup.{RspSetup};
+ghost use Rattle.spdm_grammar.specs.declared.names.TheConstants.{MAX_OPAQUE_LEN};
 
 use crate::body::{write_body, write_reply};
 use crate::room::Room;
@@ -16,10 +17,11 @@ use responder_session::RecordFree;
 use session_keys::context_of;
 use spdm_basis::Buffer;
 use spdm_grammar::Heard;
+use spdm_grammar::names::MAX_APP_DATA_LEN;
 use spdm_grammar::names::message_type::SPDM;
 
 // Overwrites `reply` with the next application data to send in reply.
-fn write_next_reply(connection: &Connection, reply: &mut Buffer<1024>)
+fn write_next_reply(connection: &Connection, reply: &mut Buffer<MAX_APP_DATA_LEN>)
     ensures { (r : RspSetup) (h : History) → StandsFor connection.now r h
         → reply.new ≡ first_queued (queue_of h) }
 {
@@ -37,7 +39,7 @@ pub(crate) fn hear_clear(
     drawn: &Drawn,
     room: &mut Room,
 ) -> Heard
-    requires { length setup.now.opaque.now ≤ 1024 }
+    requires { length setup.now.opaque.now ≤ MAX_OPAQUE_LEN }
     ensures done { (r : RspSetup) (h : History) → IsSetUp setup.now r → IsMade r h
         → StandsFor connection.old r h
         → IsDone r h (clear_does r h tag message.now (draw_as drawn.now)) result room.new.body

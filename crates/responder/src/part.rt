@@ -1,4 +1,5 @@
 ghost use Rattle.std.specs.Prelude.{◌≤◌, length};
+ghost use Rattle.spdm_grammar.specs.declared.names.TheConstants.{MAX_OPAQUE_LEN};
 
 use crate::{Known, RspConfig, RspConfigFault};
 use measurements::Inventory;
@@ -21,7 +22,7 @@ pub struct Part {
     pub(crate) suites: Suites,
     pub(crate) ghost unit_low: { 64 ≤ unit },
     pub(crate) ghost unit_high: { unit ≤ 1024 },
-    pub(crate) ghost opaque_fits: { length opaque ≤ 1024 },
+    pub(crate) ghost opaque_fits: { length opaque ≤ MAX_OPAQUE_LEN },
 }
 
 impl Part {
@@ -58,7 +59,7 @@ impl Part {
     pub(crate) fn towards<'a>(&'a self, known: &'a Known) -> Setup<'a>
         ensures set { (p : RspPart) → IsPart self.now p
             → IsSetUp result (towards p (known_of known.now)) }
-        ensures fits { length result.opaque.now ≤ 1024 }
+        ensures fits { length result.opaque.now ≤ MAX_OPAQUE_LEN }
     {
         Setup {
             transfer: self.transfer,

@@ -1,6 +1,7 @@
 use crate::body::Body;
 use responder_session::Work;
 use spdm_basis::{Buffer, Frame, RecordFrame};
+use spdm_grammar::names::MAX_APP_DATA_LEN;
 
 // Scratch buffers for one response, allocated once so that no packet clears buffers of its own. Their contents between
 // two bodies are irrelevant.
@@ -13,7 +14,7 @@ pub struct Room {
     // The response record.
     pub(crate) record: RecordFrame,
     // The next application data to send in reply: up to 1,024 bytes.
-    pub(crate) reply: Buffer<1024>,
+    pub(crate) reply: Buffer<MAX_APP_DATA_LEN>,
     // Scratch space for handling a record.
     pub(crate) work: Work,
 }

@@ -10,13 +10,14 @@ use hmac_hkdf::DrawStream;
 use responder_core::Connection;
 use spdm_basis::Buffer;
 use spdm_grammar::Heard;
+use spdm_grammar::names::MAX_APP_DATA_LEN;
 
 // State shared by all connections of a responder: the draws, the application data received last, and scratch buffers
 // for a response.
 #[derive(Drop)]
 pub struct Shared {
     pub(crate) draws: DrawStream,
-    pub(crate) last: Buffer<1024>,
+    pub(crate) last: Buffer<MAX_APP_DATA_LEN>,
     pub(crate) room: Room,
 }
 

@@ -13,6 +13,8 @@ ghost use Rattle.responder_machine.specs.Responding as responding;
 ghost use Rattle.responder_machine.specs.Setup.{Known, RspPart, RspSetup, towards};
 ghost use Rattle.spdm_machine.specs.Keys.{draw_of};
 ghost use Rattle.spdm_machine.specs.Packets.{body_type};
+ghost use Rattle.spdm_grammar.specs.declared.names.TheConstants.{MAX_OPAQUE_LEN};
+ghost use Rattle.spdm_grammar.specs.declared.names.message_type.TheConstants.{SECURED, SPDM};
 
 use crate::hearing::{hear_clear, hear_record};
 use crate::part::Part;
@@ -52,11 +54,11 @@ fn hear_body(
     drawn: &Drawn,
     room: &mut Room,
 ) -> Option<Heard>
-    requires { length setup.now.opaque.now ≤ 1024 }
+    requires { length setup.now.opaque.now ≤ MAX_OPAQUE_LEN }
     ensures known { MatchOption result
-        ((body_type bytes.now == 5 || body_type bytes.now == 6) ≡ false
+        ((body_type bytes.now == SPDM || body_type bytes.now == SECURED) ≡ false
         × (connection.new ≡ connection.old))
-        (λ heard. (body_type bytes.now == 5 || body_type bytes.now == 6) ≡ true) }
+        (λ heard. (body_type bytes.now == SPDM || body_type bytes.now == SECURED) ≡ true) }
     ensures done { (r : RspSetup) (h : History) → IsSetUp setup.now r → IsMade r h
         → messages_of h < 2 ^ 64 - 1 → StandsFor connection.old r h
         → IfSome result (λ heard. IsDone r h (responder_does r h tag bytes.now (draw_as drawn.now))
@@ -85,7 +87,7 @@ pub(crate) fn hear_whole(
     bytes: &[u8],
     out: &mut PacketList,
 ) -> Heard
-    requires { length setup.now.opaque.now ≤ 1024 }
+    requires { length setup.now.opaque.now ≤ MAX_OPAQUE_LEN }
     ensures { (p : RspPart) (q : Known) (c : responding.Connection) → IsPart part.now p
         → IsSetUp setup.now c.setup → c.setup ≡ towards p q → IsMade c.setup c.history
         → messages_of c.history < 2 ^ 64 - 1 → shared.old.draws.number < 2 ^ 64 - 1

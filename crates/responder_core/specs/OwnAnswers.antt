@@ -8,10 +8,11 @@ use Rattle.responder_session.specs.OwnAnswers.{IsKeyOfNext, IsKeyOfReply}
 use Rattle.responder_session.specs.OwnAnswers as session
 use Rattle.responder_session.specs.Took.{turn_in}
 use Rattle.responder_session.specs.declared.answer_key.AnswerKey.{AnswerKey}
+use Rattle.spdm_grammar.specs.declared.names.TheConstants.{MAX_RECORDS}
 
 -- There is a session, and its key of answers has a number left.
 abbrev pub has_next : Events → Bool
-has_next s = is_live s && not (response_next s == 65536)
+has_next s = is_live s && not (response_next s == MAX_RECORDS)
 
 -- There is a session in which the record opens as the next one of the requester.
 abbrev pub opens_in : RspSetup → Events → (sealed : List ℕ) → Bool

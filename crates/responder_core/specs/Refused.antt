@@ -15,6 +15,7 @@ use Rattle.spdm_grammar.specs.declared.names.request_code.TheConstants.{PSK_EXCH
 use Rattle.spdm_grammar.specs.declared.messages.part_faults.ChunkFault.{ChunkFault}
 use Rattle.spdm_grammar.specs.declared.messages.part_faults.ChunkFault.TheVariants as fault
 use Rattle.spdm_grammar.specs.declared.messages.request.Request.{Request}
+use Rattle.spdm_grammar.specs.declared.names.TheConstants.{MAX_SESSIONS}
 
 -- The place is in no session.
 abbrev pub IsClear : Where → Type 0
@@ -38,7 +39,7 @@ tests_of_request r p asked =
 abbrev pub tests_of_answer : Place → (code : ℕ) → List ℕ → List (Bool × ErrorCode)
 tests_of_answer p code answer =
     (is_answer_too_long p answer, ResponseTooLarge)
-    ∷ (code == PSK_EXCHANGE && p.past_handshake == 4, SessionLimitExceeded)
+    ∷ (code == PSK_EXCHANGE && p.past_handshake == MAX_SESSIONS, SessionLimitExceeded)
     ∷ []
 
 -- The code for which a chunk is refused that breaks a rule of collecting.

@@ -18,10 +18,12 @@ use Rattle.spdm_grammar.specs.declared.told.session_view.SessionView.{SessionVie
 use Rattle.spdm_machine.specs.Bodies.{clear_body, record_body}
 use Rattle.spdm_machine.specs.Keys.{Draw}
 use Rattle.spdm_machine.specs.Sessions.{is_past_handshake}
+use Rattle.secured_record.specs.declared.TheConstants.{MAX_RECORD_SIZE}
+use Rattle.spdm_grammar.specs.declared.names.TheConstants.{MAX_SESSIONS}
 
 -- The slot of a RspSessionID; none where it is 0 or above 4.
 abbrev pub slot_of : Sessions → ℕ → Option Live
-slot_of seen id = if id == 0 || nat_lt 4 id then None else slice_index_or seen.slots (id - 1) None
+slot_of seen id = if id == 0 || nat_lt MAX_SESSIONS id then None else slice_index_or seen.slots (id - 1) None
 
 -- They are those of this history: the slot of each RspSessionID has its session, and the last record of the one ended
 -- session is kept.
@@ -63,7 +65,7 @@ pub record IsDelivered (r : RspSetup) (h : History) (sealed : List ℕ) (f : Fre
 -- The session of an id is still in its slot if it is live; its last record is kept apart if it is ended.
 pub record IsSettled (r : RspSetup) (sealed out : List ℕ) (mid new : Sessions) (id : ℕ) : Type 0 where
   pub live : (s : Events) → IsSlotOf (slot_of mid id) r s → new ≡ mid
-  pub gone : (kept : Live) (bytes : List ℕ) → slot_of mid id ≡ Some kept → IsEnded kept.session bytes sealed out → length sealed ≤ 4160
+  pub gone : (kept : Live) (bytes : List ℕ) → slot_of mid id ≡ Some kept → IsEnded kept.session bytes sealed out → length sealed ≤ MAX_RECORD_SIZE
       → (slot_of new id ≡ None) × (new.ended ≡ Some (record { sealed = sealed; reply = out }))
   pub others : (i : ℕ) → i ≢ id → slot_of new i ≡ slot_of mid i
 

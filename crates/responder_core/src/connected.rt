@@ -1,5 +1,6 @@
 ghost use Rattle.std.specs.Prelude.{◌≡◌};
 ghost use Rattle.responder_core.specs.Connected.{queue_left, tells_measured};
+ghost use Rattle.spdm_grammar.specs.declared.names.TheConstants.{MAX_APP_DATA_LEN, MAX_OPAQUE_LEN, MAX_PADDING, MAX_SESSIONS};
 
 use crate::clear::clear_part::code_at;
 use crate::{Begun, ClearPart, FreeValues, Sessions, Setup, Told};
@@ -83,7 +84,7 @@ impl Connection {
         out: &mut Frame,
     ) -> Heard
         requires least { 1 ≤ free.now.id }
-        requires most { free.now.id ≤ 4 }
+        requires most { free.now.id ≤ MAX_SESSIONS }
         ensures done { (r : RspSetup) (h : History) (f : Free) (d : Draw) → IsSetUp setup.now r
             → IsFree free.now f → IsAllowed h (clear_place h) f → StandsFor self.old r h
             → IsDone r h (on_clear r h tag message.now f d) result (clear_body out.new) self.new }
@@ -117,7 +118,7 @@ impl Connection {
         out: &mut Frame,
     ) -> Heard
         requires least { 1 ≤ free.now.id }
-        requires most { free.now.id ≤ 4 }
+        requires most { free.now.id ≤ MAX_SESSIONS }
         ensures done { (r : RspSetup) (h : History) (f : Free) (d : Draw) → IsSetUp setup.now r
             → IsFree free.now f → IsAllowed h (clear_place h) f
             → IsBeginning r h tag message.now f begun self.old.clear → StandsBeside self.old r h
@@ -149,9 +150,9 @@ impl Connection {
         out: &mut RecordFrame,
     ) -> Heard
         requires nonce { length free.now.nonce.now ≡ 32 }
-        requires opaque { length free.now.opaque.now ≤ 1024 }
-        requires reply { length free.now.reply.now ≤ 1024 }
-        requires pad { length free.now.pad.now ≤ 16 }
+        requires opaque { length free.now.opaque.now ≤ MAX_OPAQUE_LEN }
+        requires reply { length free.now.reply.now ≤ MAX_APP_DATA_LEN }
+        requires pad { length free.now.pad.now ≤ MAX_PADDING }
         ensures done { (r : RspSetup) (h : History) (tag : ℕ) (f : Free) (d : Draw)
             → IsSetUp setup.now r → AreFree free.now f → messages_of h < 2 ^ 64 - 1
             → StandsFor self.old r h → IsDone r h (on_record r h tag sealed.now f d) result

@@ -1,4 +1,5 @@
 ghost use Rattle.std.specs.Prelude.{◌≤◌, ◌<◌, ◌^◌, length};
+ghost use Rattle.spdm_grammar.specs.declared.names.TheConstants.{MAX_OPAQUE_LEN};
 
 /// The values that a responder chooses for a response. Each response uses those that it needs.
 #[derive(Clone, Copy)]
@@ -20,6 +21,6 @@ pub struct FreeValues<'a> {
     /// The padding of a record.
     pub pad: &'a [u8],
     ghost context_fits: { length context.now < 2 ^ 16 },
-    ghost exchange_opaque_fits: { length exchange_opaque.now ≤ 1024 },
-    ghost measured_opaque_fits: { length measured_opaque.now ≤ 1024 },
+    ghost exchange_opaque_fits: { length exchange_opaque.now ≤ MAX_OPAQUE_LEN },
+    ghost measured_opaque_fits: { length measured_opaque.now ≤ MAX_OPAQUE_LEN },
 }

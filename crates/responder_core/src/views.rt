@@ -1,3 +1,5 @@
+ghost use Rattle.spdm_grammar.specs.declared.names.TheConstants.{MAX_APP_DATA_LEN};
+
 use crate::Connection;
 use spdm_grammar::{Choice, Phase, SessionList, SessionView};
 
@@ -105,7 +107,7 @@ impl Connection {
     pub fn next_reply(&self) -> &[u8]
         ensures value { (r : RspSetup) (h : History) → StandsFor self.now r h
             → result.now ≡ first_queued (queue_of h) }
-        ensures fits { length result.now ≤ 1024 }
+        ensures fits { length result.now ≤ MAX_APP_DATA_LEN }
     {
         self.queue.first()
     }

@@ -8,6 +8,7 @@ use Rattle.responder_machine.specs.History.Entry.{Clear, Sealed}
 use Rattle.responder_machine.specs.LargeMessages.{larges_of}
 use Rattle.responder_machine.specs.Session.{Events, session_of, turns_of, request_epoch, response_epoch, taken_of}
 use Rattle.responder_machine.specs.Setup.{RspSetup}
+use Rattle.spdm_grammar.specs.declared.names.TheConstants.{MAX_APP_DATA_LEN}
 
 -- How many messages came: clear ones, and records that opened.
 abbrev pub messages_of : History → ℕ
@@ -43,4 +44,4 @@ SessionIsBounded = (h : History) (id : ℕ) → IsSessionWithin (session_of id h
 -- In a made history at most 16 application messages wait, each of at most 1,024 bytes.
 abbrev pub QueueIsBounded : Type 0
 QueueIsBounded = (r : RspSetup) (h : History) → IsMade r h
-    → (length (queue_of h) ≤ 16) × AllByRecursion (λ bytes. length bytes ≤ 1024) (queue_of h)
+    → (length (queue_of h) ≤ 16) × AllByRecursion (λ bytes. length bytes ≤ MAX_APP_DATA_LEN) (queue_of h)

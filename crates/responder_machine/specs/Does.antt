@@ -11,6 +11,8 @@ use Rattle.responder_machine.specs.Responder.{Outcome, on_clear, on_record}
 use Rattle.responder_machine.specs.Responder.Outcome.{Adds}
 use Rattle.responder_machine.specs.Session.{session_of, id_in_record}
 use Rattle.responder_machine.specs.Setup.{RspSetup}
+use Rattle.spdm_grammar.specs.declared.names.TheConstants.{MAX_APP_DATA_LEN}
+use Rattle.spdm_grammar.specs.declared.names.message_type.TheConstants.{SPDM}
 
 -- The application data that waits first, and an empty one where none waits.
 abbrev pub first_queued : List (List ℕ) → List ℕ
@@ -51,7 +53,7 @@ record_does r h tag sealed d = on_record r h tag sealed (record_chosen r h seale
 -- A body of type 5 or 6 came.
 abbrev pub responder_does : RspSetup → History → ℕ → List ℕ → Draw → Outcome
 responder_does r h tag body d =
-    if slice_index body 0 == 5 then clear_does r h tag (drop 1 body) d
+    if slice_index body 0 == SPDM then clear_does r h tag (drop 1 body) d
     else record_does r h tag (drop 1 body) d
 
 -- A history that this responder made: each entry is what it does at the older history, application data that is queued
@@ -60,6 +62,6 @@ abbrev pub IsMade : RspSetup → History → Type 0
 IsMade r [] = ⊤
 IsMade r (Clear tag t d ∷ older) = (clear_does r older tag t.message d ≡ Adds (Clear tag t d)) × IsMade r older
 IsMade r (Sealed tag m t reply d ∷ older) = (record_does r older tag m d ≡ Adds (Sealed tag m t reply d)) × IsMade r older
-IsMade r (Queued bytes ∷ older) = (length bytes ≤ 1024) × (length (queue_of older) < 16) × IsMade r older
+IsMade r (Queued bytes ∷ older) = (length bytes ≤ MAX_APP_DATA_LEN) × (length (queue_of older) < 16) × IsMade r older
 IsMade r (Ticked seconds ∷ older) = IsMade r older
 IsMade r (Dropped id ∷ older) = ⊥

@@ -31,17 +31,18 @@ use Rattle.responder_machine.specs.Turn.{Turn, takes, request_in, answer_in}
 use Rattle.spdm_grammar.specs.Codes.{code_for}
 use Rattle.responder_machine.specs.Turn.Effect.{Took}
 use Rattle.spdm_grammar.specs.declared.names.request_code.TheConstants.{PSK_EXCHANGE}
+use Rattle.spdm_grammar.specs.declared.names.TheConstants.{MAX_OPAQUE_LEN, MAX_SESSIONS}
 
 -- ---- What it does, it may.
 
 -- The values that the responder chooses are ones that any responder may choose.
 abbrev pub ChosenIsAllowed : Type 0
-ChosenIsAllowed = (r : RspSetup) (h : History) (p : Place) (d : Draw) → IsMade r h → length d.bytes ≡ 32 → length r.opaque ≤ 1024
+ChosenIsAllowed = (r : RspSetup) (h : History) (p : Place) (d : Draw) → IsMade r h → length d.bytes ≡ 32 → length r.opaque ≤ MAX_OPAQUE_LEN
     → IsAllowed h p (chosen r h p d)
 
 -- What the responder does with a body is what any responder may do with it, without a session dropped without a trace.
 abbrev pub DoesWhatItMay : Type 0
-DoesWhatItMay = (r : RspSetup) (h : History) (tag : ℕ) (body : List ℕ) (d : Draw) → IsMade r h → length d.bytes ≡ 32 → length r.opaque ≤ 1024
+DoesWhatItMay = (r : RspSetup) (h : History) (tag : ℕ) (body : List ℕ) (d : Draw) → IsMade r h → length d.bytes ≡ 32 → length r.opaque ≤ MAX_OPAQUE_LEN
     → ResponderMay r h [] tag body d (responder_does r h tag body d)
 
 -- ---- A refused request changes no session.
@@ -147,7 +148,7 @@ FreeIdIsFree = (h : History) → held_of h ≢ 4 → (1 ≤ free_id h) × (free_
 
 -- In a made history, the id of each live session is from 1 to 4.
 abbrev pub LiveIdIsFromOneToFour : Type 0
-LiveIdIsFromOneToFour = (r : RspSetup) (h : History) (id : ℕ) → IsMade r h → is_live (session_of id h) ≡ true → (1 ≤ id) × (id ≤ 4)
+LiveIdIsFromOneToFour = (r : RspSetup) (h : History) (id : ℕ) → IsMade r h → is_live (session_of id h) ≡ true → (1 ≤ id) × (id ≤ MAX_SESSIONS)
 
 -- The count of the established sessions is at most four.
 abbrev pub FourAreHeldAtMost : Type 0
@@ -173,7 +174,7 @@ OneIsInHandshake = (h : History) (i j : ℕ) → i ≢ j → is_live (session_of
 abbrev pub NewSessionIsFresh : Type 0
 NewSessionIsFresh = (r : RspSetup) (h : History) (tag : ℕ) (m : List ℕ) (f : Free) (d : Draw) (exchange : ExchangeMessage)
     → IsAllowed h (clear_place h) f → request_at (clear_place h) m ≡ Some (PskExchange exchange) → refusal r (clear_place h) m f ≡ None
-    → (1 ≤ f.id) × (f.id ≤ 4) × (is_held h f.id ≡ false)
+    → (1 ≤ f.id) × (f.id ≤ MAX_SESSIONS) × (is_held h f.id ≡ false)
     × (session_of f.id (Clear tag (turn_of r (clear_place h) m f) d ∷ h)
     ≡ Began (negotiation_of (clear_turns h)) m (answer_bytes r (clear_place h) m f) ∷ [])
 

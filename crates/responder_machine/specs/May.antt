@@ -10,6 +10,8 @@ use Rattle.responder_machine.specs.Responder.{Outcome, on_clear, on_record}
 use Rattle.responder_machine.specs.Session.{session_of, id_in_record, is_live, is_timed}
 use Rattle.responder_machine.specs.Setup.{RspSetup}
 use Rattle.spdm_machine.specs.Terms.{hash_len}
+use Rattle.spdm_grammar.specs.declared.names.TheConstants.{MAX_APP_DATA_LEN, MAX_OPAQUE_LEN, MAX_PADDING, MAX_SESSIONS}
+use Rattle.spdm_grammar.specs.declared.names.message_type.TheConstants.{SPDM}
 
 -- The values that a responder may choose at a place: an id from 1 to 4 that no established session has, where one is
 -- left (beside four of them no exchange is answered, whatever id its answer would have); a context of at least the
@@ -17,15 +19,15 @@ use Rattle.spdm_machine.specs.Terms.{hash_len}
 -- most 1,024 bytes; and padding of at most 16.
 pub record IsAllowed (h : History) (p : Place) (f : Free) : Type 0 where
   pub least : 1 ≤ f.id
-  pub most : f.id ≤ 4
+  pub most : f.id ≤ MAX_SESSIONS
   pub unused : held_of h ≢ 4 → is_held h f.id ≡ false
   pub context : hash_len (place_terms p) ≤ length f.context
-  pub exchange_opaque : length f.exchange_opaque ≤ 1024
+  pub exchange_opaque : length f.exchange_opaque ≤ MAX_OPAQUE_LEN
   pub nonce : length f.nonce ≡ 32
-  pub measured_opaque : length f.measured_opaque ≤ 1024
+  pub measured_opaque : length f.measured_opaque ≤ MAX_OPAQUE_LEN
   pub handle : f.handle < 256
-  pub reply : length f.reply ≤ 1024
-  pub pad : length f.pad ≤ 16
+  pub reply : length f.reply ≤ MAX_APP_DATA_LEN
+  pub pad : length f.pad ≤ MAX_PADDING
 
 -- Sessions that may have been dropped without a trace just before a message: each is timed.
 abbrev pub MayDrop : History → List ℕ → Type 0
@@ -40,13 +42,13 @@ with_dropped h (id ∷ ids) = with_dropped (Dropped id ∷ h) ids
 -- A body of type 5 or 6 comes to the clear part, or to the session that its record names.
 abbrev pub place_for : History → List ℕ → Place
 place_for h body =
-    if slice_index body 0 == 5 then clear_place h
+    if slice_index body 0 == SPDM then clear_place h
     else session_place (session_of (id_in_record (drop 1 body)) h)
 
 -- What it leads to under some values.
 abbrev pub on_body : RspSetup → History → ℕ → List ℕ → Free → Draw → Outcome
 on_body r h tag body f d =
-    if slice_index body 0 == 5 then on_clear r h tag (drop 1 body) f d
+    if slice_index body 0 == SPDM then on_clear r h tag (drop 1 body) f d
     else on_record r h tag (drop 1 body) f d
 
 -- It may lead to an outcome, under some allowed values.

@@ -11,6 +11,7 @@ use Rattle.responder_machine.specs.Session.Event.{Heard}
 use Rattle.responder_machine.specs.Setup.{RspSetup}
 use Rattle.responder_machine.specs.Turn.{Turn, takes, updates}
 use Rattle.spdm_grammar.specs.declared.names.request_code.TheConstants.{PSK_FINISH}
+use Rattle.spdm_grammar.specs.declared.names.TheConstants.{MAX_RECORDS}
 
 -- In each session of a history that the responder made, PSK_FINISH was taken in the handshake alone and KEY_UPDATE
 -- after it alone.
@@ -44,4 +45,4 @@ UpdateAllIsAnsweredAtZero = (psk : List ℕ) (s : Events) (m : List ℕ) (t : Tu
 
 -- No key of a session of a made history seals more than 65,536 records, or takes more.
 abbrev pub NumbersAreFew : Type 0
-NumbersAreFew = (r : RspSetup) (h : History) (id : ℕ) → IsMade r h → (request_next (session_of id h) ≤ 65536) × (response_next (session_of id h) ≤ 65536)
+NumbersAreFew = (r : RspSetup) (h : History) (id : ℕ) → IsMade r h → (request_next (session_of id h) ≤ MAX_RECORDS) × (response_next (session_of id h) ≤ MAX_RECORDS)

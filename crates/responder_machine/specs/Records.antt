@@ -9,6 +9,7 @@ use Rattle.spdm_machine.specs.Keys.{record_fault, inner_message, sealed_of}
 use Rattle.responder_machine.specs.Session.{Events, stage_of, t1_of, t2_of, request_epoch, response_epoch, request_next, response_next, id_bytes, session_terms, is_spent}
 use Rattle.responder_machine.specs.Turn.{Turn, updates}
 use Rattle.spdm_machine.specs.Sessions.{purpose_in}
+use Rattle.secured_record.specs.declared.TheConstants.{MIN_RECORD_SIZE}
 
 -- The purpose under which the next record is taken: that of requests in the present stage and epoch.
 abbrev pub request_purpose : List ℕ → Events → Purpose
@@ -29,7 +30,7 @@ opening_fault psk s sealed =
 -- where they are wrong, and else its number. This project's own.
 abbrev pub ended_fault : (id : List ℕ) → List ℕ → RecordFault
 ended_fault id sealed =
-    if nat_lt (length sealed) 26 then Short
+    if nat_lt (length sealed) MIN_RECORD_SIZE then Short
     else (if not (bytes_eq (take 4 sealed) id) then WrongId
     else WrongNumber)
 

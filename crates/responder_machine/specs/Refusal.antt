@@ -30,6 +30,7 @@ use Rattle.responder_machine.specs.Setup.{RspSetup, responder_caps, policy_of, i
 use Rattle.spdm_machine.specs.Terms.{Terms}
 use Rattle.spdm_grammar.specs.declared.names.request_code.TheConstants.{GET_VERSION, CHUNK_SEND, CHUNK_GET, GET_MEASUREMENTS, GET_CAPABILITIES, NEGOTIATE_ALGORITHMS, PSK_EXCHANGE, PSK_FINISH, HEARTBEAT, KEY_UPDATE, END_SESSION}
 use Rattle.spdm_grammar.specs.declared.names.spdm_version.TheConstants.{V1_0, V1_2}
+use Rattle.spdm_grammar.specs.declared.names.TheConstants.{MAX_SESSIONS}
 
 -- The request code of a message of at least two bytes.
 abbrev pub code_of : List ℕ → ℕ
@@ -211,7 +212,7 @@ tests_of_contents r p m f =
     ∷ (is_some (chunk_fault r p (request_at p m)), InvalidRequest)
     ∷ (is_get_refused p (request_at p m), InvalidRequest)
     ∷ (is_answer_too_long p (answer_bytes r p m f), ResponseTooLarge)
-    ∷ (code_of m == PSK_EXCHANGE && p.past_handshake == 4, SessionLimitExceeded)
+    ∷ (code_of m == PSK_EXCHANGE && p.past_handshake == MAX_SESSIONS, SessionLimitExceeded)
     ∷ []
 
 -- The code for which the form of a request is refused, or none: the first of its tests that holds decides.

@@ -22,6 +22,7 @@ use Rattle.responder_machine.specs.Setup.{RspSetup}
 use Rattle.responder_machine.specs.Turn.{Turn, is_data}
 use Rattle.responder_machine.specs.Turn.Effect.{TookData}
 use Rattle.spdm_machine.specs.Bodies.{clear_body, record_body}
+use Rattle.spdm_grammar.specs.declared.names.message_type.TheConstants.{SPDM}
 
 -- A body came: a repeat gets this body again; a record that no session opens gets this one; all else adds an entry to
 -- the history.
@@ -62,7 +63,7 @@ is_open Verifying = false
 abbrev pub inner_refusal : Stage → List ℕ → Option ErrorCode
 inner_refusal stage inner = first_of_tests (
     (length inner == 0, InvalidRequest)
-    ∷ (not (slice_index inner 0 == 5 || slice_index inner 0 == 1), InvalidRequest)
+    ∷ (not (slice_index inner 0 == SPDM || slice_index inner 0 == 1), InvalidRequest)
     ∷ (slice_index inner 0 == 1 && not (is_open stage), UnexpectedRequest)
     ∷ (slice_index inner 0 == 1 && nat_lt 1025 (length inner), RequestTooLarge)
     ∷ [])
@@ -75,7 +76,7 @@ data_turn f bytes = record { message = bytes; refused = None; chunk = None; effe
 -- application data.
 abbrev pub session_turn_by : RspSetup → Events → List ℕ → Free → Option ErrorCode → Turn
 session_turn_by r s inner f (Some e) = refused_turn r (session_place s) (drop 1 inner) f e
-session_turn_by r s inner f None = if slice_index inner 0 == 5 then turn_of r (session_place s) (drop 1 inner) f else data_turn f (drop 1 inner)
+session_turn_by r s inner f None = if slice_index inner 0 == SPDM then turn_of r (session_place s) (drop 1 inner) f else data_turn f (drop 1 inner)
 
 -- The turn of the inner message of a record.
 unfoldable pub session_turn : RspSetup → Events → List ℕ → Free → Turn

@@ -20,6 +20,7 @@ use Rattle.spdm_machine.specs.TagLog.{Act, made_record, checked_record}
 use Rattle.spdm_machine.specs.TagLog.Act.{Made, Checked}
 use Rattle.responder_machine.specs.Turn.{Turn, takes, request_in, answer_in}
 use Rattle.spdm_grammar.specs.declared.names.request_code.TheConstants.{PSK_EXCHANGE}
+use Rattle.spdm_grammar.specs.declared.names.message_type.TheConstants.{SPDM}
 
 -- ---- In the clear: verify data are made with each PSK_EXCHANGE_RSP that takes effect.
 
@@ -51,7 +52,7 @@ finish_acts r s m = if is_none (refused_form r (session_place s) m) then finish_
 -- An inner message brings a comparison only where it is an SPDM message that is read as a request.
 abbrev pub inner_acts : RspSetup → Events → List ℕ → List Act
 inner_acts r s inner =
-    if is_none (inner_refusal (stage_of s) inner) && slice_index inner 0 == 5 then finish_acts r s (drop 1 inner)
+    if is_none (inner_refusal (stage_of s) inner) && slice_index inner 0 == SPDM then finish_acts r s (drop 1 inner)
     else []
 
 -- The record that answers a turn is sealed.

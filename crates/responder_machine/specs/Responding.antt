@@ -26,6 +26,8 @@ use Rattle.spdm_machine.specs.TagLog.{Act}
 use Rattle.responder_machine.specs.Turn.Effect.{NoEffect, Took, TookData}
 use Rattle.responder_machine.specs.Turn.{Effect}
 use Rattle.spdm_machine.specs.Packets.{gathered_from, packets_to, body_type, wear_limit}
+use Rattle.spdm_grammar.specs.declared.names.TheConstants.{MAX_APP_DATA_LEN}
+use Rattle.spdm_grammar.specs.declared.names.message_type.TheConstants.{SECURED, SPDM}
 
 -- One connection: how it is set up, and what was taken from its requester.
 pub record Connection : Type 0 where
@@ -136,7 +138,7 @@ answers r c packet route body outcome = record {
 abbrev pub hears_whole : Responding → Draw → Connection → List ℕ → RouteFields → List ℕ → RspStep
 hears_whole r d c packet route body =
     if not route.owner then ignores r packet (heard.Ignored ignored.NotRequest)
-    else (if not (body_type body == 5 || body_type body == 6) then ignores r packet (heard.Ignored ignored.OtherType)
+    else (if not (body_type body == SPDM || body_type body == SECURED) then ignores r packet (heard.Ignored ignored.OtherType)
     else answers r c packet route body (responder_does c.setup c.history route.tag body d))
 
 -- A packet that completes a body is heard; one that awaits more, or is dropped, changes nothing else.
@@ -175,7 +177,7 @@ responder_hears r packet = if is_worn r then worn_step r else hears_packet r (ne
 abbrev pub reply_fault_of : Option Connection → List ℕ → Option ReplyFault
 reply_fault_of None bytes = Some reply_fault.UnknownPeer
 reply_fault_of (Some c) bytes =
-    if nat_lt 1024 (length bytes) then Some reply_fault.TooLong
+    if nat_lt MAX_APP_DATA_LEN (length bytes) then Some reply_fault.TooLong
     else (if nat_le 16 (length (queue_of c.history)) then Some reply_fault.Full
     else None)
 

@@ -13,6 +13,7 @@ use Rattle.transcript.specs.Transcripts as transcript
 use Rattle.transcript.specs.Transcripts.{Negotiation, vca_of}
 use Rattle.spdm_machine.specs.Sessions.{id_in_exchange, is_past_handshake}
 use Rattle.spdm_grammar.specs.declared.names.request_code.TheConstants.{GET_VERSION, PSK_EXCHANGE, PSK_FINISH, KEY_UPDATE, END_SESSION}
+use Rattle.spdm_grammar.specs.declared.names.TheConstants.{MAX_RECORDS}
 
 -- What a session sees: PSK_EXCHANGE and PSK_EXCHANGE_RSP, which began it, with the negotiation that they were made
 -- under; a record taken, with the turn of its inner message and the record sent in answer; seconds that passed.
@@ -125,7 +126,7 @@ response_next (_ ∷ older) = response_next older
 
 -- A key of the session has sealed 65,536 records, as many as it may. This project's own limit.
 abbrev pub is_spent : Events → Bool
-is_spent s = request_next s == 65536 || response_next s == 65536
+is_spent s = request_next s == MAX_RECORDS || response_next s == MAX_RECORDS
 
 -- ---- Transcripts (DSP0274, "Transcript hash").
 

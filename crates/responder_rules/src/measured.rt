@@ -3,7 +3,7 @@ ghost use Rattle.measurements.specs.Records.{is_missing};
 ghost use Rattle.responder_machine.specs.Answer.{Free, measurements_answer};
 ghost use Rattle.responder_machine.specs.Setup.{RspSetup, inventory_of};
 ghost use Rattle.spdm_grammar.specs.Responses.{canonical_response};
-ghost use Rattle.spdm_grammar.specs.declared.names.TheConstants.{MAX_MESSAGE_SIZE};
+ghost use Rattle.spdm_grammar.specs.declared.names.TheConstants.{MAX_MESSAGE_SIZE, MAX_OPAQUE_LEN};
 
 use measurements::Inventory;
 use spdm_basis::Frame;
@@ -21,7 +21,7 @@ pub fn write_measurements(
     out: &mut Frame,
 ) -> u32
     requires nonce { length nonce.now ≡ 32 }
-    requires opaque { length opaque.now ≤ 1024 }
+    requires opaque { length opaque.now ≤ MAX_OPAQUE_LEN }
     requires found { is_missing op inventory.now ≡ false }
     ensures size { (r : RspSetup) (f : Free) → inventory_of r ≡ inventory.now
         → f.nonce ≡ nonce.now → f.measured_opaque ≡ opaque.now

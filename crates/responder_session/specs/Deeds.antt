@@ -20,6 +20,7 @@ use Rattle.responder_session.specs.Updates.{HasEpochs, update_turn}
 use Rattle.responder_session.specs.declared.deed.Deed.{Deed}
 use Rattle.responder_session.specs.declared.deed.Deed.TheVariants as deed
 use Rattle.responder_session.specs.declared.deed.RecordFree.{RecordFree}
+use Rattle.spdm_grammar.specs.declared.names.TheConstants.{MAX_APP_DATA_LEN}
 
 -- The values that are handed in for a record are these free values.
 pub record AreFree (given : RecordFree) (f : Free) : Type 0 where
@@ -68,7 +69,7 @@ abbrev pub IsFit : RspSetup → Events → Free → (message answer : List ℕ) 
 IsFit r s f message answer (deed.Refused code) =
     answer ≡ error_bytes r (session_place s) message f code
 IsFit r s f message answer deed.Data =
-    (stage_of s ≡ stage.Open) × (length message ≤ 1024) × (answer ≡ f.reply)
+    (stage_of s ≡ stage.Open) × (length message ≤ MAX_APP_DATA_LEN) × (answer ≡ f.reply)
 IsFit r s f message answer (deed.Finished verify) =
     (stage_of s ≡ stage.Handshake) × (answer ≡ canonical_response PskFinishRsp)
 IsFit r s f message answer (deed.Large op handle) =

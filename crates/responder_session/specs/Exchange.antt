@@ -7,7 +7,7 @@ use Rattle.session_keys.specs.declared.terms.SessionTerms.{SessionTerms}
 use Rattle.spdm_basis.specs.Sizes.{hash_size}
 use Rattle.spdm_grammar.specs.Message.ResponseMessage.{PskExchangeRsp}
 use Rattle.spdm_grammar.specs.Responses.{canonical_response}
-use Rattle.spdm_grammar.specs.declared.names.TheConstants.{MAX_MESSAGE_SIZE}
+use Rattle.spdm_grammar.specs.declared.names.TheConstants.{MAX_MESSAGE_SIZE, MAX_OPAQUE_LEN}
 use Rattle.spdm_machine.specs.Keys.{verify_data}
 use Rattle.spdm_machine.specs.Terms.{terms_of}
 use Rattle.transcript.specs.Transcripts.{Negotiation, vca_of}
@@ -18,7 +18,7 @@ use Rattle.responder_session.specs.declared.parts.ExchangeParts.{ExchangeParts}
 pub record AreParts (terms : SessionTerms) (parts : ExchangeParts) : Type 0 where
   pub summary : length parts.summary.now ≡ (if terms.summary then hash_size terms.choice.hash else 0)
   pub context : length parts.context.now < 2 ^ 16
-  pub opaque : length parts.opaque.now ≤ 1024
+  pub opaque : length parts.opaque.now ≤ MAX_OPAQUE_LEN
 
 -- PSK_EXCHANGE_RSP with these parts and verify data.
 abbrev pub answer_with : ExchangeParts → List ℕ → List ℕ

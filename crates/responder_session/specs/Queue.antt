@@ -11,11 +11,12 @@ use Rattle.responder_session.specs.declared.took.RspTook.{RspTook}
 use Rattle.responder_session.specs.declared.took.RspTook.TheVariants as took
 use Rattle.responder_session.specs.declared.queue.QueueFault.{QueueFault}
 use Rattle.responder_session.specs.declared.queue.QueueFault.TheVariants.{TooLong, Full}
+use Rattle.spdm_grammar.specs.declared.names.TheConstants.{MAX_APP_DATA_LEN}
 
 -- Why application data is not queued where these wait: it has more than 1,024 bytes, or 16 wait.
 abbrev pub queue_fault : List (List ℕ) → List ℕ → Option QueueFault
 queue_fault waiting bytes =
-    if nat_lt 1024 (length bytes) then Some TooLong
+    if nat_lt MAX_APP_DATA_LEN (length bytes) then Some TooLong
     else (if nat_le 16 (length waiting) then Some Full
     else None)
 

@@ -1,4 +1,5 @@
 ghost use Rattle.std.specs.Prelude.{◌≡◌, ◌<◌, ◌-◌, ◌^◌};
+ghost use Rattle.secured_record.specs.declared.TheConstants.{MAX_RECORD_SIZE, MIN_RECORD_SIZE};
 
 use crate::kept::update;
 use secured_record::{RecordFault, RecordKey};
@@ -40,8 +41,8 @@ impl AnswerKey {
     /// Overwrites `out` with the plaintext of a record of this response: the length of its inner message as two bytes,
     /// little-endian, that message, and the padding. The tag is not verified.
     pub fn text(&self, sealed: &[u8], out: &mut RecordFrame)
-        requires least { 26 ≤ length sealed.now }
-        requires most { length sealed.now ≤ 4160 }
+        requires least { MIN_RECORD_SIZE ≤ length sealed.now }
+        requires most { length sealed.now ≤ MAX_RECORD_SIZE }
         ensures { (choice : Choice) (p : Purpose) (number : ℕ) (id : List ℕ)
             → IsAnswerKey self.now choice p number id
             → out.new ≡ opened_text (key_of choice.hash choice.aead p) (iv_of choice.hash p)

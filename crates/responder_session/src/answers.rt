@@ -3,7 +3,7 @@ ghost use Rattle.spdm_grammar.specs.Message.{chunk_message};
 ghost use Rattle.spdm_grammar.specs.Message.ResponseMessage.{HeartbeatAck, EndSessionAck, PskFinishRsp, KeyUpdateAck, ChunkResponse};
 ghost use Rattle.spdm_grammar.specs.Fields.{IsSoundChunk};
 ghost use Rattle.spdm_grammar.specs.Responses.{canonical_response};
-ghost use Rattle.spdm_grammar.specs.declared.names.TheConstants.{MAX_MESSAGE_SIZE};
+ghost use Rattle.spdm_grammar.specs.declared.names.TheConstants.{MAX_APP_DATA_LEN, MAX_MESSAGE_SIZE};
 
 use spdm_basis::{Frame, RecordFrame};
 use spdm_codec::write_response;
@@ -62,7 +62,7 @@ pub fn write_inner(kind: u8, message: &[u8], out: &mut RecordFrame)
 
 // Overwrites an answer with application data of at most 1,024 bytes.
 pub fn write_data(bytes: &[u8], out: &mut Frame)
-    requires { length bytes.now ≤ 1024 }
+    requires { length bytes.now ≤ MAX_APP_DATA_LEN }
     ensures { out.new ≡ bytes.now }
 {
     let _ = out.replace(bytes);

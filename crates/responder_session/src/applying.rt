@@ -1,11 +1,15 @@
 ghost use Rattle.std.specs.Prelude.{◌≡◌, ◌≤◌, length};
+ghost use Rattle.spdm_grammar.specs.declared.names.TheConstants.{MAX_APP_DATA_LEN, MAX_PADDING, MAX_RECORDS};
+ghost use Rattle.secured_record.specs.declared.TheConstants.{MAX_RECORD_SIZE};
 
 use crate::deed::Deed;
 use crate::{RspAct, RspSession};
 use responder_rules::write_large_response;
-use session_keys::{APP_DATA, SPDM_MESSAGE, byte_at};
+use session_keys::{APP_DATA, byte_at};
 use spdm_basis::{Buffer, Frame, RecordFrame};
 use spdm_grammar::Stage;
+use spdm_grammar::names::MAX_APP_DATA_LEN;
+use spdm_grammar::names::message_type::SPDM;
 
 // A record that opened, and the padding of its answer.
 #[derive(Clone, Copy)]
@@ -16,8 +20,8 @@ pub struct Opened<'a> {
 }
 
 // Overwrites a buffer with application data of at most 1,024 bytes.
-fn hold(bytes: &[u8], out: &mut Buffer<1024>)
-    ensures { length bytes.now ≤ 1024 → out.new ≡ bytes.now }
+fn hold(bytes: &[u8], out: &mut Buffer<MAX_APP_DATA_LEN>)
+    ensures { length bytes.now ≤ MAX_APP_DATA_LEN → out.new ≡ bytes.now }
 {
     let _ = out.replace(bytes);
 }
@@ -47,11 +51,11 @@ impl RspSession {
 
     // A record whose message is refused, with this ERROR.
     fn refuse(&mut self, opened: &Opened<'_>, answer: &[u8], inner: &mut RecordFrame)
-        requires request_few { self.old.kept.request_next < 65536 }
-        requires response_few { self.old.kept.response_next < 65536 }
-        requires sealed { length opened.now.sealed.now ≤ 4160 }
+        requires request_few { self.old.kept.request_next < MAX_RECORDS }
+        requires response_few { self.old.kept.response_next < MAX_RECORDS }
+        requires sealed { length opened.now.sealed.now ≤ MAX_RECORD_SIZE }
         requires answer { length answer.now ≤ MAX_MESSAGE_SIZE }
-        requires pad { length opened.now.pad.now ≤ 16 }
+        requires pad { length opened.now.pad.now ≤ MAX_PADDING }
         ensures { (r : RspSetup) (s : Events) (f : Free) (code : ErrorCode)
             → StandsFor self.old r.psk s
             → answer.now ≡ error_bytes r (session_place s) opened.now.message.now f code
@@ -59,18 +63,18 @@ impl RspSession {
             (refused_turn r (session_place s) opened.now.message.now f code) opened.now.pad.now) }
     {
         self.kept
-            .reply(opened.sealed, SPDM_MESSAGE, answer, opened.pad, inner);
+            .reply(opened.sealed, SPDM, answer, opened.pad, inner);
     }
 
     // A record of application data, answered by application data.
     fn take_data(&mut self, opened: &Opened<'_>, reply: &[u8], inner: &mut RecordFrame)
-        requires request_few { self.old.kept.request_next < 65536 }
-        requires response_few { self.old.kept.response_next < 65536 }
-        requires sealed { length opened.now.sealed.now ≤ 4160 }
+        requires request_few { self.old.kept.request_next < MAX_RECORDS }
+        requires response_few { self.old.kept.response_next < MAX_RECORDS }
+        requires sealed { length opened.now.sealed.now ≤ MAX_RECORD_SIZE }
         requires reply { length reply.now ≤ MAX_MESSAGE_SIZE }
-        requires pad { length opened.now.pad.now ≤ 16 }
+        requires pad { length opened.now.pad.now ≤ MAX_PADDING }
         ensures { (psk : List ℕ) (s : Events) (f : Free) → StandsFor self.old psk s
-            → stage_of s ≡ Open → f.reply ≡ reply.now → length opened.now.message.now ≤ 1024
+            → stage_of s ≡ Open → f.reply ≡ reply.now → length opened.now.message.now ≤ MAX_APP_DATA_LEN
             → StandsFor self.new psk (heard_by psk s opened.now.sealed.now
             (data_turn f opened.now.message.now) opened.now.pad.now) }
     {
@@ -83,18 +87,18 @@ impl RspSession {
 
     // A record of a request that leaves the keys and is answered at once.
     fn answer(&mut self, opened: &Opened<'_>, answer: &[u8], inner: &mut RecordFrame)
-        requires request_few { self.old.kept.request_next < 65536 }
-        requires response_few { self.old.kept.response_next < 65536 }
-        requires sealed { length opened.now.sealed.now ≤ 4160 }
+        requires request_few { self.old.kept.request_next < MAX_RECORDS }
+        requires response_few { self.old.kept.response_next < MAX_RECORDS }
+        requires sealed { length opened.now.sealed.now ≤ MAX_RECORD_SIZE }
         requires answer { length answer.now ≤ MAX_MESSAGE_SIZE }
-        requires pad { length opened.now.pad.now ≤ 16 }
+        requires pad { length opened.now.pad.now ≤ MAX_PADDING }
         ensures { (psk : List ℕ) (s : Events) (asked : RequestMessage)
             → StandsFor self.old psk s → is_quiet asked ≡ true → StandsFor self.new psk
             (heard_by psk s opened.now.sealed.now
             (answered_turn opened.now.message.now asked answer.now) opened.now.pad.now) }
     {
         self.kept
-            .reply(opened.sealed, SPDM_MESSAGE, answer, opened.pad, inner);
+            .reply(opened.sealed, SPDM, answer, opened.pad, inner);
         self.large.clear();
     }
 
@@ -106,10 +110,10 @@ impl RspSession {
         handle: u8,
         inner: &mut RecordFrame,
     )
-        requires request_few { self.old.kept.request_next < 65536 }
-        requires response_few { self.old.kept.response_next < 65536 }
-        requires sealed { length opened.now.sealed.now ≤ 4160 }
-        requires pad { length opened.now.pad.now ≤ 16 }
+        requires request_few { self.old.kept.request_next < MAX_RECORDS }
+        requires response_few { self.old.kept.response_next < MAX_RECORDS }
+        requires sealed { length opened.now.sealed.now ≤ MAX_RECORD_SIZE }
+        requires pad { length opened.now.pad.now ≤ MAX_PADDING }
         ensures { (r : RspSetup) (s : Events) (op : ℕ)
             → StandsFor self.old r.psk s → HasSizes r (session_terms s).common
             → (session_terms s).common.to_requester.transfer < length answer.old
@@ -122,16 +126,16 @@ impl RspSession {
         write_large_response(handle, answer);
         let answer = answer.as_slice();
         self.kept
-            .reply(opened.sealed, SPDM_MESSAGE, answer, opened.pad, inner);
+            .reply(opened.sealed, SPDM, answer, opened.pad, inner);
     }
 
     // A record of CHUNK_GET, answered by the next chunk.
     fn give_chunk(&mut self, opened: &Opened<'_>, answer: &[u8], inner: &mut RecordFrame)
-        requires request_few { self.old.kept.request_next < 65536 }
-        requires response_few { self.old.kept.response_next < 65536 }
-        requires sealed { length opened.now.sealed.now ≤ 4160 }
+        requires request_few { self.old.kept.request_next < MAX_RECORDS }
+        requires response_few { self.old.kept.response_next < MAX_RECORDS }
+        requires sealed { length opened.now.sealed.now ≤ MAX_RECORD_SIZE }
         requires answer { length answer.now ≤ MAX_MESSAGE_SIZE }
-        requires pad { length opened.now.pad.now ≤ 16 }
+        requires pad { length opened.now.pad.now ≤ MAX_PADDING }
         ensures { (psk : List ℕ) (s : Events) (handle number : ℕ)
             → StandsFor self.old psk s → StandsFor self.new psk
             (heard_by psk s opened.now.sealed.now
@@ -139,17 +143,17 @@ impl RspSession {
             opened.now.pad.now) }
     {
         self.kept
-            .reply(opened.sealed, SPDM_MESSAGE, answer, opened.pad, inner);
+            .reply(opened.sealed, SPDM, answer, opened.pad, inner);
         self.large.advance();
     }
 
     // A record of UpdateKey.
     fn update_key(&mut self, opened: &Opened<'_>, answer: &[u8], inner: &mut RecordFrame)
-        requires request_few { self.old.kept.request_next < 65536 }
-        requires response_few { self.old.kept.response_next < 65536 }
-        requires sealed { length opened.now.sealed.now ≤ 4160 }
+        requires request_few { self.old.kept.request_next < MAX_RECORDS }
+        requires response_few { self.old.kept.response_next < MAX_RECORDS }
+        requires sealed { length opened.now.sealed.now ≤ MAX_RECORD_SIZE }
         requires answer { length answer.now ≤ MAX_MESSAGE_SIZE }
-        requires pad { length opened.now.pad.now ≤ 16 }
+        requires pad { length opened.now.pad.now ≤ MAX_PADDING }
         ensures { (psk : List ℕ) (s : Events) (tag : ℕ) → StandsFor self.old psk s
             → stage_of s ≡ Open → HasEpochs s
             → answer.now ≡ canonical_response (KeyUpdateAck 1 tag)
@@ -157,7 +161,7 @@ impl RspSession {
             (update_turn opened.now.message.now 1 tag) opened.now.pad.now) }
     {
         self.kept
-            .reply(opened.sealed, SPDM_MESSAGE, answer, opened.pad, inner);
+            .reply(opened.sealed, SPDM, answer, opened.pad, inner);
         self.kept.rekey_requests();
         self.large.clear();
         self.stage = Some(Stage::Verifying);
@@ -165,10 +169,10 @@ impl RspSession {
 
     // A record of UpdateAllKeys, which is answered under the new key.
     fn update_all(&mut self, opened: &Opened<'_>, answer: &[u8], inner: &mut RecordFrame)
-        requires request_few { self.old.kept.request_next < 65536 }
-        requires sealed { length opened.now.sealed.now ≤ 4160 }
+        requires request_few { self.old.kept.request_next < MAX_RECORDS }
+        requires sealed { length opened.now.sealed.now ≤ MAX_RECORD_SIZE }
         requires answer { length answer.now ≤ MAX_MESSAGE_SIZE }
-        requires pad { length opened.now.pad.now ≤ 16 }
+        requires pad { length opened.now.pad.now ≤ MAX_PADDING }
         ensures { (psk : List ℕ) (s : Events) (tag : ℕ) → StandsFor self.old psk s
             → stage_of s ≡ Open → HasEpochs s
             → answer.now ≡ canonical_response (KeyUpdateAck 2 tag)
@@ -177,7 +181,7 @@ impl RspSession {
     {
         self.kept.rekey_responses();
         self.kept
-            .reply(opened.sealed, SPDM_MESSAGE, answer, opened.pad, inner);
+            .reply(opened.sealed, SPDM, answer, opened.pad, inner);
         self.kept.rekey_requests();
         self.large.clear();
         self.stage = Some(Stage::Verifying);
@@ -185,29 +189,29 @@ impl RspSession {
 
     // A record of VerifyNewKey.
     fn verify(&mut self, opened: &Opened<'_>, answer: &[u8], inner: &mut RecordFrame)
-        requires request_few { self.old.kept.request_next < 65536 }
-        requires response_few { self.old.kept.response_next < 65536 }
-        requires sealed { length opened.now.sealed.now ≤ 4160 }
+        requires request_few { self.old.kept.request_next < MAX_RECORDS }
+        requires response_few { self.old.kept.response_next < MAX_RECORDS }
+        requires sealed { length opened.now.sealed.now ≤ MAX_RECORD_SIZE }
         requires answer { length answer.now ≤ MAX_MESSAGE_SIZE }
-        requires pad { length opened.now.pad.now ≤ 16 }
+        requires pad { length opened.now.pad.now ≤ MAX_PADDING }
         ensures { (psk : List ℕ) (s : Events) (tag : ℕ) → StandsFor self.old psk s
             → stage_of s ≡ Verifying → answer.now ≡ canonical_response (KeyUpdateAck 3 tag)
             → StandsFor self.new psk (heard_by psk s opened.now.sealed.now
             (update_turn opened.now.message.now 3 tag) opened.now.pad.now) }
     {
         self.kept
-            .reply(opened.sealed, SPDM_MESSAGE, answer, opened.pad, inner);
+            .reply(opened.sealed, SPDM, answer, opened.pad, inner);
         self.large.clear();
         self.stage = Some(Stage::Open);
     }
 
     // A record of PSK_FINISH.
     fn open(&mut self, opened: &Opened<'_>, answer: &[u8], inner: &mut RecordFrame)
-        requires request_few { self.old.kept.request_next < 65536 }
-        requires response_few { self.old.kept.response_next < 65536 }
-        requires sealed { length opened.now.sealed.now ≤ 4160 }
+        requires request_few { self.old.kept.request_next < MAX_RECORDS }
+        requires response_few { self.old.kept.response_next < MAX_RECORDS }
+        requires sealed { length opened.now.sealed.now ≤ MAX_RECORD_SIZE }
         requires answer { length answer.now ≤ MAX_MESSAGE_SIZE }
-        requires pad { length opened.now.pad.now ≤ 16 }
+        requires pad { length opened.now.pad.now ≤ MAX_PADDING }
         ensures { (psk : List ℕ) (s : Events) (verify : List ℕ) → StandsFor self.old psk s
             → stage_of s ≡ Handshake → answer.now ≡ canonical_response PskFinishRsp
             → StandsFor self.new psk (heard_by psk s opened.now.sealed.now
@@ -215,7 +219,7 @@ impl RspSession {
             (canonical_response PskFinishRsp)) opened.now.pad.now) }
     {
         self.kept
-            .reply(opened.sealed, SPDM_MESSAGE, answer, opened.pad, inner);
+            .reply(opened.sealed, SPDM, answer, opened.pad, inner);
         let hash = self.exchange.th2(opened.message, answer);
         let keys = self.exchange.handshake.app_keys(&hash);
         self.kept.past_handshake(keys, hash);
@@ -225,18 +229,18 @@ impl RspSession {
 
     // A record of END_SESSION.
     fn end(&mut self, opened: &Opened<'_>, answer: &[u8], inner: &mut RecordFrame)
-        requires request_few { self.old.kept.request_next < 65536 }
-        requires response_few { self.old.kept.response_next < 65536 }
-        requires sealed { length opened.now.sealed.now ≤ 4160 }
+        requires request_few { self.old.kept.request_next < MAX_RECORDS }
+        requires response_few { self.old.kept.response_next < MAX_RECORDS }
+        requires sealed { length opened.now.sealed.now ≤ MAX_RECORD_SIZE }
         requires answer { length answer.now ≤ MAX_MESSAGE_SIZE }
-        requires pad { length opened.now.pad.now ≤ 16 }
+        requires pad { length opened.now.pad.now ≤ MAX_PADDING }
         ensures { (psk : List ℕ) (s : Events) → StandsFor self.old psk s
             → let t = answered_turn opened.now.message.now EndSession answer.now in
             IsEnded self.new (id_bytes s) opened.now.sealed.now
             (reply_record psk s t (inner_reply t) opened.now.pad.now) }
     {
         self.kept
-            .reply(opened.sealed, SPDM_MESSAGE, answer, opened.pad, inner);
+            .reply(opened.sealed, SPDM, answer, opened.pad, inner);
         self.stage = None;
     }
 
@@ -248,10 +252,10 @@ impl RspSession {
         answer: &mut Frame,
         inner: &mut RecordFrame,
     ) -> RspAct
-        requires request_few { self.old.kept.request_next < 65536 }
-        requires response_few { self.old.kept.response_next < 65536 }
-        requires sealed { length opened.now.sealed.now ≤ 4160 }
-        requires pad { length opened.now.pad.now ≤ 16 }
+        requires request_few { self.old.kept.request_next < MAX_RECORDS }
+        requires response_few { self.old.kept.response_next < MAX_RECORDS }
+        requires sealed { length opened.now.sealed.now ≤ MAX_RECORD_SIZE }
+        requires pad { length opened.now.pad.now ≤ MAX_PADDING }
         ensures { (r : RspSetup) (s : Events) (f : Free) → StandsFor self.old r.psk s
             → HasSizes r (session_terms s).common
             → IsFit r s f opened.now.message.now answer.old deed.now
@@ -276,11 +280,11 @@ impl RspSession {
         answer: &[u8],
         inner: &mut RecordFrame,
     ) -> RspAct
-        requires request_few { self.old.kept.request_next < 65536 }
-        requires response_few { self.old.kept.response_next < 65536 }
-        requires sealed { length opened.now.sealed.now ≤ 4160 }
+        requires request_few { self.old.kept.request_next < MAX_RECORDS }
+        requires response_few { self.old.kept.response_next < MAX_RECORDS }
+        requires sealed { length opened.now.sealed.now ≤ MAX_RECORD_SIZE }
         requires answer { length answer.now ≤ MAX_MESSAGE_SIZE }
-        requires pad { length opened.now.pad.now ≤ 16 }
+        requires pad { length opened.now.pad.now ≤ MAX_PADDING }
         ensures { (r : RspSetup) (s : Events) (f : Free) → StandsFor self.old r.psk s
             → is_whole deed.now ≡ true
             → IsFit r s f opened.now.message.now answer.now deed.now
@@ -335,11 +339,11 @@ impl RspSession {
 
     // A record of UpdateAllKeys or UpdateKey.
     fn update(&mut self, opened: &Opened<'_>, all: bool, answer: &[u8], inner: &mut RecordFrame)
-        requires request_few { self.old.kept.request_next < 65536 }
-        requires response_few { self.old.kept.response_next < 65536 }
-        requires sealed { length opened.now.sealed.now ≤ 4160 }
+        requires request_few { self.old.kept.request_next < MAX_RECORDS }
+        requires response_few { self.old.kept.response_next < MAX_RECORDS }
+        requires sealed { length opened.now.sealed.now ≤ MAX_RECORD_SIZE }
         requires answer { length answer.now ≤ MAX_MESSAGE_SIZE }
-        requires pad { length opened.now.pad.now ≤ 16 }
+        requires pad { length opened.now.pad.now ≤ MAX_PADDING }
         ensures { (psk : List ℕ) (s : Events) (tag : ℕ) → StandsFor self.old psk s
             → stage_of s ≡ Open → HasEpochs s
             → answer.now ≡ canonical_response (KeyUpdateAck (if all then 2 else 1) tag)

@@ -1,3 +1,5 @@
+ghost use Rattle.spdm_grammar.specs.declared.names.TheConstants.{MAX_PADDING};
+
 use crate::{ExchangeParts, RecordFree, RspSession, RspTook, Work};
 use session_keys::SessionTerms;
 use spdm_basis::{Frame, Psk};
@@ -64,7 +66,7 @@ impl RspHandshake {
 
     /// Same as `take`, with this padding for the response, of at most 16 bytes.
     pub fn take_with(mut self, sealed: &[u8], pad: &[u8]) -> RspTook
-        requires { length pad.now ≤ 16 }
+        requires { length pad.now ≤ MAX_PADDING }
         ensures { (r : RspSetup) (s : Events) (f : Free) → HasSizes r (session_terms s).common
             → f.pad ≡ pad.now → StandsFor self r.psk s → IsTook r s f sealed.now result }
     {

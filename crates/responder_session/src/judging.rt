@@ -8,6 +8,7 @@ ghost use Rattle.responder_machine.specs.Setup.{RspSetup};
 ghost use Rattle.responder_rules.specs.Place.{IsPlace};
 ghost use Rattle.spdm_grammar.specs.declared.messages.error_code.ErrorCode.TheVariants.{ResponseTooLarge};
 ghost use Rattle.responder_session.specs.declared.deed.Deed.TheVariants as deed;
+ghost use Rattle.spdm_grammar.specs.declared.names.TheConstants.{MAX_APP_DATA_LEN, MAX_OPAQUE_LEN};
 
 use crate::answers::{write_alive, write_data, write_ended, write_finish_answer};
 use crate::deed::Deed;
@@ -15,8 +16,10 @@ use crate::requests::{give, measure, update};
 use crate::{RecordFree, RspSession};
 use measurements::Inventory;
 use responder_rules::Place;
-use session_keys::{APP_DATA, MOST_DATA, SPDM_MESSAGE, behind_type, byte_at};
+use session_keys::{APP_DATA, behind_type, byte_at};
 use spdm_basis::Frame;
+use spdm_grammar::names::MAX_APP_DATA_LEN;
+use spdm_grammar::names::message_type::SPDM;
 use spdm_grammar::{ErrorCode, Request, Stage};
 
 // What an inner message is refused for before it is read as a request.
@@ -27,13 +30,13 @@ pub fn inner_refusal(stage: Stage, inner: &[u8]) -> Option<ErrorCode>
     if inner.is_empty() {
         return Some(ErrorCode::InvalidRequest);
     }
-    if kind != SPDM_MESSAGE && kind != APP_DATA {
+    if kind != SPDM && kind != APP_DATA {
         return Some(ErrorCode::InvalidRequest);
     }
     if kind == APP_DATA && stage != Stage::Open {
         return Some(ErrorCode::UnexpectedRequest);
     }
-    if kind == APP_DATA && inner.len() > MOST_DATA + 1 {
+    if kind == APP_DATA && inner.len() > MAX_APP_DATA_LEN + 1 {
         return Some(ErrorCode::RequestTooLarge);
     }
     None
@@ -73,8 +76,8 @@ impl RspSession {
         out: &mut Frame,
     ) -> Deed<'a>
         requires nonce { length free.now.nonce.now ≡ 32 }
-        requires opaque { length free.now.opaque.now ≤ 1024 }
-        requires reply { length free.now.reply.now ≤ 1024 }
+        requires opaque { length free.now.opaque.now ≤ MAX_OPAQUE_LEN }
+        requires reply { length free.now.reply.now ≤ MAX_APP_DATA_LEN }
         ensures { (r : RspSetup) (s : Events) (f : Free) → HasSizes r (session_terms s).common
             → (stage_of s ≡ Open → MatchOption inventory.entry ⊥ (λ i. inventory_of r ≡ i.now))
             → (stage_of s ≡ Open → AreGiven free.now f s)
@@ -86,7 +89,7 @@ impl RspSession {
         if let Some(code) = inner_refusal(stage, inner) {
             return refused(&place, code, message, out);
         }
-        if byte_at(inner, 0) != SPDM_MESSAGE {
+        if byte_at(inner, 0) != SPDM {
             write_data(free.reply, out);
             return Deed::Data;
         }
@@ -107,7 +110,7 @@ impl RspSession {
         out: &mut Frame,
     ) -> Deed<'a>
         requires nonce { length free.now.nonce.now ≡ 32 }
-        requires opaque { length free.now.opaque.now ≤ 1024 }
+        requires opaque { length free.now.opaque.now ≤ MAX_OPAQUE_LEN }
         ensures { (r : RspSetup) (s : Events) (f : Free) → HasSizes r (session_terms s).common
             → (stage_of s ≡ Open → MatchOption inventory.entry ⊥ (λ i. inventory_of r ≡ i.now))
             → (stage_of s ≡ Open → AreGiven free.now f s)

@@ -2,6 +2,8 @@ ghost use Rattle.std.specs.Prelude.{◌≡◌, ◌<◌, ◌+◌, ◌-◌, ◌^�
 ghost use Rattle.key_schedule.specs.Purpose.{Purpose};
 ghost use Rattle.session_keys.specs.Keys.{IsKeyOf};
 ghost use Rattle.spdm_grammar.specs.declared.messages.choice.Choice.{Choice};
+ghost use Rattle.spdm_grammar.specs.declared.names.TheConstants.{MAX_PADDING, MAX_RECORDS};
+ghost use Rattle.secured_record.specs.declared.TheConstants.{MAX_RECORD_SIZE};
 
 use crate::answers::write_inner;
 use crate::last::LastRecord;
@@ -113,10 +115,10 @@ impl Kept {
 
     // Whether a key has sealed as many records as it may.
     fn is_spent(&self) -> bool
-        ensures value { result ≡ (self.now.request_next == 65536
-            || self.now.response_next == 65536) }
-        ensures request_few { result ≡ false → self.now.request_next < 65536 }
-        ensures response_few { result ≡ false → self.now.response_next < 65536 }
+        ensures value { result ≡ (self.now.request_next == MAX_RECORDS
+            || self.now.response_next == MAX_RECORDS) }
+        ensures request_few { result ≡ false → self.now.request_next < MAX_RECORDS }
+        ensures response_few { result ≡ false → self.now.response_next < MAX_RECORDS }
     {
         self.request_next.is_spent() || self.response_next.is_spent()
     }
@@ -128,9 +130,9 @@ impl Kept {
             (λ e. opening_fault psk s sealed.now ≡ Some e) }
         ensures inner { (psk : List ℕ) (s : Events) → Keeps self.now psk s
             → OnOk result (out.new ≡ opened psk s sealed.now) }
-        ensures fits { OnOk result (length sealed.now ≤ 4160) }
-        ensures request_few { OnOk result (self.now.request_next < 65536) }
-        ensures response_few { OnOk result (self.now.response_next < 65536) }
+        ensures fits { OnOk result (length sealed.now ≤ MAX_RECORD_SIZE) }
+        ensures request_few { OnOk result (self.now.request_next < MAX_RECORDS) }
+        ensures response_few { OnOk result (self.now.response_next < MAX_RECORDS) }
     {
         if self.is_spent() {
             return Err(RecordFault::KeySpent);
@@ -164,11 +166,11 @@ impl Kept {
         pad: &[u8],
         inner: &mut RecordFrame,
     )
-        requires request_few { self.old.request_next < 65536 }
-        requires response_few { self.old.response_next < 65536 }
-        requires sealed { length sealed.now ≤ 4160 }
+        requires request_few { self.old.request_next < MAX_RECORDS }
+        requires response_few { self.old.response_next < MAX_RECORDS }
+        requires sealed { length sealed.now ≤ MAX_RECORD_SIZE }
         requires message { length message.now ≤ MAX_MESSAGE_SIZE }
-        requires pad { length pad.now ≤ 16 }
+        requires pad { length pad.now ≤ MAX_PADDING }
         ensures key { (choice : Choice) (p : Purpose) → IsKeyOf self.old.response choice p
             → kept_record self.new.last ≡ Some (record {
               sealed = sealed.now;

@@ -1,4 +1,5 @@
 ghost use Rattle.std.specs.Prelude.{◌≡◌};
+ghost use Rattle.secured_record.specs.declared.TheConstants.{MAX_RECORD_SIZE};
 
 use session_keys::same_bytes;
 use spdm_basis::RecordFrame;
@@ -37,7 +38,7 @@ impl LastRecord {
 
     /// Stores an accepted record of at most 4,160 bytes; its response is already stored.
     pub fn keep(&mut self, sealed: &[u8])
-        requires { length sealed.now ≤ 4160 }
+        requires { length sealed.now ≤ MAX_RECORD_SIZE }
         ensures { self.new ≡ record self.old { is_taken = true; sealed = sealed.now } }
     {
         self.is_taken = true;
@@ -48,7 +49,7 @@ impl LastRecord {
     pub fn last_reply(&self) -> Option<&[u8]>
         ensures value { MatchOption result (last_reply (kept_record self.now) ≡ None)
             (λ reply. last_reply (kept_record self.now) ≡ Some reply.now) }
-        ensures fits { MatchOption result (Unit {0}) (λ reply. length reply.now ≤ 4160) }
+        ensures fits { MatchOption result (Unit {0}) (λ reply. length reply.now ≤ MAX_RECORD_SIZE) }
     {
         if self.is_taken {
             Some(self.reply.as_slice())

@@ -1,3 +1,5 @@
+ghost use Rattle.spdm_grammar.specs.declared.names.TheConstants.{MAX_RECORDS};
+
 use spdm_grammar::names::MAX_RECORDS;
 use std::marker::Model;
 
@@ -15,7 +17,7 @@ impl Model for NextNumber {
 
     ghost view = { λ n. n.number };
 
-    ghost invariant = { λ n. n.number ≤ 65536 };
+    ghost invariant = { λ n. n.number ≤ MAX_RECORDS };
 }
 
 impl NextNumber {
@@ -30,8 +32,8 @@ impl NextNumber {
 
     /// Whether the key has reached its limit of records.
     pub fn is_spent(&self) -> bool
-        ensures value { result ≡ (self.now == 65536) }
-        ensures few { result ≡ false → self.now < 65536 }
+        ensures value { result ≡ (self.now == MAX_RECORDS) }
+        ensures few { result ≡ false → self.now < MAX_RECORDS }
     {
         self.number == MAX_RECORDS
     }
@@ -45,7 +47,7 @@ impl NextNumber {
 
     /// A record was sealed or opened under the key, which is not spent.
     pub fn advance(&mut self)
-        requires { self.old < 65536 }
+        requires { self.old < MAX_RECORDS }
         ensures { self.new ≡ self.old + 1 }
     {
         self.number += 1;

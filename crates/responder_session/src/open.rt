@@ -1,3 +1,5 @@
+ghost use Rattle.spdm_grammar.specs.declared.names.TheConstants.{MAX_APP_DATA_LEN, MAX_OPAQUE_LEN, MAX_PADDING};
+
 use crate::{AppQueue, RecordFree, RspSession, RspTook, Work};
 use hmac_hkdf::Drawn;
 use measurements::Inventory;
@@ -42,9 +44,9 @@ impl RspOpen {
         requires request_epoch { self.session.kept.request.epoch < 2 ^ 64 - 1 }
         requires response_epoch { self.session.kept.response.epoch < 2 ^ 64 - 1 }
         requires nonce { length free.now.nonce.now ≡ 32 }
-        requires opaque { length free.now.opaque.now ≤ 1024 }
-        requires reply { length free.now.reply.now ≤ 1024 }
-        requires pad { length free.now.pad.now ≤ 16 }
+        requires opaque { length free.now.opaque.now ≤ MAX_OPAQUE_LEN }
+        requires reply { length free.now.reply.now ≤ MAX_APP_DATA_LEN }
+        requires pad { length free.now.pad.now ≤ MAX_PADDING }
         ensures { (r : RspSetup) (s : Events) (f : Free) → HasSizes r (session_terms s).common
             → inventory_of r ≡ inventory.now → AreFree free.now f
             → StandsFor self r.psk s → IsTook r s f sealed.now result }

@@ -9,6 +9,7 @@ ghost use Rattle.responder_machine.specs.Setup.{RspSetup};
 ghost use Rattle.responder_machine.specs.SizeLaws.{HasSizes};
 ghost use Rattle.responder_machine.specs.Turn.{updates};
 ghost use Rattle.spdm_grammar.specs.Message.RequestMessage.{KeyUpdate};
+ghost use Rattle.spdm_grammar.specs.declared.names.TheConstants.{MAX_RECORDS};
 
 use crate::judging::inner_refusal;
 use crate::requests::{UPDATE_ALL_KEYS, fits_stage};
@@ -16,8 +17,9 @@ use crate::session::ended_fault;
 use crate::{AnswerKey, RspSession};
 use responder_rules::Place;
 use secured_record::RecordFault;
-use session_keys::{SPDM_MESSAGE, behind_type, byte_at};
+use session_keys::{behind_type, byte_at};
 use spdm_basis::RecordFrame;
+use spdm_grammar::names::message_type::SPDM;
 use spdm_grammar::{Request, Stage};
 
 // Whether KEY_UPDATE with this operation, which came to a session, updates the keys of both directions.
@@ -66,7 +68,7 @@ impl RspSession {
 
     // The key of the next answer, whose number is left.
     fn present_key(&self) -> AnswerKey
-        requires { self.now.kept.response_next < 65536 }
+        requires { self.now.kept.response_next < MAX_RECORDS }
         ensures { (psk : List ℕ) (s : Events) → StandsFor self.now psk s
             → IsKeyOfNext result psk s }
     {
@@ -86,7 +88,7 @@ impl RspSession {
         if inner_refusal(stage, inner).is_some() {
             return false;
         }
-        if byte_at(inner, 0) != SPDM_MESSAGE {
+        if byte_at(inner, 0) != SPDM {
             return false;
         }
         let place = self.place(stage);
@@ -99,7 +101,7 @@ impl RspSession {
 
     // The key of the answer to an inner message in a stage.
     fn reply_key(&self, stage: Stage, inner: &[u8]) -> AnswerKey
-        requires { self.now.kept.response_next < 65536 }
+        requires { self.now.kept.response_next < MAX_RECORDS }
         ensures { (r : RspSetup) (s : Events) (f : Free) → HasSizes r (session_terms s).common
             → HasEpochs s → StandsFor self.now r.psk s → stage ≡ stage_of s
             → IsKeyOfReply result r.psk s (session_turn r s inner.now f) }
@@ -154,8 +156,8 @@ impl RspSession {
     /// where its key has sealed 65,536 records.
     pub fn next_answer_key(&self) -> Option<AnswerKey>
         ensures live { (psk : List ℕ) (s : Events) → StandsFor self.now psk s → MatchOption result
-            (response_next s ≡ 65536)
-            (λ key. (response_next s < 65536) × IsKeyOfNext key psk s) }
+            (response_next s ≡ MAX_RECORDS)
+            (λ key. (response_next s < MAX_RECORDS) × IsKeyOfNext key psk s) }
         ensures ended { (id old answer : List ℕ) → IsEnded self.now id old answer → result ≡ None }
     {
         if self.stage.is_none() || self.kept.response_next.is_spent() {

@@ -1,8 +1,9 @@
 ghost use Rattle.std.specs.Prelude.{◌≡◌, []};
+ghost use Rattle.spdm_grammar.specs.declared.names.TheConstants.{MAX_APP_DATA_LEN};
 
 use arrayvec::ArrayVec;
-use session_keys::MOST_DATA;
 use spdm_basis::Buffer;
+use spdm_grammar::names::MAX_APP_DATA_LEN;
 use std::marker::Model;
 use thiserror::Error;
 
@@ -23,7 +24,7 @@ const MOST_WAITING: usize = 16;
 // Application data that waits.
 #[derive(Drop)]
 struct Reply {
-    bytes: Buffer<1024>,
+    bytes: Buffer<MAX_APP_DATA_LEN>,
 }
 
 impl Default for Reply {
@@ -41,7 +42,7 @@ impl Reply {
 
     // A copy of application data.
     fn of(bytes: &[u8]) -> Reply
-        requires { length bytes.now ≤ 1024 }
+        requires { length bytes.now ≤ MAX_APP_DATA_LEN }
         ensures { result.bytes ≡ bytes.now }
     {
         let mut reply = Reply::default();
@@ -86,7 +87,7 @@ impl AppQueue {
         ensures ok { MatchResult result (λ _. self.new ≡ self.old ++ bytes.now ∷ [])
             (λ _. self.new ≡ self.old) }
     {
-        if bytes.len() > MOST_DATA {
+        if bytes.len() > MAX_APP_DATA_LEN {
             return Err(QueueFault::TooLong);
         }
         if self.replies.len() >= MOST_WAITING {
@@ -99,7 +100,7 @@ impl AppQueue {
     /// The first message; empty if there is none.
     pub fn first(&self) -> &[u8]
         ensures value { result.now ≡ first_queued self.now }
-        ensures fits { length result.now ≤ 1024 }
+        ensures fits { length result.now ≤ MAX_APP_DATA_LEN }
     {
         match self.replies.first() {
             Some(reply) => reply.bytes.as_slice(),

@@ -10,6 +10,7 @@ ghost use Rattle.spdm_grammar.specs.Message.RequestMessage.{ChunkGet, GetMeasure
 ghost use Rattle.spdm_grammar.specs.declared.told.phase.Stage.TheVariants.{Open};
 ghost use Rattle.responder_session.specs.Deeds.{AreFree, AreGiven, IsAllowed, IsDeed};
 ghost use Rattle.responder_session.specs.Updates.{HasEpochs};
+ghost use Rattle.spdm_grammar.specs.declared.names.TheConstants.{MAX_OPAQUE_LEN};
 
 use crate::RecordFree;
 use crate::answers::{write_chunk, write_update_answer};
@@ -69,7 +70,7 @@ pub fn measure<'a>(
     out: &mut Frame,
 ) -> Deed<'a>
     requires nonce { length free.now.nonce.now ≡ 32 }
-    requires opaque { length free.now.opaque.now ≤ 1024 }
+    requires opaque { length free.now.opaque.now ≤ MAX_OPAQUE_LEN }
     ensures { (r : RspSetup) (s : Events) (f : Free)
         → (stage_of s ≡ Open → MatchOption inventory.entry ⊥ (λ i. inventory_of r ≡ i.now))
         → (stage_of s ≡ Open → AreGiven free.now f s) → IsPlace place.now (session_place s)
@@ -92,7 +93,7 @@ fn measure_of<'a>(
     out: &mut Frame,
 ) -> Deed<'a>
     requires nonce { length free.now.nonce.now ≡ 32 }
-    requires opaque { length free.now.opaque.now ≤ 1024 }
+    requires opaque { length free.now.opaque.now ≤ MAX_OPAQUE_LEN }
     ensures { (r : RspSetup) (s : Events) (f : Free) → inventory_of r ≡ inventory.now
         → AreFree free.now f → IsPlace place.now (session_place s)
         → IsAllowed r s message.now (GetMeasurements op)

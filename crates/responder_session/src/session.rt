@@ -1,6 +1,8 @@
 ghost use Rattle.std.specs.Prelude.{◌≡◌, ◌≤◌, take, length, bytes_eq};
 ghost use Rattle.responder_machine.specs.Records.{ended_fault};
 ghost use Rattle.spdm_basis.specs.SessionIdBytes.{session_id_bytes};
+ghost use Rattle.spdm_grammar.specs.declared.names.TheConstants.{MAX_APP_DATA_LEN, MAX_OPAQUE_LEN, MAX_PADDING};
+ghost use Rattle.secured_record.specs.declared.TheConstants.{MAX_RECORD_SIZE, MIN_RECORD_SIZE};
 
 use crate::applying::Opened;
 use crate::exchange::{Exchange, handshake_with, write_answer};
@@ -8,14 +10,12 @@ use crate::kept::Kept;
 use crate::{ExchangeParts, RecordFree, RspTold, Work};
 use measurements::Inventory;
 use responder_rules::{LargeAnswer, Place};
-use secured_record::RecordFault;
+use secured_record::{MIN_RECORD_SIZE, RecordFault};
 use session_keys::{SessionTerms, behind_type, same_bytes};
 use spdm_basis::{Buffer, Frame, Psk, SessionId};
+use spdm_grammar::names::MAX_APP_DATA_LEN;
 use spdm_grammar::{SessionView, Stage};
 use transcript::{Lane, Vca};
-
-// The fewest bytes of a record.
-const LEAST_RECORD: usize = 26;
 
 /// A session at the responder in any stage, updated in place. Its keys, the last record with its response, the pending
 /// large response and the application data are stored inline and do not move.
@@ -26,12 +26,12 @@ pub struct RspSession {
     pub(crate) kept: Kept,
     pub(crate) exchange: Exchange,
     pub(crate) large: LargeAnswer,
-    pub(crate) bytes: Buffer<1024>,
+    pub(crate) bytes: Buffer<MAX_APP_DATA_LEN>,
 }
 
 // Whether a record of at least 26 bytes begins with a session id.
 fn names(sealed: &[u8], id: SessionId) -> bool
-    requires { 26 ≤ length sealed.now }
+    requires { MIN_RECORD_SIZE ≤ length sealed.now }
     ensures { result ≡ bytes_eq (take 4 sealed.now) (session_id_bytes id.req id.rsp) }
 {
     same_bytes(sealed.split_at(4).0, &id.bytes())
@@ -41,7 +41,7 @@ fn names(sealed: &[u8], id: SessionId) -> bool
 pub fn ended_fault(id: SessionId, sealed: &[u8]) -> RecordFault
     ensures { result ≡ ended_fault (session_id_bytes id.req id.rsp) sealed.now }
 {
-    if sealed.len() < LEAST_RECORD {
+    if sealed.len() < MIN_RECORD_SIZE {
         return RecordFault::Short;
     }
     if !names(sealed, id) {
@@ -144,7 +144,7 @@ impl RspSession {
             (λ reply. last_reply (last_of s) ≡ Some reply.now) }
         ensures ended { (id old answer : List ℕ) → IsEnded self.now id old answer
             → MatchOption result ⊥ (λ reply. reply.now ≡ answer) }
-        ensures fits { MatchOption result (Unit {0}) (λ reply. length reply.now ≤ 4160) }
+        ensures fits { MatchOption result (Unit {0}) (λ reply. length reply.now ≤ MAX_RECORD_SIZE) }
     {
         self.kept.last.last_reply()
     }
@@ -183,9 +183,9 @@ impl RspSession {
         work: &mut Work,
     ) -> RspTold
         requires nonce { length free.now.nonce.now ≡ 32 }
-        requires opaque { length free.now.opaque.now ≤ 1024 }
-        requires reply { length free.now.reply.now ≤ 1024 }
-        requires pad { length free.now.pad.now ≤ 16 }
+        requires opaque { length free.now.opaque.now ≤ MAX_OPAQUE_LEN }
+        requires reply { length free.now.reply.now ≤ MAX_APP_DATA_LEN }
+        requires pad { length free.now.pad.now ≤ MAX_PADDING }
         ensures live { (r : RspSetup) (s : Events) (f : Free) → HasSizes r (session_terms s).common
             → f.pad ≡ free.now.pad.now → (stage_of s ≡ Open → inventory_of r ≡ inventory.now)
             → (stage_of s ≡ Open → AreGiven free.now f s)
@@ -205,9 +205,9 @@ impl RspSession {
         work: &mut Work,
     ) -> RspTold
         requires nonce { length free.now.nonce.now ≡ 32 }
-        requires opaque { length free.now.opaque.now ≤ 1024 }
-        requires reply { length free.now.reply.now ≤ 1024 }
-        requires pad { length free.now.pad.now ≤ 16 }
+        requires opaque { length free.now.opaque.now ≤ MAX_OPAQUE_LEN }
+        requires reply { length free.now.reply.now ≤ MAX_APP_DATA_LEN }
+        requires pad { length free.now.pad.now ≤ MAX_PADDING }
         ensures live { (r : RspSetup) (s : Events) (f : Free) → HasSizes r (session_terms s).common
             → f.pad ≡ free.now.pad.now
             → (stage_of s ≡ Open → MatchOption inventory.entry ⊥ (λ i. inventory_of r ≡ i.now))

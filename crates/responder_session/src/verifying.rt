@@ -1,3 +1,5 @@
+ghost use Rattle.spdm_grammar.specs.declared.names.TheConstants.{MAX_PADDING};
+
 use crate::{RecordFree, RspSession, RspTook, Work};
 use spdm_grammar::{SessionView, Stage};
 
@@ -35,7 +37,7 @@ impl RspVerifying {
 
     /// Same as `take`, with this padding for the response, of at most 16 bytes.
     pub fn take_with(mut self, sealed: &[u8], pad: &[u8]) -> RspTook
-        requires { length pad.now ≤ 16 }
+        requires { length pad.now ≤ MAX_PADDING }
         ensures { (r : RspSetup) (s : Events) (f : Free) → HasSizes r (session_terms s).common
             → f.pad ≡ pad.now → StandsFor self r.psk s → IsTook r s f sealed.now result }
     {

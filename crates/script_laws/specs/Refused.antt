@@ -33,6 +33,7 @@ use Rattle.spdm_machine.specs.Bodies.{clear_body, record_body}
 use Rattle.spdm_machine.specs.Keys.{Draw}
 use Rattle.spdm_machine.specs.Packets.{packets_to}
 use Rattle.world_machine.specs.World.{World}
+use Rattle.spdm_grammar.specs.declared.names.message_type.TheConstants.{SPDM}
 
 -- No event of a session.
 abbrev pub is_empty : Events → Bool
@@ -60,7 +61,7 @@ pub record IsSealedError (psk : List ℕ) (s : Events) (code : ℕ) (body : List
   pub error : IsErrorMessage code message
   pub turn : Turn
   pub pad : List ℕ
-  pub sealed : body ≡ record_body (reply_record psk s turn (5 ∷ message) pad)
+  pub sealed : body ≡ record_body (reply_record psk s turn (SPDM ∷ message) pad)
 
 -- The answer to a request, in the clear or in a record, is an ERROR of this code.
 abbrev pub IsError : RspSetup → History → (request : List ℕ) → (code : ℕ) → (body : List ℕ) → Type 0
@@ -93,7 +94,7 @@ TableRefusesClear = (r : RspSetup) (h : History) (tag : ℕ) (m : List ℕ) (d :
 -- Why the table refuses an inner message: before it is read as a request, or as a request.
 abbrev pub inner_code : RspSetup → Events → List ℕ → Free → Option ErrorCode
 inner_code r s inner f =
-    option_or (inner_refusal (stage_of s) inner) (if slice_index inner 0 == 5 then refusal r (session_place s) (drop 1 inner) f else None)
+    option_or (inner_refusal (stage_of s) inner) (if slice_index inner 0 == SPDM then refusal r (session_place s) (drop 1 inner) f else None)
 
 -- A record that comes anew, names this session, opens in it, and holds a message that the table refuses.
 pub record IsRefusedRecord (r : RspSetup) (h : History) (sealed : List ℕ) (d : Draw) (e : ErrorCode) : Type 0 where

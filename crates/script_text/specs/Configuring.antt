@@ -4,7 +4,7 @@ use Rattle.std.specs.List.{list_any}
 use Rattle.spdm_grammar.specs.declared.told.block_spec.BlockSpec.{BlockSpec}
 use Rattle.spdm_grammar.specs.declared.messages.choice.Suites.{Suites}
 use Rattle.spdm_grammar.specs.declared.messages.choice.Pick.TheVariants.{Small}
-use Rattle.spdm_grammar.specs.declared.names.TheConstants.{MIN_DATA_TRANSFER_SIZE, MAX_MESSAGE_SIZE}
+use Rattle.spdm_grammar.specs.declared.names.TheConstants.{MAX_MESSAGE_SIZE, MAX_OPAQUE_LEN, MIN_DATA_TRANSFER_SIZE}
 use Rattle.script_text.specs.declared.configuration.config.ReqPart.{ReqPart}
 use Rattle.script_text.specs.declared.configuration.config.RspPart.{RspPart}
 use Rattle.script_text.specs.declared.configuration.config.ScriptConfig.{ScriptConfig}
@@ -42,7 +42,7 @@ unfoldable pub opaque_fault : Given → List ℕ → Option LineFault
 opaque_fault given line = first_of_tests (
     (given.ended, Order)
     ∷ (not (has_words 2 line), Words)
-    ∷ (not (is_hex_in 0 1024 (word 1 line)), Hex)
+    ∷ (not (is_hex_in 0 MAX_OPAQUE_LEN (word 1 line)), Hex)
     ∷ (is_some given.opaque, Twice)
     ∷ [])
 
@@ -145,7 +145,7 @@ requester_fault given line = first_of_tests (
     ∷ (not (has_numbers 16 line), Number)
     ∷ (not (is_hex_in 0 64 (word 7 line)), Hex)
     ∷ (not (is_hex_in 1 64 (word 8 line)), Hex)
-    ∷ (not (is_hex_in 0 1024 (word 9 line)), Hex)
+    ∷ (not (is_hex_in 0 MAX_OPAQUE_LEN (word 9 line)), Hex)
     ∷ (not (has_flags line), Flags)
     ∷ (nat_le 8 (length given.requesters), TooMany)
     ∷ (has_eid (numbers_of line).eid.number given, SameEid)

@@ -4,7 +4,7 @@ use Rattle.std.specs.Prelude.{ℕ, List, [], ◌∷◌, ◌++◌, ◌+◌, ◌<�
 use Rattle.std.specs.List.{list_all}
 use Rattle.spdm_grammar.specs.declared.told.block_spec.BlockSpec.{BlockSpec}
 use Rattle.spdm_grammar.specs.declared.messages.choice.FlagSet.{FlagSet}
-use Rattle.spdm_grammar.specs.declared.names.TheConstants.{MIN_DATA_TRANSFER_SIZE, MAX_MESSAGE_SIZE}
+use Rattle.spdm_grammar.specs.declared.names.TheConstants.{MAX_MESSAGE_SIZE, MAX_OPAQUE_LEN, MIN_DATA_TRANSFER_SIZE}
 use Rattle.script_text.specs.Configuring.{has_block, requester_has_eid, has_psk}
 use Rattle.script_text.specs.Measured.{block_size, sizes_of}
 use Rattle.script_text.specs.declared.configuration.config.ReqPart.{ReqPart}
@@ -81,7 +81,7 @@ is_sound_requester q =
     is_sound_end 16 q.transfer q.max q.unit q.pad q.flags
     && are_bytes_in 0 64 q.hint
     && are_bytes_in 1 64 q.psk
-    && are_bytes_in 0 1024 q.opaque
+    && are_bytes_in 0 MAX_OPAQUE_LEN q.opaque
 
 abbrev pub is_sound_block : BlockSpec → Bool
 is_sound_block b = is_within 1 254 b.index && nat_le b.value_type 255 && fits_word b.value

@@ -6,16 +6,17 @@ use Rattle.aes_gcm.specs.Gcm.{crypt, tag_of}
 use Rattle.secured_record.specs.Format.{nonce}
 use Rattle.spdm_basis.specs.declared.causes.record_fault.RecordFault.{RecordFault}
 use Rattle.spdm_basis.specs.declared.causes.record_fault.RecordFault.TheVariants.{Short, WrongId, WrongNumber, WrongLength, BadTag, BadInnerLength}
+use Rattle.secured_record.specs.declared.TheConstants.{MAX_RECORD_SIZE, MIN_RECORD_SIZE}
 
 -- The faults that are seen without the key: fewer bytes than a record without inner message and padding has, another
 -- session id, another number, a length field that is not the count of bytes after it, and more bytes than a record may
 -- have.
 unfoldable pub header_fault : List ℕ → ℕ → List ℕ → Option RecordFault
 header_fault id number sealed = first_of_tests (
-    (nat_lt (length sealed) 26, Short)
+    (nat_lt (length sealed) MIN_RECORD_SIZE, Short)
     ∷ (not (bytes_eq (take 4 sealed) id), WrongId)
     ∷ (not (bytes_eq (take 2 (drop 4 sealed)) (little_bytes 2 number)), WrongNumber)
-    ∷ (not (bytes_eq (take 2 (drop 6 sealed)) (little_bytes 2 (length sealed - 8))) || nat_lt 4160 (length sealed), WrongLength)
+    ∷ (not (bytes_eq (take 2 (drop 6 sealed)) (little_bytes 2 (length sealed - 8))) || nat_lt MAX_RECORD_SIZE (length sealed), WrongLength)
     ∷ [])
 
 -- The encrypted text of a record, between its header and its tag, and the tag, its last 16 bytes.

@@ -15,3 +15,10 @@ pub use opening::open;
 pub use record_key::RecordKey;
 pub use sealing::{TooLong, seal};
 pub use spdm_basis::RecordFault;
+
+/// The least length of a record, in bytes: one with neither an inner message nor padding (DSP0277, "Secured Message
+/// format").
+pub const MIN_RECORD_SIZE: usize = 26;
+
+/// The greatest length of a record, in bytes. This project's own limit.
+pub const MAX_RECORD_SIZE: usize = 4160;

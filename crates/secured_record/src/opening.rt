@@ -8,20 +8,16 @@ ghost use Rattle.spdm_basis.specs.SessionIdBytes.{session_id_bytes};
 ghost use Rattle.secured_record.specs.Format.{key_of, iv_of, record_of};
 ghost use Rattle.secured_record.specs.Contents.{IsRecordOf};
 ghost use Rattle.secured_record.specs.Faults.{header_fault, is_authentic, opened_text, text_part, fault_of, inner_of};
+ghost use Rattle.secured_record.specs.declared.TheConstants.{MAX_RECORD_SIZE, MIN_RECORD_SIZE};
 
-use crate::RecordFault;
 use crate::aead::RecordCipher;
 use crate::format::{nonce, two_bytes};
+use crate::{MAX_RECORD_SIZE, MIN_RECORD_SIZE, RecordFault};
 use aes_gcm::BadTag;
 use arrayvec::ArrayVec;
 use byteorder::{ByteOrder, LittleEndian};
 use key_schedule::DirectionKey;
 use spdm_basis::{RecordFrame, SessionId};
-
-// The least and the most bytes of a record.
-const LEAST: usize = 26;
-
-const MOST: usize = 4160;
 
 // Whether bytes are the same.
 fn same_bytes(a: &[u8], b: &[u8]) -> bool
@@ -34,10 +30,10 @@ fn same_bytes(a: &[u8], b: &[u8]) -> bool
 #[tactic(auto, unfolding(crate::specs::Faults::header_fault))]
 fn header_fault(id: &[u8; 4], number: u16, sealed: &[u8]) -> Option<RecordFault>
     ensures value { result ≡ header_fault id.now number sealed.now }
-    ensures least { result ≡ None → 26 ≤ length sealed.now }
-    ensures most { result ≡ None → length sealed.now ≤ 4160 }
+    ensures least { result ≡ None → MIN_RECORD_SIZE ≤ length sealed.now }
+    ensures most { result ≡ None → length sealed.now ≤ MAX_RECORD_SIZE }
 {
-    if sealed.len() < LEAST {
+    if sealed.len() < MIN_RECORD_SIZE {
         return Some(RecordFault::Short);
     }
     if !same_bytes(&sealed[..4], id) {
@@ -46,7 +42,9 @@ fn header_fault(id: &[u8; 4], number: u16, sealed: &[u8]) -> Option<RecordFault>
     if !same_bytes(&sealed[4..6], &two_bytes(number)) {
         return Some(RecordFault::WrongNumber);
     }
-    if sealed.len() > MOST || !same_bytes(&sealed[6..8], &two_bytes((sealed.len() - 8) as u16)) {
+    if sealed.len() > MAX_RECORD_SIZE
+        || !same_bytes(&sealed[6..8], &two_bytes((sealed.len() - 8) as u16))
+    {
         return Some(RecordFault::WrongLength);
     }
     None
@@ -54,7 +52,7 @@ fn header_fault(id: &[u8; 4], number: u16, sealed: &[u8]) -> Option<RecordFault>
 
 // The encrypted text of a record.
 fn text_part(sealed: &[u8]) -> &[u8]
-    requires least { 26 ≤ length sealed.now }
+    requires least { MIN_RECORD_SIZE ≤ length sealed.now }
     ensures value { result.now ≡ text_part sealed.now }
     ensures size { length result.now ≡ length sealed.now - 24 }
 {
@@ -70,8 +68,8 @@ fn verify_record(
     number: u16,
     sealed: &[u8],
 ) -> Result<(), BadTag>
-    requires least { 26 ≤ length sealed.now }
-    requires most { length sealed.now ≤ 4160 }
+    requires least { MIN_RECORD_SIZE ≤ length sealed.now }
+    requires most { length sealed.now ≤ MAX_RECORD_SIZE }
     ensures { is_ok result ≡ is_authentic (cipher_key cipher.now) iv.now number sealed.now }
 {
     let (header, rest) = sealed.split_at(8);
@@ -114,7 +112,7 @@ fn inner_length(text: &[u8]) -> u16
 // in front.
 fn decrypt_rest(cipher: &RecordCipher, iv: &[u8; 12], bytes: &mut [u8])
     requires first { 14 ≤ length bytes.old }
-    requires most { length bytes.old ≤ 4160 }
+    requires most { length bytes.old ≤ MAX_RECORD_SIZE }
     ensures { bytes.new ≡ take 14 bytes.old ++ crypt_behind 1 (cipher_key cipher.now) iv.now
         (drop 14 bytes.old) }
 {
@@ -223,8 +221,8 @@ pub fn decrypt_text(
     sealed: &[u8],
     out: &mut RecordFrame,
 )
-    requires least { 26 ≤ length sealed.now }
-    requires most { length sealed.now ≤ 4160 }
+    requires least { MIN_RECORD_SIZE ≤ length sealed.now }
+    requires most { length sealed.now ≤ MAX_RECORD_SIZE }
     ensures { out.new ≡ opened_text (cipher_key cipher.now) iv.now number sealed.now }
 {
     let _ = out.replace(text_part(sealed));
@@ -285,7 +283,7 @@ pub fn open_by(
     ensures opens { (inner pad : List ℕ)
         → sealed.now ≡ record_of (cipher_key cipher.now) iv.now
         (session_id_bytes id.req id.rsp) number inner pad
-        → length sealed.now ≤ 4160 → IsOk result × (out.new ≡ inner) }
+        → length sealed.now ≤ MAX_RECORD_SIZE → IsOk result × (out.new ≡ inner) }
 {
     open_record(cipher, iv, &id.bytes(), number, sealed, out)
 }
@@ -317,7 +315,7 @@ pub fn open(
     ensures opens { (inner pad : List ℕ)
         → sealed.now ≡ record_of (key_of key.now) (iv_of key.now)
         (session_id_bytes id.req id.rsp) number inner pad
-        → length sealed.now ≤ 4160 → IsOk result × (out.new ≡ inner) }
+        → length sealed.now ≤ MAX_RECORD_SIZE → IsOk result × (out.new ≡ inner) }
 {
     let cipher = RecordCipher::new(key.aead(), key.key());
     open_by(&cipher, key.iv(), id, number, sealed, out)

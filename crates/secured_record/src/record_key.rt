@@ -6,6 +6,7 @@ ghost use Rattle.key_schedule.specs.Purpose.{Purpose, IsSecretOf};
 ghost use Rattle.secured_record.specs.Format.{key_of, iv_of, record_of};
 ghost use Rattle.secured_record.specs.Contents.{IsRecordOf};
 ghost use Rattle.secured_record.specs.Faults.{fault_of, inner_of, opened_text};
+ghost use Rattle.secured_record.specs.declared.TheConstants.{MAX_RECORD_SIZE, MIN_RECORD_SIZE};
 
 use crate::aead::RecordCipher;
 use crate::opening::{decrypt_text, open_by};
@@ -102,7 +103,7 @@ impl RecordKey {
         pad: &[u8],
         out: &mut RecordFrame,
     ) -> Result<(), TooLong>
-        ensures fits { IsOk result ↔ (length inner.now + length pad.now + 26 ≤ 4160) }
+        ensures fits { IsOk result ↔ (length inner.now + length pad.now + MIN_RECORD_SIZE ≤ MAX_RECORD_SIZE) }
         ensures record { OnOk result (out.new
             ≡ record_of (key_of self.now) (iv_of self.now)
             (session_id_bytes id.req id.rsp) number inner.now pad.now) }
@@ -144,7 +145,7 @@ impl RecordKey {
         ensures opens { (inner pad : List ℕ)
             → sealed.now ≡ record_of (key_of self.now) (iv_of self.now)
             (session_id_bytes id.req id.rsp) number inner pad
-            → length sealed.now ≤ 4160 → IsOk result × (out.new ≡ inner) }
+            → length sealed.now ≤ MAX_RECORD_SIZE → IsOk result × (out.new ≡ inner) }
     {
         open_by(&self.cipher, self.direction.iv(), id, number, sealed, out)
     }
@@ -152,8 +153,8 @@ impl RecordKey {
     /// Overwrites `out` with the text of a record: the length of its inner message as two bytes, little-endian, that
     /// message, and the padding. Whether the record opens is not tested.
     pub fn text(&self, number: u16, sealed: &[u8], out: &mut RecordFrame)
-        requires least { 26 ≤ length sealed.now }
-        requires most { length sealed.now ≤ 4160 }
+        requires least { MIN_RECORD_SIZE ≤ length sealed.now }
+        requires most { length sealed.now ≤ MAX_RECORD_SIZE }
         ensures { out.new ≡ opened_text (key_of self.now) (iv_of self.now) number sealed.now }
     {
         decrypt_text(&self.cipher, self.direction.iv(), number, sealed, out);

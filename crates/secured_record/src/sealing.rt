@@ -4,9 +4,11 @@ ghost use Rattle.spdm_basis.specs.SessionIdBytes.{session_id_bytes};
 ghost use Rattle.aes_gcm.specs.Gcm.{crypt, tag_of};
 ghost use Rattle.secured_record.specs.Ciphers.{cipher_key};
 ghost use Rattle.secured_record.specs.Format.{plain_text, record_of, sealed_text, key_of, iv_of};
+ghost use Rattle.secured_record.specs.declared.TheConstants.{MAX_RECORD_SIZE, MIN_RECORD_SIZE};
 
 use crate::aead::RecordCipher;
 use crate::format::{header, nonce, two_bytes};
+use crate::{MAX_RECORD_SIZE, MIN_RECORD_SIZE};
 use key_schedule::DirectionKey;
 use spdm_basis::{RecordFrame, SessionId};
 use thiserror::Error;
@@ -16,8 +18,8 @@ use thiserror::Error;
 #[error("the record would have more than 4,160 bytes")]
 pub struct TooLong;
 
-// The most bytes of inner message and padding in a record: 4,160 less header, length and tag.
-const CONTENT_LIMIT: usize = 4134;
+// The most bytes of inner message and padding in a record.
+const CONTENT_LIMIT: usize = MAX_RECORD_SIZE - MIN_RECORD_SIZE;
 
 // Writes a header and the plain text after it.
 fn write_plain(out: &mut RecordFrame, header: &[u8; 8], inner: &[u8], pad: &[u8])
@@ -35,7 +37,7 @@ fn write_plain(out: &mut RecordFrame, header: &[u8; 8], inner: &[u8], pad: &[u8]
 // Encrypts in place what follows a header, and gives the tag of both.
 fn seal_behind_header(cipher: &RecordCipher, iv: &[u8; 12], bytes: &mut [u8]) -> [u8; 16]
     requires header { 8 ≤ length bytes.old }
-    requires most { length bytes.old ≤ 4160 }
+    requires most { length bytes.old ≤ MAX_RECORD_SIZE }
     ensures text { bytes.new
         ≡ take 8 bytes.old ++ crypt (cipher_key cipher.now) iv.now (drop 8 bytes.old) }
     ensures tag { result ≡ tag_of (cipher_key cipher.now) iv.now (take 8 bytes.old)
@@ -77,7 +79,7 @@ pub fn seal_within(
     pad: &[u8],
     out: &mut RecordFrame,
 ) -> Result<(), TooLong>
-    ensures fits { IsOk result ↔ (length inner.now + length pad.now + 26 ≤ 4160) }
+    ensures fits { IsOk result ↔ (length inner.now + length pad.now + MIN_RECORD_SIZE ≤ MAX_RECORD_SIZE) }
     ensures record { OnOk result (out.new
         ≡ record_of (cipher_key cipher.now) iv.now
         (session_id_bytes id.req id.rsp) number inner.now pad.now) }
@@ -101,7 +103,7 @@ pub fn seal(
     pad: &[u8],
     out: &mut RecordFrame,
 ) -> Result<(), TooLong>
-    ensures fits { IsOk result ↔ (length inner.now + length pad.now + 26 ≤ 4160) }
+    ensures fits { IsOk result ↔ (length inner.now + length pad.now + MIN_RECORD_SIZE ≤ MAX_RECORD_SIZE) }
     ensures record { OnOk result (out.new
         ≡ record_of (key_of key.now) (iv_of key.now)
         (session_id_bytes id.req id.rsp) number inner.now pad.now) }

@@ -1,13 +1,7 @@
 ghost use Rattle.std.specs.Prelude.{◌≡◌, drop, slice_index, bytes_eq};
 
-/// The type before an SPDM message in a record (DSP0275).
-pub const SPDM_MESSAGE: u8 = 5;
-
 /// The type before application data in a record (DSP0277).
 pub const APP_DATA: u8 = 1;
-
-/// The most bytes of application data.
-pub const MOST_DATA: usize = 1024;
 
 /// What follows the type of an inner message.
 pub fn behind_type(inner: &[u8]) -> &[u8]

@@ -4,6 +4,8 @@ ghost use Rattle.spdm_basis.specs.SessionIdBytes.{session_id_bytes};
 ghost use Rattle.spdm_grammar.specs.declared.messages.choice.Choice.{Choice};
 ghost use Rattle.spdm_machine.specs.Keys.{sealed_of, record_fault, inner_message};
 ghost use Rattle.session_keys.specs.Keys.{IsKeyOf};
+ghost use Rattle.spdm_grammar.specs.declared.names.TheConstants.{MAX_PADDING};
+ghost use Rattle.secured_record.specs.declared.TheConstants.{MAX_RECORD_SIZE, MIN_RECORD_SIZE};
 
 use secured_record::{RecordFault, RecordKey};
 use spdm_basis::{Buffer, RecordFrame, SessionId};
@@ -18,10 +20,10 @@ pub fn seal_record(
     pad: &[u8],
     out: &mut RecordFrame,
 )
-    requires { length inner.now + length pad.now + 26 ≤ 4160 }
+    requires { length inner.now + length pad.now + MIN_RECORD_SIZE ≤ MAX_RECORD_SIZE }
     ensures value { (choice : Choice) (p : Purpose) → IsKeyOf key.now choice p
         → out.new ≡ sealed_of choice p number (session_id_bytes id.req id.rsp) inner.now pad.now }
-    ensures size { length out.new ≡ length inner.now + length pad.now + 26 }
+    ensures size { length out.new ≡ length inner.now + length pad.now + MIN_RECORD_SIZE }
 {
     let _ = key.seal(id, number, inner, pad, out);
 }
@@ -39,7 +41,7 @@ pub fn open_record(
         (λ e. record_fault choice p number (session_id_bytes id.req id.rsp) sealed.now ≡ Some e) }
     ensures inner { (choice : Choice) (p : Purpose) → IsKeyOf key.now choice p
         → OnOk result (out.new ≡ inner_message choice p number sealed.now) }
-    ensures fits { OnOk result (length sealed.now ≤ 4160) }
+    ensures fits { OnOk result (length sealed.now ≤ MAX_RECORD_SIZE) }
     ensures unchanged { OnErr result (out.new ≡ out.old) }
 {
     key.open(id, number, sealed, out)
@@ -54,7 +56,7 @@ pub fn seal_inner(
     pad: &[u8],
 ) -> Buffer<1088>
     requires inner { length inner.now ≤ 1025 }
-    requires pad { length pad.now ≤ 16 }
+    requires pad { length pad.now ≤ MAX_PADDING }
     ensures { (choice : Choice) (p : Purpose) → IsKeyOf key.now choice p
         → result ≡ sealed_of choice p number (session_id_bytes id.req id.rsp) inner.now pad.now }
 {

@@ -13,6 +13,6 @@ mod terms;
 
 pub use context::{Context, context_of};
 pub use handshake::{Handshake, without_verify};
-pub use inner::{APP_DATA, MOST_DATA, SPDM_MESSAGE, behind_type, byte_at, same_bytes};
+pub use inner::{APP_DATA, behind_type, byte_at, same_bytes};
 pub use keys::{open_record, seal_inner, seal_record};
 pub use terms::SessionTerms;

@@ -3,7 +3,7 @@
 use Rattle.std.specs.Prelude.{◌≡◌, ◌≢◌, ◌≤◌, ◌<◌, ◌+◌, ◌-◌, ◌^◌, ℕ, List, [], ◌∷◌, length, map, false, None, All}
 use Rattle.measurements.specs.Faults.{inventory_fault}
 use Rattle.spdm_grammar.specs.declared.messages.choice.FlagSet.{FlagSet}
-use Rattle.spdm_grammar.specs.declared.names.TheConstants.{MIN_DATA_TRANSFER_SIZE, MAX_MESSAGE_SIZE}
+use Rattle.spdm_grammar.specs.declared.names.TheConstants.{MAX_MESSAGE_SIZE, MAX_OPAQUE_LEN, MAX_PADDING, MIN_DATA_TRANSFER_SIZE}
 use Rattle.responder_machine.specs.Setup.{RspSetup, Known, towards}
 use Rattle.requester_machine.specs.Setup.{ReqSetup, ReqEnd}
 use Rattle.spdm_machine.specs.Packets.{wear_limit}
@@ -43,9 +43,9 @@ pub record IsRequester (q : ReqSetup) : Type 0 where
   pub other : q.eid ≢ q.responder
   pub sizes : HasSizes q.transfer q.max q.unit q.flags
   pub key : HasKey q.hint q.psk
-  pub opaque : length q.opaque ≤ 1024
+  pub opaque : length q.opaque ≤ MAX_OPAQUE_LEN
   pub opaque_bytes : All (λ (byte : ℕ). byte < 256) q.opaque
-  pub pad : q.pad ≤ 16
+  pub pad : q.pad ≤ MAX_PADDING
 
 -- A responder towards one requester. Its heartbeat period is a byte, and its measurements make an inventory.
 pub record IsResponder (r : RspSetup) : Type 0 where
@@ -54,7 +54,7 @@ pub record IsResponder (r : RspSetup) : Type 0 where
   pub sizes : HasSizes r.transfer r.max r.unit r.flags
   pub beat : r.beat < 256
   pub key : HasKey r.hint r.psk
-  pub opaque : length r.opaque ≤ 1024
+  pub opaque : length r.opaque ≤ MAX_OPAQUE_LEN
   pub opaque_bytes : All (λ (byte : ℕ). byte < 256) r.opaque
   pub blocks : inventory_fault r.blocks ≡ None
 

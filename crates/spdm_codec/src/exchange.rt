@@ -3,13 +3,14 @@ ghost use Rattle.spdm_grammar.specs.Reading.{read};
 ghost use Rattle.spdm_grammar.specs.Requests.{psk_exchange_layout, exchange_bytes};
 ghost use Rattle.spdm_grammar.specs.Message.{request_message, exchange_message};
 ghost use Rattle.spdm_codec.specs.Answer.{Gives};
+ghost use Rattle.spdm_grammar.specs.declared.names.TheConstants.{MAX_OPAQUE_LEN};
 
 use crate::cursor::{Cursor, not_allowed};
 use crate::put::{TooLong, put, put_two};
 use spdm_basis::Frame;
-use spdm_grammar::names::MAX_MESSAGE_SIZE;
 use spdm_grammar::names::request_code::PSK_EXCHANGE;
 use spdm_grammar::names::spdm_version::V1_2;
+use spdm_grammar::names::{MAX_MESSAGE_SIZE, MAX_OPAQUE_LEN};
 use spdm_grammar::{Exchange, Malformed, Request};
 
 /// PSK_EXCHANGE after its code.
@@ -35,7 +36,7 @@ pub fn read_psk_exchange<'a>(
     }
     let at = cursor.at();
     let opaque_len = cursor.two()?;
-    if opaque_len > 1024 {
+    if opaque_len > MAX_OPAQUE_LEN {
         return Err(not_allowed(at));
     }
     let hint = cursor.field(usize::from(hint_len))?;
@@ -55,7 +56,7 @@ pub fn read_psk_exchange<'a>(
 pub fn write_psk_exchange(exchange: &Exchange<'_>, out: &mut Frame) -> Result<(), TooLong>
     requires hint { length exchange.now.hint.now < 2 ^ 16 }
     requires context { length exchange.now.context.now < 2 ^ 16 }
-    requires opaque { length exchange.now.opaque.now ≤ 1024 }
+    requires opaque { length exchange.now.opaque.now ≤ MAX_OPAQUE_LEN }
     ensures ok { OnOk result (out.new
         ≡ V1_2 ∷ PSK_EXCHANGE ∷ exchange_bytes (exchange_message exchange.now)) }
     ensures fits { OnOk result (length out.new ≤ MAX_MESSAGE_SIZE) }

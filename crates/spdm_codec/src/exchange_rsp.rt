@@ -3,13 +3,14 @@ ghost use Rattle.spdm_grammar.specs.Reading.{read};
 ghost use Rattle.spdm_grammar.specs.Responses.{psk_exchange_rsp_layout, summary_len as spec_summary_len, exchange_rsp_bytes};
 ghost use Rattle.spdm_grammar.specs.Message.{response_message, exchange_rsp_message};
 ghost use Rattle.spdm_codec.specs.Answer.{Gives};
+ghost use Rattle.spdm_grammar.specs.declared.names.TheConstants.{MAX_OPAQUE_LEN};
 
 use crate::cursor::{Cursor, not_allowed};
 use crate::put::{TooLong, put, put_two};
 use spdm_basis::Frame;
-use spdm_grammar::names::MAX_MESSAGE_SIZE;
 use spdm_grammar::names::response_code::PSK_EXCHANGE_RSP;
 use spdm_grammar::names::spdm_version::V1_2;
+use spdm_grammar::names::{MAX_MESSAGE_SIZE, MAX_OPAQUE_LEN};
 use spdm_grammar::{ExchangeRsp, Malformed, Response};
 
 /// PSK_EXCHANGE_RSP after its code.
@@ -33,7 +34,7 @@ pub fn read_psk_exchange_rsp<'a>(
     }
     let at = cursor.at();
     let opaque_len = cursor.two()?;
-    if opaque_len > 1024 {
+    if opaque_len > MAX_OPAQUE_LEN {
         return Err(not_allowed(at));
     }
     let summary = cursor.field(summary_len(hash_len, has_summary))?;
@@ -61,7 +62,7 @@ fn summary_len(hash_len: usize, has_summary: bool) -> usize
 /// Overwrites `out` with PSK_EXCHANGE_RSP.
 pub fn write_psk_exchange_rsp(exchange: &ExchangeRsp<'_>, out: &mut Frame) -> Result<(), TooLong>
     requires context { length exchange.now.context.now < 2 ^ 16 }
-    requires opaque { length exchange.now.opaque.now ≤ 1024 }
+    requires opaque { length exchange.now.opaque.now ≤ MAX_OPAQUE_LEN }
     ensures ok { OnOk result (out.new
         ≡ V1_2 ∷ PSK_EXCHANGE_RSP ∷ exchange_rsp_bytes (exchange_rsp_message exchange.now)) }
     ensures fits { OnOk result (length out.new ≤ MAX_MESSAGE_SIZE) }

@@ -6,13 +6,14 @@ ghost use Rattle.spdm_codec.specs.Answer.{Gives};
 ghost use Rattle.std.specs.Prelude.{◌≡◌, ◌<◌, ◌≤◌, ◌^◌, ◌∷◌, length, OnOk, OnErr};
 ghost use Rattle.spdm_grammar.specs.Responses.{measured_bytes};
 ghost use Rattle.spdm_grammar.specs.Message.{measured_message};
+ghost use Rattle.spdm_grammar.specs.declared.names.TheConstants.{MAX_OPAQUE_LEN};
 
 use crate::cursor::{Cursor, not_allowed};
 use crate::put::{TooLong, put, put_three, put_two};
 use spdm_basis::Frame;
-use spdm_grammar::names::MAX_MESSAGE_SIZE;
 use spdm_grammar::names::response_code::MEASUREMENTS;
 use spdm_grammar::names::spdm_version::V1_2;
+use spdm_grammar::names::{MAX_MESSAGE_SIZE, MAX_OPAQUE_LEN};
 use spdm_grammar::{Malformed, Measured, Request, Response};
 
 /// GET_MEASUREMENTS after its code.
@@ -43,7 +44,7 @@ pub fn read_measurements<'a>(cursor: &mut Cursor<'a>) -> Result<Response<'a>, Ma
     let nonce = cursor.field(32)?;
     let at = cursor.at();
     let opaque_len = cursor.two()?;
-    if opaque_len > 1024 {
+    if opaque_len > MAX_OPAQUE_LEN {
         return Err(not_allowed(at));
     }
     let opaque = cursor.field(usize::from(opaque_len))?;
@@ -60,7 +61,7 @@ pub fn read_measurements<'a>(cursor: &mut Cursor<'a>) -> Result<Response<'a>, Ma
 /// Overwrites `out` with MEASUREMENTS.
 pub fn write_measurements(measured: &Measured<'_>, out: &mut Frame) -> Result<(), TooLong>
     requires block_bytes { length measured.now.block_bytes.now < 2 ^ 24 }
-    requires opaque { length measured.now.opaque.now ≤ 1024 }
+    requires opaque { length measured.now.opaque.now ≤ MAX_OPAQUE_LEN }
     ensures ok { OnOk result (out.new
         ≡ V1_2 ∷ MEASUREMENTS ∷ measured_bytes (measured_message measured.now)) }
     ensures fits { OnOk result (length out.new ≤ MAX_MESSAGE_SIZE) }

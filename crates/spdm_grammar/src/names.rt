@@ -186,11 +186,17 @@ pub const MAX_BODY_SIZE: usize = 4161;
 /// own limit.
 pub const MAX_SESSIONS: u8 = 4;
 
+/// The places in a table of sessions: one for each id from 1 to `MAX_SESSIONS`.
+pub const SESSION_PLACES: usize = MAX_SESSIONS as usize;
+
 /// The most records under one key. This project's own limit: their numbers have two bytes (DSP0277).
 pub const MAX_RECORDS: u32 = 65_536;
 
 /// The most bytes of opaque data (DSP0274, "PSK_EXCHANGE request message format").
 pub const MAX_OPAQUE_LEN: usize = 1024;
+
+/// The most bytes of application data in a record. This project's own limit.
+pub const MAX_APP_DATA_LEN: usize = 1024;
 
 /// The most bytes of random padding in a record that an end of this project sends (DSP0277).
 pub const MAX_PADDING: usize = 16;

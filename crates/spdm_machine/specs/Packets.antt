@@ -4,6 +4,7 @@ use Rattle.std.specs.Prelude.{◌^◌, ℕ, List, [], ◌∷◌, slice_index, Bo
 use Rattle.mctp_framing.specs.Cutting.{packets_of}
 use Rattle.mctp_framing.specs.Gathering.{Gathered, gathered}
 use Rattle.mctp_framing.specs.Packet.{PacketFields, parsed}
+use Rattle.spdm_grammar.specs.declared.names.TheConstants.{MAX_BODY_SIZE}
 
 -- The fields of a packet before the others; bytes that are no packet add none.
 abbrev pub fields_with : {E : Type 0} → Result PacketFields E → List PacketFields → List PacketFields
@@ -17,7 +18,7 @@ fields_in (bytes ∷ others) = fields_with (parsed bytes) (fields_in others)
 
 -- The greatest length of a body at either end: its type and a record of 4,160 bytes. This project's own limit.
 abbrev pub body_limit : ℕ
-body_limit = 4161
+body_limit = MAX_BODY_SIZE
 
 -- What a packet leads to at an end that hears one peer, after the packets that it was given, the newest first.
 unfoldable pub gathered_from : (own peer : ℕ) → List (List ℕ) → PacketFields → Gathered

@@ -6,7 +6,7 @@ use Rattle.requester_machine.specs.May.{IsSetUp}
 use Rattle.requester_machine.specs.Setup.{ReqSetup}
 use Rattle.requester_machine.specs.UnderWay.{HasSizes}
 use Rattle.responder_machine.specs.Setup.{RspPart}
-use Rattle.spdm_grammar.specs.declared.names.TheConstants.{MAX_MESSAGE_SIZE}
+use Rattle.spdm_grammar.specs.declared.names.TheConstants.{MAX_MESSAGE_SIZE, MAX_OPAQUE_LEN}
 use Rattle.check_laws.specs.Judged.{AreApart}
 use Rattle.trace_check.specs.declared.answering.Answering.{Answering}
 use Rattle.world_machine.specs.Setup.{Configuration}
@@ -18,7 +18,7 @@ use Rattle.world_machine.specs.Setup.{Configuration}
 pub record HasLimits (p : RspPart) : Type 0 where
   pub ordered : p.transfer ≤ p.max
   pub most : p.max ≤ MAX_MESSAGE_SIZE
-  pub opaque : length p.opaque ≤ 1024
+  pub opaque : length p.opaque ≤ MAX_OPAQUE_LEN
   pub beat : p.beat < 256
 
 -- A requester is within its limits.

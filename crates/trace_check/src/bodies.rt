@@ -12,6 +12,7 @@ ghost use Rattle.responder_machine.specs.Setup.{towards};
 ghost use Rattle.trace_check.specs.Bodies.{IsAnswerJudged, IsRequestJudged};
 ghost use Rattle.capture_machine.specs.SessionTable.{Row};
 ghost use Rattle.world_machine.specs.Setup.{Configuration, known_of};
+ghost use Rattle.spdm_grammar.specs.declared.names.TheConstants.{MAX_BODY_SIZE};
 
 use crate::ordering::{answered_why, asked_why};
 use check_fetched_ends::MarkedEnds;
@@ -31,13 +32,13 @@ pub(crate) fn takes_request(
 ) -> Result<(), Why>
     ensures told { (w : Configuration) (q : ReqSetup) (older : List (List ℕ)) (rows : List Row)
         (packet : List ℕ) → IsRequest w q older packet (route_of route) body.now
-        → length older < 2 ^ 64 - 2 → length body.now ≤ 4161
+        → length older < 2 ^ 64 - 2 → length body.now ≤ MAX_BODY_SIZE
         → round.old ≡ round_of w.responder.eid q.eid older
         → marked_ends.StandsFor ends.old w q older rows
         → StandsForRows table.old w (length older) rows
         → IsRequestJudged w q older rows packet (route_of route) body.now result ends.new
         table.new }
-    ensures round { waiting_in round.old < 2 ^ 64 - 1 → length body.now ≤ 4161
+    ensures round { waiting_in round.old < 2 ^ 64 - 1 → length body.now ≤ MAX_BODY_SIZE
         → OnOk result (round.new ≡ round_by_request round.old (Whole (route_of route) body.now)) }
 {
     if let Some(why) = asked_why(round, route, body) {
@@ -62,7 +63,7 @@ pub(crate) fn takes_answer(
     route: Route,
     answer: &[u8],
 ) -> Result<Result<(), Why>, OutOfMemory>
-    requires { length answer.now ≤ 4161 }
+    requires { length answer.now ≤ MAX_BODY_SIZE }
     ensures told { (w : Configuration) (q : ReqSetup) (older : List (List ℕ)) (rows : List Row)
         (packet : List ℕ) → IsAnswer w q older packet (route_of route) answer.now
         → length older < 2 ^ 64 - 2 → w.responder.beat < 256

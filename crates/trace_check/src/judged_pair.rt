@@ -2,6 +2,7 @@ ghost use Rattle.std.specs.Prelude.{◌≡◌, ℕ};
 ghost use Rattle.requester_core.specs.Setup.{IsSetUp};
 ghost use Rattle.script_ends.specs.Configured.{requester_in};
 ghost use Rattle.requester_machine.specs.UnderWay.{HasSizes};
+ghost use Rattle.spdm_grammar.specs.declared.names.TheConstants.{MAX_BODY_SIZE};
 
 use crate::Answering;
 use crate::bodies::{takes_answer, takes_request};
@@ -28,7 +29,7 @@ pub struct JudgedPair {
     pub(crate) ends: MarkedEnds,
     pub(crate) hint: Bytes,
     pub(crate) psk: Psk,
-    pub(crate) ghost limit: { answers.receiver.limit ≡ 4161 },
+    pub(crate) ghost limit: { answers.receiver.limit ≡ MAX_BODY_SIZE },
 }
 
 // What the requester's own code sees of how a requester is set up.

@@ -4,6 +4,7 @@ ghost use Rattle.trace_text.specs.Spelling.{with_words};
 ghost use Rattle.trace_text.specs.TraceLines.{line_text, whose_words, heard_words, event_words, finished_words, view_words};
 ghost use Rattle.trace_text.specs.Whose.{whose_of, fault_of};
 ghost use Rattle.spdm_grammar.specs.Lines.Line.{State, Session, Command, Reply, ToResponder, ToRequester, ToNobody, Data, Record, Packet, NoPacket, At};
+ghost use Rattle.spdm_grammar.specs.declared.names.TheConstants.{MAX_MESSAGE_SIZE};
 
 use crate::print::{
     begin, begin_at, begin_requester, end_line, push_code, push_hash, push_hex, push_id,
@@ -214,7 +215,7 @@ pub fn line_nobody(out: &mut Line)
 /// Application data was taken in a session, at requester `q` or at the responder from it.
 #[tactic(auto, using(crate::proofs::Folding::with_words_append), unfolding(crate::specs::TraceLines::line_text))]
 pub fn line_data(q: u8, responder: bool, id: SessionId, bytes: &[u8], out: &mut Line)
-    requires { length bytes.now ≤ 4096 }
+    requires { length bytes.now ≤ MAX_MESSAGE_SIZE }
     ensures { out.new ≡ line_text (Data (whose_of q responder) id bytes.now) }
 {
     begin_whose(b"data", q, responder, out);
@@ -226,7 +227,7 @@ pub fn line_data(q: u8, responder: bool, id: SessionId, bytes: &[u8], out: &mut 
 /// Requester `q` took a measurement record.
 #[tactic(auto, unfolding(crate::specs::TraceLines::line_text))]
 pub fn line_record(q: u8, bytes: &[u8], out: &mut Line)
-    requires { length bytes.now ≤ 4096 }
+    requires { length bytes.now ≤ MAX_MESSAGE_SIZE }
     ensures { out.new ≡ line_text (Record q bytes.now) }
 {
     begin(b"record", out);

@@ -17,6 +17,7 @@ ghost use Rattle.spdm_grammar.specs.declared.names.response_code.TheConstants.{C
 ghost use Rattle.spdm_machine.specs.Terms.{terms_of};
 ghost use Rattle.capture_machine.specs.SessionTable.{Row};
 ghost use Rattle.world_machine.specs.Setup.{Configuration};
+ghost use Rattle.spdm_grammar.specs.declared.names.TheConstants.{MAX_BODY_SIZE, MAX_MESSAGE_SIZE};
 
 use crate::clear_fetch::asked_exchange::asks_exchange;
 use crate::clear_fetch::handshake_left::leave_handshake;
@@ -46,7 +47,7 @@ pub enum BegunHeld {
 
 // A frame with these bytes.
 fn frame_of(bytes: &[u8]) -> Frame
-    ensures { length bytes.now ≤ 4096 → result ≡ bytes.now }
+    ensures { length bytes.now ≤ MAX_MESSAGE_SIZE → result ≡ bytes.now }
 {
     let mut frame = Frame::new();
     let _ = frame.extend(bytes);
@@ -68,7 +69,7 @@ fn bytes_round(reply: &[u8]) -> usize
 // What is held after LargeResponse to a message with this tag.
 fn held_from(connection: &Connection, tag: u8, message: &[u8], reply: &[u8]) -> Held
     ensures { (r : RspSetup) (h : History) → StandsFor connection.now r h
-        → length message.now ≤ 4096 → length reply.now ≤ 4096
+        → length message.now ≤ MAX_MESSAGE_SIZE → length reply.now ≤ MAX_MESSAGE_SIZE
         → IsHeldFrom (terms_of (negotiation_of (clear_turns h))).common tag
         (if slice_index reply.now 1 == CHUNK_SEND_ACK then 6 else 0) message.now reply.now result }
 {
@@ -99,7 +100,7 @@ pub fn begins_held(
     round: &Round,
     answer: &[u8],
 ) -> Result<BegunHeld, OutOfMemory>
-    requires { length answer.now ≤ 4161 }
+    requires { length answer.now ≤ MAX_BODY_SIZE }
     ensures told { (w : Configuration) (q : ReqSetup) (older : List (List ℕ)) (rows : List Row)
         (k : Kept) (route : RouteFields) → Keeps w q older k → length older < 2 ^ 64 - 2
         → w.responder.beat < 256 → round.now ≡ k.round → IsSetUp setup.now (responder_for w k)

@@ -40,6 +40,7 @@ use responder_core::Setup;
 use session_keys::{behind_type, byte_at};
 use spdm_basis::OutOfMemory;
 use spdm_grammar::Why;
+use spdm_grammar::names::MAX_SESSIONS;
 
 // Whether the request of the large response is PSK_EXCHANGE.
 fn holds_exchange(answerer: &Answerer, held: &Held) -> bool
@@ -66,7 +67,7 @@ fn begun_by(exchange: bool, whole: &[u8]) -> Option<u16>
 fn is_touched_at(marks: &Marks, id: u16) -> bool
     ensures { (h : History) → StandsFor marks.now h → result ≡ is_touched_at id h }
 {
-    if id == 0 || id > 4 {
+    if id == 0 || id > MAX_SESSIONS {
         return false;
     }
     marks.is_touched(id)

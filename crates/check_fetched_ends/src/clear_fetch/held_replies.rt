@@ -15,6 +15,7 @@ ghost use Rattle.spdm_grammar.specs.Requests.{canonical_request};
 ghost use Rattle.spdm_machine.specs.Bodies.{clear_body};
 ghost use Rattle.capture_machine.specs.SessionTable.{Row};
 ghost use Rattle.world_machine.specs.Setup.{Configuration};
+ghost use Rattle.spdm_grammar.specs.declared.names.TheConstants.{MAX_BODY_SIZE};
 
 use crate::Upon;
 use crate::clear_fetch::held::Held;
@@ -50,7 +51,7 @@ pub fn replies_held(
     round: &Round,
     answer: &[u8],
 ) -> Result<Result<Upon, Why>, OutOfMemory>
-    requires { length answer.now ≤ 4161 }
+    requires { length answer.now ≤ MAX_BODY_SIZE }
     ensures told { (w : Configuration) (q : ReqSetup) (older : List (List ℕ)) (rows : List Row)
         (f : Fetching) (route : RouteFields) → IsFetchingOf w q older f
         → length older < 2 ^ 64 - 2 → w.responder.beat < 256 → round.now ≡ f.kept.round

@@ -26,6 +26,7 @@ ghost use Rattle.spdm_machine.specs.Bodies.{clear_body};
 ghost use Rattle.capture_machine.specs.Rounds as rounds;
 ghost use Rattle.capture_machine.specs.SessionTable.{Row};
 ghost use Rattle.world_machine.specs.Setup.{Configuration};
+ghost use Rattle.spdm_grammar.specs.declared.names.TheConstants.{MAX_SESSIONS};
 
 use crate::Upon;
 use crate::session_fetch::in_session::zeros;
@@ -50,7 +51,7 @@ fn gives_version(answer: &[u8]) -> bool
 // The least values that a responder may choose in the clear.
 pub(crate) fn least_values(connection: &Connection) -> FreeValues<'static>
     ensures least { 1 ≤ result.id }
-    ensures most { result.id ≤ 4 }
+    ensures most { result.id ≤ MAX_SESSIONS }
     ensures free { (r : RspSetup) (h : History) → StandsFor connection.now r h
         → IsFree result (least_values h (clear_place h)) }
 {

@@ -19,6 +19,7 @@ ghost use Rattle.responder_machine.specs.Setup.{RspSetup};
 ghost use Rattle.spdm_machine.specs.Terms.{terms_of};
 ghost use Rattle.capture_machine.specs.SessionTable.{Row};
 ghost use Rattle.world_machine.specs.Setup.{Configuration};
+ghost use Rattle.spdm_grammar.specs.declared.names.TheConstants.{MAX_MESSAGE_SIZE};
 
 use crate::clear_fetch::held::Held;
 use crate::clear_fetch::held_begins::BegunHeld;
@@ -69,7 +70,7 @@ fn gets_again(
 ) -> bool
     ensures again { (r : RspSetup) (h : History) → IsSetUp setup.now r → StandsFor connection.now r h
         → has_pending (clear_place h) ≡ false → result ≡ gets_again h tag message.now reply.now }
-    ensures few { result ≡ true → length reply.now ≤ 4096 }
+    ensures few { result ≡ true → length reply.now ≤ MAX_MESSAGE_SIZE }
 {
     if !connection.is_repeat(tag, message) {
         return false;
@@ -89,7 +90,7 @@ fn other_tag(tag: u8) -> u8
 
 // A frame with these bytes.
 fn frame_of(bytes: &[u8]) -> Frame
-    ensures { length bytes.now ≤ 4096 → result ≡ bytes.now }
+    ensures { length bytes.now ≤ MAX_MESSAGE_SIZE → result ≡ bytes.now }
 {
     let mut frame = Frame::new();
     let _ = frame.extend(bytes);
@@ -99,7 +100,7 @@ fn frame_of(bytes: &[u8]) -> Frame
 // What is held after LargeResponse again to a message with this tag, while these marks are set.
 fn held_again(connection: &Connection, marks: &Marks, tag: u8, message: &[u8], reply: &[u8]) -> Held
     ensures { (r : RspSetup) (h : History) → StandsFor connection.now r h
-        → length message.now ≤ 4096 → length reply.now ≤ 4096
+        → length message.now ≤ MAX_MESSAGE_SIZE → length reply.now ≤ MAX_MESSAGE_SIZE
         → IsHeldAgain (terms_of (negotiation_of (clear_turns h))).common marks.now tag message.now
         reply.now result }
 {

@@ -11,6 +11,7 @@ ghost use Rattle.mctp_framing.specs.Gathering.Gathered.{Whole};
 ghost use Rattle.requester_machine.specs.Setup.{ReqSetup};
 ghost use Rattle.capture_machine.specs.SessionTable.{Row};
 ghost use Rattle.world_machine.specs.Setup.{Configuration};
+ghost use Rattle.spdm_grammar.specs.declared.names.TheConstants.{MAX_BODY_SIZE};
 
 use crate::session_fetch::in_session::{InSession, zeros};
 use crate::session_fetch::session_again::prepared_again;
@@ -43,7 +44,7 @@ pub fn begins_again(
     round: &Round,
     answer: &[u8],
 ) -> Result<BegunAgain, OutOfMemory>
-    requires { length answer.now ≤ 4161 }
+    requires { length answer.now ≤ MAX_BODY_SIZE }
     ensures told { (w : Configuration) (q : ReqSetup) (older : List (List ℕ)) (rows : List Row)
         (k : Kept) (route : RouteFields) → Keeps w q older k → length older < 2 ^ 64 - 2
         → w.responder.beat < 256 → round.now ≡ k.round → IsSetUp setup.now (responder_for w k)

@@ -13,6 +13,7 @@ ghost use Rattle.check_fetched_ends.specs.declared.upon.Upon.TheVariants as upon
 ghost use Rattle.check_late_laws.specs.Fetching.{Fetching, IsFetchingOf};
 ghost use Rattle.capture_machine.specs.SessionTable.{Row};
 ghost use Rattle.world_machine.specs.Setup.{Configuration};
+ghost use Rattle.spdm_grammar.specs.declared.names.TheConstants.{MAX_BODY_SIZE};
 
 use crate::Upon;
 use crate::session_fetch::in_session::InSession;
@@ -37,7 +38,7 @@ pub(crate) fn judges_chunk(
     message: &[u8],
     whole: &[u8],
 ) -> Result<Option<Upon>, OutOfMemory>
-    requires { length answer.now ≤ 4161 }
+    requires { length answer.now ≤ MAX_BODY_SIZE }
     ensures told { (w : Configuration) (q : ReqSetup) (older : List (List ℕ)) (rows : List Row)
         (f : Fetching) (route : RouteFields) → IsFetchingOf w q older f
         → length older < 2 ^ 64 - 2 → w.responder.beat < 256 → round.now ≡ f.kept.round

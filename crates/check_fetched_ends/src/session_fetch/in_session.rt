@@ -2,16 +2,18 @@ ghost use Rattle.std.specs.Prelude.{◌≡◌, ◌≤◌, ◌+◌, ◌-◌, ◌=
 ghost use Rattle.check_late_laws.specs.Fetching.{bytes_in, size_in};
 ghost use Rattle.spdm_grammar.specs.Fields.{zeros};
 ghost use Rattle.check_fetched_ends.specs.InSession.{size_with};
+ghost use Rattle.spdm_grammar.specs.declared.names.TheConstants.{MAX_MESSAGE_SIZE};
 
 use check_late_laws::LargeAnswer;
 use session_keys::byte_at;
 use spdm_basis::Frame;
+use spdm_grammar::names::MAX_MESSAGE_SIZE;
 
 // The most bytes of an SPDM message.
-pub(crate) const MOST_BYTES: usize = 4096;
+pub(crate) const MOST_BYTES: usize = MAX_MESSAGE_SIZE as usize;
 
 // As many zeros as a large response may have.
-const ZEROS: [u8; 4096] = [0; 4096];
+const ZEROS: [u8; MOST_BYTES] = [0; MOST_BYTES];
 
 /// A large response that is fetched in the session of a RspSessionID: what came of it, which lengths it may have, the
 /// operation that its request asks for, and whether a chunk of it is left to be given. Never allocates.
@@ -27,7 +29,7 @@ pub struct InSession {
 
 // So many zeros.
 pub(crate) fn zeros(count: usize) -> &'static [u8]
-    requires { count ≤ 4096 }
+    requires { count ≤ MAX_MESSAGE_SIZE }
     ensures { result.now ≡ zeros count }
 {
     &ZEROS[..count]

@@ -7,6 +7,7 @@ ghost use Rattle.responder_machine.specs.History.{History};
 ghost use Rattle.responder_machine.specs.Session.{session_of};
 ghost use Rattle.responder_machine.specs.Setup.{RspSetup};
 ghost use Rattle.spdm_grammar.specs.Requests.{request_in};
+ghost use Rattle.spdm_grammar.specs.declared.names.TheConstants.{MAX_MESSAGE_SIZE};
 
 use crate::session_fetch::in_session::{InSession, MOST_BYTES};
 use check_late_laws::LargeAnswer;
@@ -54,7 +55,7 @@ fn asked_operation(message: &[u8], hash_len: usize) -> Option<u8>
 fn kept_in(connection: &Connection, setup: &Setup<'_>, id: u16, message: &[u8]) -> Option<InSession>
     ensures kept { (r : RspSetup) (h : History) → IsSetUp setup.now r → StandsFor connection.now r h
         → IsKeptFor r (session_of id h) id message.now result }
-    ensures few { IfSome result (λ fetched. fetched.least ≤ 4096) }
+    ensures few { IfSome result (λ fetched. fetched.least ≤ MAX_MESSAGE_SIZE) }
 {
     let terms = connection.session_terms(id)?;
     let transfer = terms.common.to_requester.transfer;
@@ -91,7 +92,7 @@ pub(crate) fn prepared_again(
 ) -> Option<Again>
     ensures kept { (r : RspSetup) (h : History) → IsSetUp setup.now r → StandsFor connection.now r h
         → IsPreparedAgain r h request.now answer.now result }
-    ensures few { IfSome result (λ again. again.fetched.least ≤ 4096) }
+    ensures few { IfSome result (λ again. again.fetched.least ≤ MAX_MESSAGE_SIZE) }
 {
     if connection.repeats_ended(request) {
         return None;

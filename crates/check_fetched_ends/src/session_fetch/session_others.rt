@@ -18,6 +18,7 @@ ghost use Rattle.responder_machine.specs.History.{History};
 ghost use Rattle.responder_machine.specs.Setup.{RspSetup};
 ghost use Rattle.capture_machine.specs.SessionTable.{Row};
 ghost use Rattle.world_machine.specs.Setup.{Configuration};
+ghost use Rattle.spdm_grammar.specs.declared.names.TheConstants.{MAX_BODY_SIZE};
 
 use crate::Upon;
 use crate::session_fetch::in_session::InSession;
@@ -67,7 +68,7 @@ pub(crate) fn judges_other(
     answer: &[u8],
     refuses: bool,
 ) -> Result<Result<Upon, Why>, OutOfMemory>
-    requires { length answer.now ≤ 4161 }
+    requires { length answer.now ≤ MAX_BODY_SIZE }
     ensures told { (w : Configuration) (q : ReqSetup) (older : List (List ℕ)) (rows : List Row)
         (f : Fetching) (route : RouteFields) → IsFetchingOf w q older f
         → length older < 2 ^ 64 - 2 → w.responder.beat < 256 → round.now ≡ f.kept.round

@@ -14,9 +14,10 @@ use session_keys::behind_type;
 use spdm_basis::{Frame, RecordFrame};
 use spdm_codec::read_request;
 use spdm_grammar::Request;
+use spdm_grammar::names::MAX_MESSAGE_SIZE;
 
 // The most bytes of an SPDM message.
-const MOST_BYTES: usize = 4096;
+const MOST_BYTES: usize = MAX_MESSAGE_SIZE as usize;
 
 // What stands in a chunk beside the bytes that it holds.
 const CHUNK_FIELDS: u32 = 12;

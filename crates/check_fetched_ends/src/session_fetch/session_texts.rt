@@ -7,15 +7,15 @@ ghost use Rattle.responder_machine.specs.History.{History};
 ghost use Rattle.responder_machine.specs.Setup.{RspSetup};
 ghost use Rattle.check_fetched_ends.specs.InSession.{IsTextOf, is_chunk};
 ghost use Rattle.check_fetched_ends.specs.SessionOthers.{IsRefusing};
+ghost use Rattle.spdm_grammar.specs.declared.names.TheConstants.{MAX_BODY_SIZE};
+ghost use Rattle.secured_record.specs.declared.TheConstants.{MIN_RECORD_SIZE};
 
 use check_fetched_laws::message_in;
 use check_responder::Answerer;
+use secured_record::MIN_RECORD_SIZE;
 use session_keys::{behind_type, byte_at};
 use spdm_basis::RecordFrame;
 use spdm_grammar::names::response_code::{CHUNK_RESPONSE, ERROR};
-
-// The fewest bytes of a record.
-const LEAST_RECORD: usize = 26;
 
 // The length of no text passes this.
 const MOST_TEXT: usize = 65535;
@@ -28,17 +28,17 @@ pub(crate) fn reads_text(
     answer: &[u8],
     text: &mut RecordFrame,
 ) -> bool
-    requires { length answer.now ≤ 4161 }
+    requires { length answer.now ≤ MAX_BODY_SIZE }
     ensures told { (r : RspSetup) (h : History) → IsAnswerer answerer.old r h
         → messages_of h < 2 ^ 64 - 1 → result ≡ true
         → IsTextOf r h body.now answer.now text.new }
     ensures none { (r : RspSetup) (h : History) → IsAnswerer answerer.old r h
         → messages_of h < 2 ^ 64 - 1 → result ≡ false
-        → (length (drop 1 answer.now) < 26) ⊎ (will_take r h body.now ≡ false) }
+        → (length (drop 1 answer.now) < MIN_RECORD_SIZE) ⊎ (will_take r h body.now ≡ false) }
     ensures same { answerer.new.connection ≡ answerer.old.connection }
 {
     let sealed = behind_type(answer);
-    if sealed.len() < LEAST_RECORD {
+    if sealed.len() < MIN_RECORD_SIZE {
         return false;
     }
     match answerer.coming_key(body) {

@@ -13,6 +13,8 @@ ghost use Rattle.mctp_framing.specs.Gathering.Gathered.{Whole};
 ghost use Rattle.requester_machine.specs.Setup.{ReqSetup};
 ghost use Rattle.capture_machine.specs.SessionTable.{Row};
 ghost use Rattle.world_machine.specs.Setup.{Configuration};
+ghost use Rattle.spdm_grammar.specs.declared.names.TheConstants.{MAX_BODY_SIZE};
+ghost use Rattle.spdm_grammar.specs.declared.names.message_type.TheConstants.{SPDM};
 
 use crate::Upon;
 use crate::session_fetch::in_session::InSession;
@@ -34,13 +36,13 @@ pub(crate) fn replies_version(
     round: &Round,
     answer: &[u8],
 ) -> Result<Result<Upon, Why>, OutOfMemory>
-    requires { length answer.now ≤ 4161 }
+    requires { length answer.now ≤ MAX_BODY_SIZE }
     ensures told { (w : Configuration) (q : ReqSetup) (older : List (List ℕ)) (rows : List Row)
         (f : Fetching) (route : RouteFields) → IsFetchingOf w q older f
         → length older < 2 ^ 64 - 2 → w.responder.beat < 256 → round.now ≡ f.kept.round
         → IsSetUp setup.now (responder_for w f.kept)
         → answered_why f.kept.round (Whole route answer.now) ≡ None
-        → (slice_index (body_in round.now) 0 == 5) ≡ true
+        → (slice_index (body_in round.now) 0 == SPDM) ≡ true
         → IsFetchedIn party.old fetched.now w q f rows
         → StandsForRows table.old w (length older) rows
         → IfOk result (λ told. IsRepliedTo w q older rows f route answer.now told party.new

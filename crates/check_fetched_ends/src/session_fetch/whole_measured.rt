@@ -9,7 +9,7 @@ use responder_core::Setup;
 use responder_rules::write_measurements;
 use session_keys::same_bytes;
 use spdm_basis::Frame;
-use spdm_grammar::names::MAX_OPAQUE_LEN;
+use spdm_grammar::names::{MAX_MESSAGE_SIZE, MAX_OPAQUE_LEN};
 
 // The bytes of MEASUREMENTS before the blocks.
 const BEFORE_BLOCKS: usize = 8;
@@ -18,8 +18,6 @@ const BEFORE_BLOCKS: usize = 8;
 const NONCE_BYTES: usize = 32;
 
 const OPAQUE_SIZE_BYTES: usize = 2;
-
-const MOST_BYTES: u32 = 4096;
 
 /// Whether these bytes are MEASUREMENTS for an operation: the nonce and the opaque data are read off them, and the rest
 /// is compared.
@@ -43,5 +41,5 @@ pub(crate) fn is_measured(setup: &Setup<'_>, op: u8, whole: &[u8]) -> bool
     }
     let mut right = Frame::new();
     let size = write_measurements(setup.inventory, op, nonce, opaque, &mut right);
-    size <= MOST_BYTES && same_bytes(right.as_slice(), whole)
+    size <= MAX_MESSAGE_SIZE && same_bytes(right.as_slice(), whole)
 }

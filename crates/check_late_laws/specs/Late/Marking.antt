@@ -7,14 +7,15 @@ use Rattle.responder_machine.specs.History.{History}
 use Rattle.responder_machine.specs.History.Entry.{Clear}
 use Rattle.responder_machine.specs.Turn.{Turn}
 use Rattle.spdm_machine.specs.Keys.{Draw}
+use Rattle.spdm_grammar.specs.declared.names.TheConstants.{MAX_SESSIONS}
 
 -- The mark of a RspSessionID; none where it is 0 or above 4.
 abbrev pub mark_of : Marks → ℕ → Bool
-mark_of seen id = if id == 0 || nat_lt 4 id then false else slice_index_or seen.set (id - 1) false
+mark_of seen id = if id == 0 || nat_lt MAX_SESSIONS id then false else slice_index_or seen.set (id - 1) false
 
 -- Each id from 1 to 4 has its mark where its session was touched.
 abbrev pub StandsFor : Marks → History → Type 0
-StandsFor seen h = (id : ℕ) → 1 ≤ id → id ≤ 4 → mark_of seen id ≡ touched id h
+StandsFor seen h = (id : ℕ) → 1 ≤ id → id ≤ MAX_SESSIONS → mark_of seen id ≡ touched id h
 
 -- A message in the clear that was refused leaves them.
 abbrev pub RefusedLeavesMarks : Type 0

@@ -1,8 +1,12 @@
+ghost use Rattle.spdm_grammar.specs.declared.names.TheConstants.{MAX_SESSIONS};
+
+use spdm_grammar::names::{MAX_SESSIONS, SESSION_PLACES};
+
 /// A mark for each RspSessionID from 1 to 4: since the newest request in the clear that was taken, a record came for
 /// its session, or it was dropped.
 #[derive(Drop)]
 pub struct Marks {
-    set: [bool; 4],
+    set: [bool; SESSION_PLACES],
 }
 
 impl Marks {
@@ -33,10 +37,10 @@ impl Marks {
 
     // The session with this RspSessionID was touched.
     fn mark(&mut self, id: u16)
-        ensures own { 1 ≤ id → id ≤ 4 → mark_of self.new id ≡ true }
+        ensures own { 1 ≤ id → id ≤ MAX_SESSIONS → mark_of self.new id ≡ true }
         ensures others { (i : ℕ) → i ≢ id → mark_of self.new i ≡ mark_of self.old i }
     {
-        if id >= 1 && id <= 4 {
+        if id >= 1 && id <= MAX_SESSIONS {
             self.set[usize::from(id) - 1] = true;
         }
     }
@@ -63,7 +67,7 @@ impl Marks {
     fn marked(&self, id: u16) -> bool
         ensures { result ≡ mark_of self.now id }
     {
-        if id == 0 || id > 4 {
+        if id == 0 || id > MAX_SESSIONS {
             return false;
         }
         self.set[usize::from(id) - 1]
@@ -71,7 +75,7 @@ impl Marks {
 
     /// Whether the session with this RspSessionID from 1 to 4 was touched.
     pub fn is_touched(&self, id: u16) -> bool
-        ensures { (h : History) → StandsFor self.now h → 1 ≤ id → id ≤ 4 → result ≡ touched id h }
+        ensures { (h : History) → StandsFor self.now h → 1 ≤ id → id ≤ MAX_SESSIONS → result ≡ touched id h }
     {
         self.marked(id)
     }

@@ -1,16 +1,19 @@
 ghost use Rattle.std.specs.Prelude.{◌≡◌, ◌≤◌, ◌+◌, not, if◌then◌else◌};
 ghost use Rattle.spdm_machine.specs.Sessions as sessions;
+ghost use Rattle.spdm_grammar.specs.declared.names.TheConstants.{MAX_PADDING, MAX_SESSIONS};
+ghost use Rattle.secured_record.specs.declared.TheConstants.{MAX_RECORD_SIZE};
 
 use crate::{SessionLed, Slot, Talk};
 use psk_session::{Ask, OpenFault, Opening, SessionTerms};
 use spdm_basis::{Psk, RecordFault};
+use spdm_grammar::names::{MAX_SESSIONS, SESSION_PLACES};
 use spdm_grammar::{CommandFault, ReqIgnored, SessionView};
 
 /// The sessions of a requester: a slot for each ReqSessionID from 1 to 4, and the ReqSessionID of the session that the
 /// outstanding message begins or belongs to. Fixed size; never allocates.
 #[derive(Drop)]
 pub struct Sessions {
-    pub(crate) slots: [Slot; 4],
+    pub(crate) slots: [Slot; SESSION_PLACES],
     pub(crate) id: u16,
 }
 
@@ -105,7 +108,7 @@ impl Sessions {
         ensures { (q : ReqSetup) (h : History) → StandsFor self.now q h
             → result ≡ is_live (session_of id h) }
     {
-        if id == 0 || id > 4 {
+        if id == 0 || id > MAX_SESSIONS {
             return false;
         }
         self.slots[usize::from(id) - 1].is_live()
@@ -145,14 +148,14 @@ impl Sessions {
     // Sends a request in the session with this ReqSessionID, in a record with this padding of at most 16 bytes, while
     // nothing is outstanding and the phase is Negotiated.
     fn ask_at(&mut self, id: u16, ask: Ask<'_>, pad: &[u8]) -> Result<(), CommandFault>
-        requires pad { length pad.now ≤ 16 }
+        requires pad { length pad.now ≤ MAX_PADDING }
         ensures own { (psk : List ℕ) (s : Steps) → IsSlotOf (slot_of self.old id) psk s
             → FitsWaits Rests s → response_epoch s < 2 ^ 64 - 1
             → IsAskedOf psk s ask.entry pad.now (slot_of self.new id) result }
         ensures others { (i : ℕ) → i ≢ id → slot_of self.new i ≡ slot_of self.old i }
         ensures id { self.new.id ≡ self.old.id }
     {
-        if id == 0 || id > 4 {
+        if id == 0 || id > MAX_SESSIONS {
             return Err(CommandFault::NoSuchSession);
         }
         self.slots[usize::from(id) - 1].ask(ask, pad)
@@ -161,7 +164,7 @@ impl Sessions {
     /// Sends a request in the session with this ReqSessionID, in a record with this padding of at most 16 bytes, while
     /// nothing is outstanding and the phase is Negotiated.
     pub fn ask(&mut self, id: u16, ask: Ask<'_>, pad: &[u8]) -> Result<(), CommandFault>
-        requires pad { length pad.now ≤ 16 }
+        requires pad { length pad.now ≤ MAX_PADDING }
         ensures { (q : ReqSetup) (h : History) (f : Free) (d : Draw) → f.pad ≡ pad.now
             → length h < 2 ^ 64 - 1 → outstanding h ≡ None → is_negotiated (phase_of h) ≡ true
             → StandsFor self.old q h
@@ -178,7 +181,7 @@ impl Sessions {
 
     // A record for the session with this ReqSessionID.
     fn step(&mut self, id: u16, sealed: &[u8], pad: &[u8]) -> SessionLed
-        requires pad { length pad.now ≤ 16 }
+        requires pad { length pad.now ≤ MAX_PADDING }
         ensures own { (psk : List ℕ) (s : Steps) (a : message.Ask)
             → IsSlotOf (slot_of self.old id) psk s → waiting_ask s ≡ Some a
             → request_epoch s < 2 ^ 64 - 1 → taken_of s < 2 ^ 64
@@ -186,7 +189,7 @@ impl Sessions {
         ensures others { (i : ℕ) → i ≢ id → slot_of self.new i ≡ slot_of self.old i }
         ensures id { self.new.id ≡ self.old.id }
     {
-        if id == 0 || id > 4 {
+        if id == 0 || id > MAX_SESSIONS {
             return SessionLed::Ignored(RecordFault::KeySpent);
         }
         self.slots[usize::from(id) - 1].take(sealed, pad)
@@ -195,7 +198,7 @@ impl Sessions {
     /// Handles a record while one of a session is outstanding. A further record that is sent has this padding, of at
     /// most 16 bytes.
     pub fn on_record(&mut self, sealed: &[u8], pad: &[u8]) -> SessionLed
-        requires pad { length pad.now ≤ 16 }
+        requires pad { length pad.now ≤ MAX_PADDING }
         ensures { (q : ReqSetup) (h : History) (f : Free) (tag : ℕ) (d : Draw) (sent : Sent)
             (id : ℕ) (ask : message.Ask) → HasSizes q → f.pad ≡ pad.now
             → length h < 2 ^ 64 - 1 → outstanding h ≡ Some sent → sent.aim ≡ InSession id ask
@@ -211,7 +214,7 @@ impl Sessions {
         ensures bytes { (q : ReqSetup) (h : History) (sent : Sent) (id : ℕ) (ask : message.Ask)
             → outstanding h ≡ Some sent → sent.aim ≡ InSession id ask → StandsFor self.now q h
             → IsRecordOf result.now sent.content }
-        ensures fits { length result.now ≤ 4160 }
+        ensures fits { length result.now ≤ MAX_RECORD_SIZE }
     {
         self.record_at(self.id)
     }
@@ -222,9 +225,9 @@ impl Sessions {
         ensures newest { (psk : List ℕ) (s : Steps) (a : message.Ask)
             → IsSlotOf (slot_of self.now id) psk s → waiting_ask s ≡ Some a
             → IsNewest a result.now s }
-        ensures fits { length result.now ≤ 4160 }
+        ensures fits { length result.now ≤ MAX_RECORD_SIZE }
     {
-        if id == 0 || id > 4 {
+        if id == 0 || id > MAX_SESSIONS {
             return &[];
         }
         self.slots[usize::from(id) - 1].record()
@@ -244,7 +247,7 @@ impl Sessions {
         ensures { (q : ReqSetup) (h : History) → StandsFor self.now q h
             → waiting_ask (session_of id h) ≡ None → result.now ≡ data_of (session_of id h) }
     {
-        if id == 0 || id > 4 {
+        if id == 0 || id > MAX_SESSIONS {
             return &[];
         }
         self.slots[usize::from(id) - 1].data()
@@ -263,7 +266,7 @@ impl Sessions {
         ensures { (psk : List ℕ) (w : Waits) (s : Steps) → IsSlotOf (slot_of self.now id) psk s
             → IsOrdered s → FitsWaits w s → taken_of s < 2 ^ 64 → result ≡ shown_of s }
     {
-        if id == 0 || id > 4 {
+        if id == 0 || id > MAX_SESSIONS {
             return None;
         }
         self.slots[usize::from(id) - 1].view()
@@ -272,7 +275,7 @@ impl Sessions {
     // Puts a session into the slot with this ReqSessionID.
     fn put(&mut self, id: u16, slot: Slot)
         requires least { 1 ≤ id }
-        requires most { id ≤ 4 }
+        requires most { id ≤ MAX_SESSIONS }
         ensures own { slot_of self.new id ≡ slot }
         ensures others { (i : ℕ) → i ≢ id → slot_of self.new i ≡ slot_of self.old i }
         ensures id { self.new.id ≡ id }
@@ -285,7 +288,7 @@ impl Sessions {
     /// measurement summary: its session begins, under this pre-shared key.
     pub fn open(&mut self, talk: &Talk, psk: &Psk, id: u16, summary: u8)
         requires least { 1 ≤ id }
-        requires most { id ≤ 4 }
+        requires most { id ≤ MAX_SESSIONS }
         ensures { (q : ReqSetup) (h : History) (f : Free) (d : Draw) (sent : Sent)
             → q.psk ≡ psk.now → f.id ≡ id
             → asks false q h (Open summary) f d ≡ Adds (Told (Open summary) sent d)
@@ -304,14 +307,14 @@ impl Sessions {
 
     // The answer to the PSK_EXCHANGE with this ReqSessionID.
     fn accept_at(&mut self, id: u16, answer: &[u8], pad: &[u8]) -> Result<(), OpenFault>
-        requires pad { length pad.now ≤ 16 }
+        requires pad { length pad.now ≤ MAX_PADDING }
         ensures own { (psk : List ℕ) (n : Negotiation) (exchange : List ℕ)
             → IsSlotOf (slot_of self.old id) psk (started n exchange)
             → IsAcceptedBy psk n exchange answer.now pad.now (slot_of self.new id) result }
         ensures others { (i : ℕ) → i ≢ id → slot_of self.new i ≡ slot_of self.old i }
         ensures id { self.new.id ≡ self.old.id }
     {
-        if id == 0 || id > 4 {
+        if id == 0 || id > MAX_SESSIONS {
             return Err(OpenFault::Malformed(1));
         }
         self.slots[usize::from(id) - 1].accept(answer, pad)
@@ -320,7 +323,7 @@ impl Sessions {
     /// Handles the awaited PSK_EXCHANGE_RSP. If its verify data are right, PSK_FINISH is sent, in a record with this
     /// padding of at most 16 bytes.
     pub fn begin(&mut self, answer: &[u8], pad: &[u8]) -> Result<(), ReqIgnored>
-        requires pad { length pad.now ≤ 16 }
+        requires pad { length pad.now ≤ MAX_PADDING }
         ensures { (q : ReqSetup) (h : History) (f : Free) (tag : ℕ) (d : Draw) (sent : Sent)
             (m : List ℕ) (exchange : ExchangeMessage) → f.pad ≡ pad.now
             → BringsExchange q h sent m answer.now exchange → StandsFor self.old q h
@@ -339,7 +342,7 @@ impl Sessions {
         ensures others { (i : ℕ) → i ≢ id → slot_of self.new i ≡ slot_of self.old i }
         ensures id { self.new.id ≡ self.old.id }
     {
-        if id >= 1 && id <= 4 {
+        if id >= 1 && id <= MAX_SESSIONS {
             self.slots[usize::from(id) - 1] = Slot::Empty;
         }
     }

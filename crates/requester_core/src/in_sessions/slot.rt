@@ -9,6 +9,8 @@ ghost use Rattle.psk_session.specs.ReqSession.{IsAwaiting};
 ghost use Rattle.requester_machine.specs.Message as message;
 ghost use Rattle.requester_machine.specs.Message.Ask.{AskFinish};
 ghost use Rattle.requester_machine.specs.Session.{Steps, request_epoch, response_epoch, taken_of};
+ghost use Rattle.spdm_grammar.specs.declared.names.TheConstants.{MAX_PADDING};
+ghost use Rattle.secured_record.specs.declared.TheConstants.{MAX_RECORD_SIZE};
 
 use crate::SessionLed;
 use psk_session::{
@@ -70,7 +72,7 @@ fn fault_as(fault: AskFault) -> CommandFault
 
 // A record for a session that awaits one.
 fn step(session: &mut ReqSession, sealed: &[u8], pad: &[u8]) -> SessionLed
-    requires { length pad.now ≤ 16 }
+    requires { length pad.now ≤ MAX_PADDING }
     ensures { (psk : List ℕ) (s : Steps) (a : message.Ask) → IsAwaiting session.old psk s a
         → request_epoch s < 2 ^ 64 - 1 → taken_of s < 2 ^ 64
         → IsStepped psk s a sealed.now pad.now (settled result (slot.Live session.new)) result }
@@ -121,7 +123,7 @@ impl Slot {
 
     /// Handles the response to PSK_EXCHANGE; PSK_FINISH has this padding.
     pub(crate) fn accept(&mut self, answer: &[u8], pad: &[u8]) -> Result<(), OpenFault>
-        requires { length pad.now ≤ 16 }
+        requires { length pad.now ≤ MAX_PADDING }
         ensures { (psk : List ℕ) (n : Negotiation) (exchange : List ℕ)
             → IsSlotOf self.old psk (started n exchange)
             → IsAcceptedBy psk n exchange answer.now pad.now self.new result }
@@ -146,7 +148,7 @@ impl Slot {
 
     /// Sends a request in the session.
     pub(crate) fn ask(&mut self, ask: Ask<'_>, pad: &[u8]) -> Result<(), CommandFault>
-        requires { length pad.now ≤ 16 }
+        requires { length pad.now ≤ MAX_PADDING }
         ensures { (psk : List ℕ) (s : Steps) → IsSlotOf self.old psk s → FitsWaits Rests s
             → response_epoch s < 2 ^ 64 - 1
             → IsAskedOf psk s ask.entry pad.now self.new result }
@@ -160,7 +162,7 @@ impl Slot {
 
     // A record for the session.
     pub(crate) fn take(&mut self, sealed: &[u8], pad: &[u8]) -> SessionLed
-        requires { length pad.now ≤ 16 }
+        requires { length pad.now ≤ MAX_PADDING }
         ensures { (psk : List ℕ) (s : Steps) (a : message.Ask) → IsSlotOf self.old psk s
             → waiting_ask s ≡ Some a → request_epoch s < 2 ^ 64 - 1 → taken_of s < 2 ^ 64
             → IsStepped psk s a sealed.now pad.now self.new result }
@@ -181,7 +183,7 @@ impl Slot {
 
     // A record for the session, which stays in its slot.
     fn answer(&mut self, sealed: &[u8], pad: &[u8]) -> SessionLed
-        requires { length pad.now ≤ 16 }
+        requires { length pad.now ≤ MAX_PADDING }
         ensures { (psk : List ℕ) (s : Steps) (a : message.Ask) → IsSlotOf self.old psk s
             → waiting_ask s ≡ Some a → request_epoch s < 2 ^ 64 - 1 → taken_of s < 2 ^ 64
             → IsStepped psk s a sealed.now pad.now (settled result self.new) result }
@@ -217,7 +219,7 @@ impl Slot {
     pub fn record(&self) -> &[u8]
         ensures newest { (psk : List ℕ) (s : Steps) (a : message.Ask) → IsSlotOf self.now psk s
             → waiting_ask s ≡ Some a → IsNewest a result.now s }
-        ensures fits { length result.now ≤ 4160 }
+        ensures fits { length result.now ≤ MAX_RECORD_SIZE }
     {
         match self {
             Slot::Empty | Slot::Opening(_) => &[],
@@ -252,7 +254,7 @@ impl Slot {
 
 // Asks something of a session that is open.
 fn ask_of(session: &mut ReqSession, ask: Ask<'_>, pad: &[u8]) -> Result<(), CommandFault>
-    requires { length pad.now ≤ 16 }
+    requires { length pad.now ≤ MAX_PADDING }
     ensures { (psk : List ℕ) (s : Steps) → IsResting session.old psk s
         → response_epoch s < 2 ^ 64 - 1
         → IsAskedOf psk s ask.entry pad.now (slot.Live session.new) result }

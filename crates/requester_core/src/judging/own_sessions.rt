@@ -4,6 +4,7 @@ use crate::Sessions;
 use psk_session::InnerPair;
 use session_keys::same_bytes;
 use spdm_basis::{RecordFault, RecordFrame};
+use spdm_grammar::names::MAX_SESSIONS;
 
 // The first four bytes, or all where there are fewer.
 fn id_in_front(sealed: &[u8]) -> &[u8]
@@ -66,7 +67,7 @@ impl Sessions {
             → is_accepted s ≡ true → request_next s ≤ 65535
             → IsOwnOpened psk s sealed.now result out.new }
     {
-        if id == 0 || id > 4 {
+        if id == 0 || id > MAX_SESSIONS {
             return Err(RecordFault::KeySpent);
         }
         self.slots[usize::from(id) - 1].open_next(sealed, out)
@@ -78,7 +79,7 @@ impl Sessions {
             → IsSlotOf (slot_of self.now id) psk (with_asked psk s a inner pad)
             → IsOwnOpened psk s sealed.now result out.new }
     {
-        if id == 0 || id > 4 {
+        if id == 0 || id > MAX_SESSIONS {
             return Err(RecordFault::KeySpent);
         }
         self.slots[usize::from(id) - 1].open_last(sealed, out)
@@ -138,7 +139,7 @@ impl Sessions {
         ensures id { self.new.id ≡ self.old.id }
         ensures unchanged { result ≡ false → self.new ≡ self.old }
     {
-        if id == 0 || id > 4 {
+        if id == 0 || id > MAX_SESSIONS {
             return false;
         }
         self.slots[usize::from(id) - 1].take_padded(sealed, pair)

@@ -23,6 +23,7 @@ use crate::clear::contents::{
 use crate::{FreeValues, Refused, Setup, Standing};
 use responder_rules::{LargeAnswer, Place, Where};
 use spdm_basis::Frame;
+use spdm_grammar::names::MAX_SESSIONS;
 use spdm_grammar::names::request_code::PSK_EXCHANGE;
 use spdm_grammar::{ErrorCode, Request};
 
@@ -58,7 +59,7 @@ fn answer_fault(place: &Place, code: u8, len: usize, held: u8) -> Option<ErrorCo
     if place.is_too_long(len) {
         return Some(ErrorCode::ResponseTooLarge);
     }
-    if code == PSK_EXCHANGE && held == 4 {
+    if code == PSK_EXCHANGE && held == MAX_SESSIONS {
         return Some(ErrorCode::SessionLimitExceeded);
     }
     None

@@ -1,5 +1,6 @@
 ghost use Rattle.std.specs.Prelude.{◌≡◌, ◌≤◌, None, Some, length};
 ghost use Rattle.responder_machine.specs.Responder as responder;
+ghost use Rattle.secured_record.specs.declared.TheConstants.{MAX_RECORD_SIZE};
 
 use crate::in_sessions::records::replace_record;
 use session_keys::same_bytes;
@@ -64,7 +65,7 @@ impl EndedRecord {
     /// The stored reply; empty where none is kept.
     pub fn reply(&self) -> &[u8]
         ensures value { result.now ≡ responder.kept_record self.now }
-        ensures fits { length result.now ≤ 4160 }
+        ensures fits { length result.now ≤ MAX_RECORD_SIZE }
     {
         if self.is_there {
             self.reply.as_slice()
@@ -75,7 +76,7 @@ impl EndedRecord {
 
     /// Keeps a record with its reply, in place of the one before. Each has at most 4,160 bytes.
     pub fn keep(&mut self, sealed: &[u8], reply: &[u8])
-        ensures { length sealed.now ≤ 4160 → length reply.now ≤ 4160
+        ensures { length sealed.now ≤ MAX_RECORD_SIZE → length reply.now ≤ MAX_RECORD_SIZE
             → self.new ≡ Some (record { sealed = sealed.now; reply = reply.now }) }
     {
         self.is_there = true;

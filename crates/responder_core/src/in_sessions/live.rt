@@ -1,4 +1,5 @@
 ghost use Rattle.std.specs.Prelude.{◌≡◌, ◌≤◌, slice_index, length};
+ghost use Rattle.spdm_grammar.specs.declared.names.TheConstants.{MAX_APP_DATA_LEN, MAX_OPAQUE_LEN, MAX_PADDING};
 
 use crate::in_sessions::records::replace_record;
 use measurements::Inventory;
@@ -83,9 +84,9 @@ impl Live {
         out: &mut RecordFrame,
     ) -> RspTold
         requires nonce { length free.now.nonce.now ≡ 32 }
-        requires opaque { length free.now.opaque.now ≤ 1024 }
-        requires reply { length free.now.reply.now ≤ 1024 }
-        requires pad { length free.now.pad.now ≤ 16 }
+        requires opaque { length free.now.opaque.now ≤ MAX_OPAQUE_LEN }
+        requires reply { length free.now.reply.now ≤ MAX_APP_DATA_LEN }
+        requires pad { length free.now.pad.now ≤ MAX_PADDING }
         ensures { (r : RspSetup) (s : Events) (f : Free) → AreFree free.now f → HasEpochs s
             → inventory_of r ≡ inventory.now → StandsFor self.old r s
             → IsTaken r s f sealed.now self.new result out.new }

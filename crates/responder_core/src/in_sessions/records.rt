@@ -3,6 +3,7 @@ ghost use Rattle.responder_machine.specs.Handling.{version_in};
 ghost use Rattle.responder_machine.specs.Heard.{record_id};
 ghost use Rattle.responder_machine.specs.Responder.{decrypt_error};
 ghost use Rattle.spdm_machine.specs.Bodies.{clear_body};
+ghost use Rattle.secured_record.specs.declared.TheConstants.{MAX_RECORD_SIZE};
 
 use byteorder::{ByteOrder, LittleEndian};
 use session_keys::byte_at;
@@ -13,7 +14,7 @@ use spdm_grammar::{ErrorCode, Phase};
 
 /// Overwrites `out` with a record of at most 4,160 bytes.
 pub fn replace_record(out: &mut RecordFrame, sealed: &[u8])
-    ensures { length sealed.now ≤ 4160 → out.new ≡ sealed.now }
+    ensures { length sealed.now ≤ MAX_RECORD_SIZE → out.new ≡ sealed.now }
 {
     let _ = out.replace(sealed);
 }

@@ -2,6 +2,8 @@ ghost use Rattle.std.specs.Prelude.{◌≡◌, ◌≤◌};
 ghost use Rattle.responder_core.specs.Sessions.{tells_version};
 ghost use Rattle.responder_session.specs.Laws.{told_as};
 ghost use Rattle.spdm_machine.specs.Sessions.{one_if};
+ghost use Rattle.spdm_grammar.specs.declared.names.TheConstants.{MAX_APP_DATA_LEN, MAX_OPAQUE_LEN, MAX_PADDING, MAX_SESSIONS};
+ghost use Rattle.secured_record.specs.declared.TheConstants.{MAX_RECORD_SIZE};
 
 use crate::in_sessions::records::{record_id, replace_record, write_decrypt_error};
 use crate::{EndedRecord, Live};
@@ -9,13 +11,14 @@ use measurements::Inventory;
 use responder_session::{RecordFree, RspAct, RspSession, RspTold, Work};
 use spdm_basis::{RecordFrame, SessionId};
 use spdm_grammar::names::request_code::GET_VERSION;
+use spdm_grammar::names::{MAX_SESSIONS, SESSION_PLACES};
 use spdm_grammar::{Heard, Phase, SessionView};
 
 /// The sessions of a connection: a slot for each RspSessionID from 1 to 4, and the last record of the one ended
 /// session. Fixed size; never allocates.
 #[derive(Drop)]
 pub struct Sessions {
-    pub(crate) slots: [Option<Live>; 4],
+    pub(crate) slots: [Option<Live>; SESSION_PLACES],
     pub(crate) ended: EndedRecord,
 }
 
@@ -94,16 +97,16 @@ impl Sessions {
         out: &mut RecordFrame,
     ) -> Option<RspTold>
         requires nonce { length free.now.nonce.now ≡ 32 }
-        requires opaque { length free.now.opaque.now ≤ 1024 }
-        requires reply { length free.now.reply.now ≤ 1024 }
-        requires pad { length free.now.pad.now ≤ 16 }
+        requires opaque { length free.now.opaque.now ≤ MAX_OPAQUE_LEN }
+        requires reply { length free.now.reply.now ≤ MAX_APP_DATA_LEN }
+        requires pad { length free.now.pad.now ≤ MAX_PADDING }
         ensures taken { (r : RspSetup) (s : Events) (f : Free) → AreFree free.now f → HasEpochs s
             → inventory_of r ≡ inventory.now → IsSlotOf (slot_of self.old id) r s
             → IsTakenIn r s f sealed.now (slot_of self.new id) result out.new }
         ensures others { (i : ℕ) → i ≢ id → slot_of self.new i ≡ slot_of self.old i }
         ensures ended { self.new.ended ≡ self.old.ended }
     {
-        if id == 0 || id > 4 {
+        if id == 0 || id > MAX_SESSIONS {
             return None;
         }
         match &mut self.slots[usize::from(id) - 1] {
@@ -115,16 +118,16 @@ impl Sessions {
     // Where END_SESSION ended the session with this RspSessionID, its last record and reply are kept apart, and its
     // slot is empty.
     fn settle(&mut self, id: u16, sealed: &[u8], reply: &[u8])
-        requires reply { length reply.now ≤ 4160 }
+        requires reply { length reply.now ≤ MAX_RECORD_SIZE }
         ensures live { (r : RspSetup) (s : Events) → IsSlotOf (slot_of self.old id) r s
             → self.new ≡ self.old }
         ensures gone { (kept : Live) (bytes : List ℕ) → slot_of self.old id ≡ Some kept
-            → IsEnded kept.session bytes sealed.now reply.now → length sealed.now ≤ 4160
+            → IsEnded kept.session bytes sealed.now reply.now → length sealed.now ≤ MAX_RECORD_SIZE
             → (slot_of self.new id ≡ None)
             × (self.new.ended ≡ Some (record { sealed = sealed.now; reply = reply.now })) }
         ensures others { (i : ℕ) → i ≢ id → slot_of self.new i ≡ slot_of self.old i }
     {
-        if id == 0 || id > 4 {
+        if id == 0 || id > MAX_SESSIONS {
             return;
         }
         let index = usize::from(id) - 1;
@@ -172,9 +175,9 @@ impl Sessions {
         out: &mut RecordFrame,
     ) -> Heard
         requires nonce { length free.now.nonce.now ≡ 32 }
-        requires opaque { length free.now.opaque.now ≤ 1024 }
-        requires reply { length free.now.reply.now ≤ 1024 }
-        requires pad { length free.now.pad.now ≤ 16 }
+        requires opaque { length free.now.opaque.now ≤ MAX_OPAQUE_LEN }
+        requires reply { length free.now.reply.now ≤ MAX_APP_DATA_LEN }
+        requires pad { length free.now.pad.now ≤ MAX_PADDING }
         ensures { (r : RspSetup) (h : History) (tag : ℕ) (f : Free) (d : Draw)
             → AreFree free.now f → messages_of h < 2 ^ 64 - 1 → inventory_of r ≡ inventory.now
             → phase ≡ phase_of (clear_turns h) → StandsFor self.old r h
@@ -201,7 +204,7 @@ impl Sessions {
         ensures others { (i : ℕ) → i ≢ id → slot_of self.new i ≡ slot_of self.old i }
         ensures ended { self.new.ended ≡ self.old.ended }
     {
-        if id == 0 || id > 4 {
+        if id == 0 || id > MAX_SESSIONS {
             return;
         }
         let index = usize::from(id) - 1;
@@ -240,7 +243,7 @@ impl Sessions {
         ensures others { (i : ℕ) → i ≢ id → slot_of self.new i ≡ slot_of self.old i }
         ensures ended { self.new.ended ≡ self.old.ended }
     {
-        if id >= 1 && id <= 4 {
+        if id >= 1 && id <= MAX_SESSIONS {
             self.slots[usize::from(id) - 1] = None;
         }
     }
@@ -252,7 +255,7 @@ impl Sessions {
         ensures others { (i : ℕ) → i ≢ id → slot_of self.new i ≡ slot_of self.old i }
         ensures ended { self.new.ended ≡ self.old.ended }
     {
-        if id == 0 || id > 4 {
+        if id == 0 || id > MAX_SESSIONS {
             return;
         }
         let index = usize::from(id) - 1;
@@ -269,7 +272,7 @@ impl Sessions {
     /// PSK_EXCHANGE_RSP. Removes the session that is in its handshake, and the last record of an ended session.
     pub fn begin(&mut self, id: u16, session: RspSession, answer: &[u8])
         requires least { 1 ≤ id }
-        requires most { id ≤ 4 }
+        requires most { id ≤ MAX_SESSIONS }
         ensures { (r : RspSetup) (h : History) (tag : ℕ) (t : Turn) (d : Draw)
             → IsBeginningAt r h t id session answer.now → StandsFor self.old r h
             → StandsFor self.new r (Clear tag t d ∷ h) }
@@ -324,7 +327,7 @@ impl Sessions {
         ensures { MatchOption result (slot_of self.now id ≡ None)
             (λ live. slot_of self.now id ≡ Some live.now) }
     {
-        if id == 0 || id > 4 {
+        if id == 0 || id > MAX_SESSIONS {
             return None;
         }
         self.slots[usize::from(id) - 1].as_ref()
@@ -398,7 +401,7 @@ impl Sessions {
     // Puts a session into the slot with this RspSessionID.
     fn put(&mut self, id: u16, live: Live)
         requires least { 1 ≤ id }
-        requires most { id ≤ 4 }
+        requires most { id ≤ MAX_SESSIONS }
         ensures own { slot_of self.new id ≡ Some live }
         ensures others { (i : ℕ) → i ≢ id → slot_of self.new i ≡ slot_of self.old i }
         ensures ended { self.new.ended ≡ self.old.ended }

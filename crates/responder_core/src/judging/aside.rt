@@ -1,4 +1,5 @@
 use crate::{Connection, Live, Sessions};
+use spdm_grammar::names::MAX_SESSIONS;
 
 impl Sessions {
     ghost use Rattle.std.specs.Prelude.{◌≡◌, ◌≢◌, ℕ, None};
@@ -11,7 +12,7 @@ impl Sessions {
         ensures others { (i : ℕ) → i ≢ id → slot_of self.new i ≡ slot_of self.old i }
         ensures ended { self.new.ended ≡ self.old.ended }
     {
-        if id == 0 || id > 4 {
+        if id == 0 || id > MAX_SESSIONS {
             return None;
         }
         self.slots[usize::from(id) - 1].take()
@@ -24,7 +25,7 @@ impl Sessions {
         ensures others { (i : ℕ) → i ≢ id → slot_of self.new i ≡ slot_of self.old i }
         ensures ended { self.new.ended ≡ self.old.ended }
     {
-        if id == 0 || id > 4 {
+        if id == 0 || id > MAX_SESSIONS {
             return;
         }
         self.slots[usize::from(id) - 1] = session;

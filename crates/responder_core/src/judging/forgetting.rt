@@ -1,4 +1,5 @@
 use crate::{ClearPart, Connection, Live, Requests, Sessions, Standing};
+use spdm_grammar::names::MAX_SESSIONS;
 
 // The clear part without the MEASUREMENTS that were to go by LargeResponse in answer to what was taken last: they were
 // never seen.
@@ -103,7 +104,7 @@ impl Sessions {
         ensures others { (i : ℕ) → i ≢ id → slot_of self.new i ≡ slot_of self.old i }
         ensures ended { self.new.ended ≡ self.old.ended }
     {
-        if id == 0 || id > 4 {
+        if id == 0 || id > MAX_SESSIONS {
             return;
         }
         if let Some(live) = &mut self.slots[usize::from(id) - 1] {
@@ -127,7 +128,7 @@ impl Sessions {
         ensures others { (i : ℕ) → i ≢ id → slot_of self.new i ≡ slot_of self.old i }
         ensures ended { self.new.ended ≡ self.old.ended }
     {
-        if id == 0 || id > 4 {
+        if id == 0 || id > MAX_SESSIONS {
             return;
         }
         if let Some(live) = &mut self.slots[usize::from(id) - 1] {

@@ -1,4 +1,5 @@
 use crate::{Connection, EndedRecord, Live, Sessions};
+use spdm_grammar::names::MAX_SESSIONS;
 
 // A session in which MEASUREMENTS that were never seen are pending again.
 impl Live {
@@ -41,7 +42,7 @@ impl Sessions {
         ensures others { (i : ℕ) → i ≢ id → slot_of self.new i ≡ slot_of self.old i }
         ensures ended { self.new.ended ≡ self.old.ended }
     {
-        if id == 0 || id > 4 {
+        if id == 0 || id > MAX_SESSIONS {
             return;
         }
         if let Some(live) = &mut self.slots[usize::from(id) - 1] {

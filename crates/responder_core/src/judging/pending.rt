@@ -1,4 +1,5 @@
 use crate::{Connection, Live, Sessions};
+use spdm_grammar::names::MAX_SESSIONS;
 
 impl Live {
     ghost use Rattle.std.specs.Prelude.{◌≡◌, ◌≤◌, ◌<◌, ◌+◌, length, true};
@@ -51,7 +52,7 @@ impl Sessions {
         ensures others { (i : ℕ) → i ≢ id → slot_of self.new i ≡ slot_of self.old i }
         ensures ended { self.new.ended ≡ self.old.ended }
     {
-        if id == 0 || id > 4 {
+        if id == 0 || id > MAX_SESSIONS {
             return;
         }
         if let Some(live) = &mut self.slots[usize::from(id) - 1] {

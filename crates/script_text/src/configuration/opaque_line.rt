@@ -6,6 +6,7 @@ use crate::configuration::given::Given;
 use crate::reading::hex_words::{bytes_of, hex_len};
 use crate::reading::words::{has_words, word};
 use crate::texts::faults::{LineError, LineFault};
+use spdm_grammar::names::MAX_OPAQUE_LEN;
 use std::alloc::Global;
 
 /// Takes the line `opaque H`.
@@ -20,7 +21,7 @@ pub fn take_opaque(alloc: Global, given: &mut Given, line: &[u8]) -> Result<(), 
     if !has_words(2, line) {
         return Err(LineError::Fault(LineFault::Words));
     }
-    if hex_len(0, 1_024, word(1, line)).is_none() {
+    if hex_len(0, MAX_OPAQUE_LEN, word(1, line)).is_none() {
         return Err(LineError::Fault(LineFault::Hex));
     }
     if given.opaque.is_some() {

@@ -14,6 +14,7 @@ use crate::reading::words::{has_words, word};
 use crate::texts::faults::{LineError, LineFault};
 use spdm_basis::{OutOfMemory, Psk};
 use spdm_grammar::FlagSet;
+use spdm_grammar::names::MAX_OPAQUE_LEN;
 use std::alloc::Global;
 
 /// The most requesters of a script.
@@ -40,7 +41,7 @@ pub fn take_requester(alloc: Global, given: &mut Given, line: &[u8]) -> Result<(
     let Some(psk) = psk_of(word(8, line)) else {
         return Err(LineError::Fault(LineFault::Hex));
     };
-    if hex_len(0, 1_024, word(9, line)).is_none() {
+    if hex_len(0, MAX_OPAQUE_LEN, word(9, line)).is_none() {
         return Err(LineError::Fault(LineFault::Hex));
     }
     let Some(flags) = end_flags(numbers.transfer, numbers.max, word(6, line)) else {
