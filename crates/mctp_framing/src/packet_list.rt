@@ -2,7 +2,6 @@ ghost use Rattle.std.specs.Prelude.{◌≡◌, ◌<◌, ◌≤◌, ◌+◌, ◌+
 ghost use Rattle.std.specs.Option.{option_copied};
 ghost use Rattle.mctp_framing.specs.Cutting.{packets_of, route_of};
 ghost use Rattle.mctp_framing.specs.Spans.{span_of, total_len};
-ghost use Rattle.spdm_grammar.specs.declared.names.TheConstants.{MAX_BODY_SIZE};
 
 use crate::{Route, cut};
 use spdm_basis::OutOfMemory;
@@ -104,7 +103,7 @@ impl PacketList {
     /// 4,161 bytes, a secured record with its message type.
     pub fn fill(&mut self, body: &[u8], unit: usize, route: Route)
         requires filled { 0 < length body.now }
-        requires fits { length body.now ≤ MAX_BODY_SIZE }
+        requires fits { length body.now ≤ 4161 }
         requires low { 64 ≤ unit }
         requires high { unit ≤ 1024 }
         ensures { self.new ≡ packets_of (route_of route) unit body.now }

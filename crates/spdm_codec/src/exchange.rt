@@ -36,7 +36,7 @@ pub fn read_psk_exchange<'a>(
     }
     let at = cursor.at();
     let opaque_len = cursor.two()?;
-    if opaque_len > MAX_OPAQUE_LEN {
+    if usize::from(opaque_len) > MAX_OPAQUE_LEN {
         return Err(not_allowed(at));
     }
     let hint = cursor.field(usize::from(hint_len))?;

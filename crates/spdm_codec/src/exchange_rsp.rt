@@ -34,7 +34,7 @@ pub fn read_psk_exchange_rsp<'a>(
     }
     let at = cursor.at();
     let opaque_len = cursor.two()?;
-    if opaque_len > MAX_OPAQUE_LEN {
+    if usize::from(opaque_len) > MAX_OPAQUE_LEN {
         return Err(not_allowed(at));
     }
     let summary = cursor.field(summary_len(hash_len, has_summary))?;

@@ -44,7 +44,7 @@ pub fn read_measurements<'a>(cursor: &mut Cursor<'a>) -> Result<Response<'a>, Ma
     let nonce = cursor.field(32)?;
     let at = cursor.at();
     let opaque_len = cursor.two()?;
-    if opaque_len > MAX_OPAQUE_LEN {
+    if usize::from(opaque_len) > MAX_OPAQUE_LEN {
         return Err(not_allowed(at));
     }
     let opaque = cursor.field(usize::from(opaque_len))?;
