@@ -1,5 +1,3 @@
-ghost use Rattle.spdm_grammar.specs.declared.names.TheConstants.{MAX_RECORDS};
-
 use spdm_grammar::names::MAX_RECORDS;
 use std::marker::Model;
 
@@ -12,6 +10,7 @@ pub struct NextNumber {
 
 impl Model for NextNumber {
     ghost use Rattle.std.specs.Prelude.{ℕ, ◌≤◌};
+    ghost use Rattle.spdm_grammar.specs.declared.names.TheConstants.{MAX_RECORDS};
 
     ghost Value = { ℕ };
 
@@ -22,6 +21,7 @@ impl Model for NextNumber {
 
 impl NextNumber {
     ghost use Rattle.std.specs.Prelude.{◌≡◌, ◌<◌, ◌≤◌, ◌+◌, ◌==◌, false, MatchOption};
+    ghost use Rattle.spdm_grammar.specs.declared.names.TheConstants.{MAX_RECORDS};
 
     /// The number of the first record.
     pub fn first() -> NextNumber
