@@ -34,7 +34,7 @@ impl Places {
         ensures { result ≡ kept_for self.now.asks id }
     {
         match id {
-            Some(id) if id > 0 && id <= MAX_SESSIONS => self.asks[usize::from(id) - 1],
+            Some(id) if id > 0 && id <= MAX_SESSIONS as u16 => self.asks[usize::from(id) - 1],
             _ => None,
         }
     }

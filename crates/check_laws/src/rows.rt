@@ -53,7 +53,7 @@ impl SessionTable {
         ensures memory { OnErr result (IsSome change.now.begun) }
     {
         let view = match change.begun {
-            Some(id) if id > 0 && id <= MAX_SESSIONS => &change.views[usize::from(id) - 1],
+            Some(id) if id > 0 && id <= MAX_SESSIONS as u16 => &change.views[usize::from(id) - 1],
             _ => return Ok(None),
         };
         let Some(view) = view else {

@@ -104,7 +104,7 @@ pub(crate) fn may_open(asking: &Asking, setup: &AskerSetup, exchange: &Exchange<
         → IsAllowed q h (values_in (exchange_message exchange.now)) → live_count h ≡ MAX_SESSIONS }
 {
     let id = exchange.req_id;
-    if id == 0 || id > MAX_SESSIONS {
+    if id == 0 || id > MAX_SESSIONS as u16 {
         return false;
     }
     if asking.view(id).is_some() {

@@ -152,7 +152,7 @@ impl AnswerKeys {
         ensures { MatchOption result (last_key self.now id ≡ None)
             (λ key. last_key self.now id ≡ Some key.now) }
     {
-        if id == 0 || id > MAX_SESSIONS {
+        if id == 0 || id > MAX_SESSIONS as u16 {
             return None;
         }
         self.last[usize::from(id) - 1].as_ref()
@@ -266,7 +266,7 @@ impl AnswerKeys {
         ensures others { (i : ℕ) → i ≢ id → last_key self.new i ≡ last_key self.old i }
         ensures ended { self.new.ended ≡ self.old.ended }
     {
-        if id >= 1 && id <= MAX_SESSIONS {
+        if id >= 1 && id <= MAX_SESSIONS as u16 {
             self.last[usize::from(id) - 1] = Some(key);
         }
     }

@@ -42,7 +42,7 @@ fn is_id(id: u16) -> bool
     ensures least { result ≡ true → 1 ≤ id }
     ensures most { result ≡ true → id ≤ MAX_SESSIONS }
 {
-    id >= 1 && id <= MAX_SESSIONS
+    id >= 1 && id <= MAX_SESSIONS as u16
 }
 
 // Whether the application data and the padding of a record have no more bytes than are allowed.

@@ -67,7 +67,7 @@ fn begun_by(exchange: bool, whole: &[u8]) -> Option<u16>
 fn is_touched_at(marks: &Marks, id: u16) -> bool
     ensures { (h : History) → StandsFor marks.now h → result ≡ is_touched_at id h }
 {
-    if id == 0 || id > MAX_SESSIONS {
+    if id == 0 || id > MAX_SESSIONS as u16 {
         return false;
     }
     marks.is_touched(id)

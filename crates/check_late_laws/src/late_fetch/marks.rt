@@ -40,7 +40,7 @@ impl Marks {
         ensures own { 1 ≤ id → id ≤ MAX_SESSIONS → mark_of self.new id ≡ true }
         ensures others { (i : ℕ) → i ≢ id → mark_of self.new i ≡ mark_of self.old i }
     {
-        if id >= 1 && id <= MAX_SESSIONS {
+        if id >= 1 && id <= MAX_SESSIONS as u16 {
             self.set[usize::from(id) - 1] = true;
         }
     }
@@ -67,7 +67,7 @@ impl Marks {
     fn marked(&self, id: u16) -> bool
         ensures { result ≡ mark_of self.now id }
     {
-        if id == 0 || id > MAX_SESSIONS {
+        if id == 0 || id > MAX_SESSIONS as u16 {
             return false;
         }
         self.set[usize::from(id) - 1]

@@ -108,7 +108,7 @@ impl Sessions {
         ensures { (q : ReqSetup) (h : History) → StandsFor self.now q h
             → result ≡ is_live (session_of id h) }
     {
-        if id == 0 || id > MAX_SESSIONS {
+        if id == 0 || id > MAX_SESSIONS as u16 {
             return false;
         }
         self.slots[usize::from(id) - 1].is_live()
@@ -155,7 +155,7 @@ impl Sessions {
         ensures others { (i : ℕ) → i ≢ id → slot_of self.new i ≡ slot_of self.old i }
         ensures id { self.new.id ≡ self.old.id }
     {
-        if id == 0 || id > MAX_SESSIONS {
+        if id == 0 || id > MAX_SESSIONS as u16 {
             return Err(CommandFault::NoSuchSession);
         }
         self.slots[usize::from(id) - 1].ask(ask, pad)
@@ -189,7 +189,7 @@ impl Sessions {
         ensures others { (i : ℕ) → i ≢ id → slot_of self.new i ≡ slot_of self.old i }
         ensures id { self.new.id ≡ self.old.id }
     {
-        if id == 0 || id > MAX_SESSIONS {
+        if id == 0 || id > MAX_SESSIONS as u16 {
             return SessionLed::Ignored(RecordFault::KeySpent);
         }
         self.slots[usize::from(id) - 1].take(sealed, pad)
@@ -227,7 +227,7 @@ impl Sessions {
             → IsNewest a result.now s }
         ensures fits { length result.now ≤ MAX_RECORD_SIZE }
     {
-        if id == 0 || id > MAX_SESSIONS {
+        if id == 0 || id > MAX_SESSIONS as u16 {
             return &[];
         }
         self.slots[usize::from(id) - 1].record()
@@ -247,7 +247,7 @@ impl Sessions {
         ensures { (q : ReqSetup) (h : History) → StandsFor self.now q h
             → waiting_ask (session_of id h) ≡ None → result.now ≡ data_of (session_of id h) }
     {
-        if id == 0 || id > MAX_SESSIONS {
+        if id == 0 || id > MAX_SESSIONS as u16 {
             return &[];
         }
         self.slots[usize::from(id) - 1].data()
@@ -266,7 +266,7 @@ impl Sessions {
         ensures { (psk : List ℕ) (w : Waits) (s : Steps) → IsSlotOf (slot_of self.now id) psk s
             → IsOrdered s → FitsWaits w s → taken_of s < 2 ^ 64 → result ≡ shown_of s }
     {
-        if id == 0 || id > MAX_SESSIONS {
+        if id == 0 || id > MAX_SESSIONS as u16 {
             return None;
         }
         self.slots[usize::from(id) - 1].view()
@@ -314,7 +314,7 @@ impl Sessions {
         ensures others { (i : ℕ) → i ≢ id → slot_of self.new i ≡ slot_of self.old i }
         ensures id { self.new.id ≡ self.old.id }
     {
-        if id == 0 || id > MAX_SESSIONS {
+        if id == 0 || id > MAX_SESSIONS as u16 {
             return Err(OpenFault::Malformed(1));
         }
         self.slots[usize::from(id) - 1].accept(answer, pad)
@@ -342,7 +342,7 @@ impl Sessions {
         ensures others { (i : ℕ) → i ≢ id → slot_of self.new i ≡ slot_of self.old i }
         ensures id { self.new.id ≡ self.old.id }
     {
-        if id >= 1 && id <= MAX_SESSIONS {
+        if id >= 1 && id <= MAX_SESSIONS as u16 {
             self.slots[usize::from(id) - 1] = Slot::Empty;
         }
     }

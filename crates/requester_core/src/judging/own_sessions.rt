@@ -67,7 +67,7 @@ impl Sessions {
             → is_accepted s ≡ true → request_next s ≤ 65535
             → IsOwnOpened psk s sealed.now result out.new }
     {
-        if id == 0 || id > MAX_SESSIONS {
+        if id == 0 || id > MAX_SESSIONS as u16 {
             return Err(RecordFault::KeySpent);
         }
         self.slots[usize::from(id) - 1].open_next(sealed, out)
@@ -79,7 +79,7 @@ impl Sessions {
             → IsSlotOf (slot_of self.now id) psk (with_asked psk s a inner pad)
             → IsOwnOpened psk s sealed.now result out.new }
     {
-        if id == 0 || id > MAX_SESSIONS {
+        if id == 0 || id > MAX_SESSIONS as u16 {
             return Err(RecordFault::KeySpent);
         }
         self.slots[usize::from(id) - 1].open_last(sealed, out)
@@ -139,7 +139,7 @@ impl Sessions {
         ensures id { self.new.id ≡ self.old.id }
         ensures unchanged { result ≡ false → self.new ≡ self.old }
     {
-        if id == 0 || id > MAX_SESSIONS {
+        if id == 0 || id > MAX_SESSIONS as u16 {
             return false;
         }
         self.slots[usize::from(id) - 1].take_padded(sealed, pair)

@@ -106,7 +106,7 @@ impl Sessions {
         ensures others { (i : ℕ) → i ≢ id → slot_of self.new i ≡ slot_of self.old i }
         ensures ended { self.new.ended ≡ self.old.ended }
     {
-        if id == 0 || id > MAX_SESSIONS {
+        if id == 0 || id > MAX_SESSIONS as u16 {
             return None;
         }
         match &mut self.slots[usize::from(id) - 1] {
@@ -127,7 +127,7 @@ impl Sessions {
             × (self.new.ended ≡ Some (record { sealed = sealed.now; reply = reply.now })) }
         ensures others { (i : ℕ) → i ≢ id → slot_of self.new i ≡ slot_of self.old i }
     {
-        if id == 0 || id > MAX_SESSIONS {
+        if id == 0 || id > MAX_SESSIONS as u16 {
             return;
         }
         let index = usize::from(id) - 1;
@@ -204,7 +204,7 @@ impl Sessions {
         ensures others { (i : ℕ) → i ≢ id → slot_of self.new i ≡ slot_of self.old i }
         ensures ended { self.new.ended ≡ self.old.ended }
     {
-        if id == 0 || id > MAX_SESSIONS {
+        if id == 0 || id > MAX_SESSIONS as u16 {
             return;
         }
         let index = usize::from(id) - 1;
@@ -243,7 +243,7 @@ impl Sessions {
         ensures others { (i : ℕ) → i ≢ id → slot_of self.new i ≡ slot_of self.old i }
         ensures ended { self.new.ended ≡ self.old.ended }
     {
-        if id >= 1 && id <= MAX_SESSIONS {
+        if id >= 1 && id <= MAX_SESSIONS as u16 {
             self.slots[usize::from(id) - 1] = None;
         }
     }
@@ -255,7 +255,7 @@ impl Sessions {
         ensures others { (i : ℕ) → i ≢ id → slot_of self.new i ≡ slot_of self.old i }
         ensures ended { self.new.ended ≡ self.old.ended }
     {
-        if id == 0 || id > MAX_SESSIONS {
+        if id == 0 || id > MAX_SESSIONS as u16 {
             return;
         }
         let index = usize::from(id) - 1;
@@ -327,7 +327,7 @@ impl Sessions {
         ensures { MatchOption result (slot_of self.now id ≡ None)
             (λ live. slot_of self.now id ≡ Some live.now) }
     {
-        if id == 0 || id > MAX_SESSIONS {
+        if id == 0 || id > MAX_SESSIONS as u16 {
             return None;
         }
         self.slots[usize::from(id) - 1].as_ref()

@@ -12,7 +12,7 @@ impl Sessions {
         ensures others { (i : ℕ) → i ≢ id → slot_of self.new i ≡ slot_of self.old i }
         ensures ended { self.new.ended ≡ self.old.ended }
     {
-        if id == 0 || id > MAX_SESSIONS {
+        if id == 0 || id > MAX_SESSIONS as u16 {
             return None;
         }
         self.slots[usize::from(id) - 1].take()
@@ -25,7 +25,7 @@ impl Sessions {
         ensures others { (i : ℕ) → i ≢ id → slot_of self.new i ≡ slot_of self.old i }
         ensures ended { self.new.ended ≡ self.old.ended }
     {
-        if id == 0 || id > MAX_SESSIONS {
+        if id == 0 || id > MAX_SESSIONS as u16 {
             return;
         }
         self.slots[usize::from(id) - 1] = session;
