@@ -6,7 +6,6 @@ pub mod PlainlyAsked
 pub mod PartyReplied
 pub mod PartyPrepared
 pub mod KeptTyped
-pub mod KnownFetches
 pub mod PartyTold
 pub mod WalkRows
 pub mod AskedWalks

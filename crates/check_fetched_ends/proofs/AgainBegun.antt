@@ -42,9 +42,9 @@ use Rattle.check_fetched_ends.proofs.AgainTold.{answer_is, request_is, was_unsee
 use Rattle.check_fetched_laws.proofs.AnewSessions.{IsReady, live_ready}
 use Rattle.check_fetched_ends.proofs.BegunStands.{ceil_some}
 use Rattle.check_fetched_ends.proofs.BegunTold.{six_again}
-use Rattle.check_fetched_laws.proofs.ChangesOn.{accepted_on, asked_on}
+use Rattle.check_fetched_ends.proofs.ChangesOn.{accepted_on, asked_on}
 use Rattle.check_fetched_ends.proofs.EndedApart.{ended_apart}
-use Rattle.check_fetched_laws.proofs.HeardOn.{heard_on}
+use Rattle.check_fetched_ends.proofs.HeardOn.{heard_on}
 use Rattle.check_late_laws.proofs.Late.MeasuredTurns.{large_turn}
 use Rattle.check_fetched_laws.proofs.NewestLed.{NewestLed, newest_led}
 use Rattle.check_fetched_laws.proofs.NewestStands.{NewestIs, newest_is}

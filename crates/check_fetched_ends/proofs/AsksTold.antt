@@ -9,7 +9,7 @@ use Rattle.check_requester.specs.Asker.{Carries}
 use Rattle.check_requester.specs.HeardKept.{asks_upon, heard_kept}
 use Rattle.check_laws.specs.Keeping.{Kept}
 use Rattle.check_laws.specs.RepliesShown.{AnswersRound, answered, responder_for}
-use Rattle.check_fetched_laws.proofs.HeardOn.{IsHeardOn, asks_on, heard_on}
+use Rattle.check_fetched_ends.proofs.HeardOn.{IsHeardOn, asks_on, heard_on}
 use Rattle.check_fetched_ends.specs.AsksUpon.{AnswersTellAsking, PlainEndsFetching}
 use Rattle.check_late_laws.specs.Fetching.{Fetching, IsFetchingOf, MayStand, dialogue_of}
 use Rattle.check_late_laws.specs.FetchingLaws.{EndsFetching, GoesFetching, TurnsFetching}

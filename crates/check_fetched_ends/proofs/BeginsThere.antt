@@ -43,7 +43,7 @@ use Rattle.capture_machine.specs.CapturedAnswers.{MayLeadTo, answer_to, clear_an
 use Rattle.capture_machine.specs.LargeAnswers.{IsLargeAnswer, is_large, is_unseen_in, place_named, seen, unseen, with_large}
 use Rattle.capture_machine.specs.Rounds.{Round, no_draw}
 use Rattle.world_machine.specs.Setup.{Configuration}
-use Rattle.check_fetched_laws.proofs.HeardOn.{heard_on}
+use Rattle.check_fetched_ends.proofs.HeardOn.{heard_on}
 use Rattle.check_late_laws.proofs.Late.MeasuredTurns.{GoesLarge, answer_at, bytes_are, goes_at, goes_turn, large_turn, turn_goes}
 use Rattle.check_fetched_laws.proofs.RecordTaken.{body_adds, entry_at}
 use Rattle.check_fetched_ends.specs.InSession.{IsMeasuredBy}

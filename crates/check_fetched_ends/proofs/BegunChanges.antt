@@ -26,7 +26,7 @@ use Rattle.capture_machine.specs.LargeAnswers.{unseen}
 use Rattle.world_machine.specs.Setup.{Configuration}
 use Rattle.check_fetched_ends.proofs.BeginsThere.{begun, judged_is, next}
 use Rattle.check_fetched_ends.proofs.BegunStands.{none_behind}
-use Rattle.check_fetched_laws.proofs.ChangesOn.{accepted_on, asked_on}
+use Rattle.check_fetched_ends.proofs.ChangesOn.{accepted_on, asked_on}
 use Rattle.check_late_laws.proofs.Late.QuietSteps.{none_accepted, quiet_step}
 use Rattle.check_fetched_laws.proofs.RecordTaken.{taken_is}
 use Rattle.check_fetched_laws.proofs.SeenKeys.{views_alike}

@@ -25,7 +25,7 @@ use Rattle.check_laws.specs.declared.verdict.Seen.{Seen}
 use Rattle.responder_core.specs.Connected as connected
 use Rattle.responder_core.specs.UnseenRequests.{IsTurnOf, IsUnseenTurn}
 use Rattle.responder_core.specs.declared.connected.Connection.{Connection}
-use Rattle.check_fetched_laws.proofs.ChangesOn.{accepted_on, asked_on}
+use Rattle.check_fetched_ends.proofs.ChangesOn.{accepted_on, asked_on}
 use Rattle.check_fetched_ends.proofs.HeldBefore.{here, keys_begun}
 use Rattle.check_fetched_ends.proofs.HeldBegins.{behind, next}
 use Rattle.check_late_laws.proofs.Late.LargeAccepts.{large_accepts_none}

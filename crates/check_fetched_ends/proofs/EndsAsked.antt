@@ -12,7 +12,7 @@ use Rattle.check_laws.specs.Judged.{why_of}
 use Rattle.check_laws.specs.Keeping.{Kept}
 use Rattle.check_laws.specs.declared.verdict.Seen.{Seen}
 use Rattle.check_fetched_ends.proofs.EndsKept.{fetched_as}
-use Rattle.check_fetched_laws.proofs.FetchedAsked.{asked_reason, kept_behind, none_on, walk_before}
+use Rattle.check_fetched_ends.proofs.FetchedAsked.{asked_reason, kept_behind, none_on, walk_before}
 use Rattle.check_fetched_ends.specs.JudgedEnds.{IsAskedOf, IsFetched, StandsBehind}
 use Rattle.check_fetched_ends.specs.declared.fetch.Fetch.{Fetch}
 use Rattle.check_late_laws.specs.Fetching.{Fetching, IsFetchingOf, dialogue_of}

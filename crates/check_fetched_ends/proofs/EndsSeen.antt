@@ -14,7 +14,7 @@ use Rattle.check_laws.specs.RepliesShown.{responder_for}
 use Rattle.check_laws.specs.Walks.{Walks}
 use Rattle.responder_core.specs.Connected as connected
 use Rattle.responder_core.specs.declared.connected.Connection.{Connection}
-use Rattle.check_fetched_laws.proofs.Awaited.{IsAwaited, fetched_round}
+use Rattle.check_fetched_ends.proofs.Awaited.{IsAwaited, fetched_round}
 use Rattle.check_late_laws.proofs.Late.SeenAlike.{last_alike, live_alike}
 use Rattle.check_late_laws.proofs.Late.SeenSessions.{seen_alike}
 use Rattle.check_laws.proofs.StepsOfWalks.{clear_type}

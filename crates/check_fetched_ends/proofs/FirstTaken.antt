@@ -9,7 +9,7 @@ use Rattle.chunking.proofs.CutAndCollected.{collected-nth}
 use Rattle.chunking.specs.Collecting.{answer_from, broken_rule, joined_with, under_way}
 use Rattle.chunking.specs.Collecting.Collection.{Whole, More}
 use Rattle.chunking.specs.Cutting.{IsCollectable, chunk_count, nth_chunk}
-use Rattle.check_fetched_laws.proofs.LargeAsks.{chunk_sent, piece_read}
+use Rattle.check_fetched_ends.proofs.LargeAsks.{chunk_sent, piece_read}
 use Rattle.check_fetched_ends.proofs.LateShown.{same_form}
 use Rattle.check_fetched_ends.proofs.OfferAwaited.{kept_judging}
 use Rattle.check_fetched_ends.proofs.RoundAnswered.{taken_again, turn_taken}

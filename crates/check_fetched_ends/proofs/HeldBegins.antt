@@ -17,7 +17,7 @@ use Rattle.check_fetched_laws.proofs.LargeSized.{large_is_sized}
 use Rattle.check_fetched_laws.proofs.LargeTurns.{large_is_unseen}
 use Rattle.check_fetched_laws.specs.ClearSessions.{IsUnseenRequest}
 use Rattle.responder_core.proofs.Whole.{turn_short}
-use Rattle.check_fetched_laws.proofs.HeardOn.{heard_on}
+use Rattle.check_fetched_ends.proofs.HeardOn.{heard_on}
 use Rattle.check_fetched_ends.proofs.HeldNever.{clear_shape}
 use Rattle.check_fetched_ends.proofs.HeldTurns.{IsLargeTurn, large_turn}
 use Rattle.check_fetched_ends.specs.Held.{IsLedTo}

@@ -21,7 +21,7 @@ use Rattle.responder_core.specs.Connected as connected
 use Rattle.check_fetched_laws.proofs.ClearViews.{keys_stand_on}
 use Rattle.check_fetched_laws.specs.ClearChunks.{clear_with}
 use Rattle.check_fetched_laws.specs.ClearSessions.{IsWithoutHandshake}
-use Rattle.check_fetched_laws.proofs.ChangesOn.{accepted_on, asked_on}
+use Rattle.check_fetched_ends.proofs.ChangesOn.{accepted_on, asked_on}
 use Rattle.check_fetched_ends.proofs.GetsGiven.{none_given}
 use Rattle.check_fetched_ends.proofs.HeldBefore.{Left, here, keys_begun, left_turn, stands_begun, views_begun}
 use Rattle.check_fetched_ends.proofs.HeldBegins.{IsBegunHere, asked_is, at_is, behind, kept_here, next, none_came, taken}

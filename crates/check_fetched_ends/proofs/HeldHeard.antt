@@ -14,7 +14,7 @@ use Rattle.check_laws.specs.Keeping.{Kept, kept_of, restored}
 use Rattle.check_laws.specs.KeptChanges.{accepted_from}
 use Rattle.check_laws.specs.RepliesShown.{answered, responder_for}
 use Rattle.check_laws.specs.declared.change.Change.{Change}
-use Rattle.check_fetched_laws.proofs.ChangesOn.{accepted_on, asked_on}
+use Rattle.check_fetched_ends.proofs.ChangesOn.{accepted_on, asked_on}
 use Rattle.check_fetched_ends.specs.Held.{IsQuiet}
 use Rattle.check_late_laws.specs.Fetching.{Fetching, IsFetchingOf, dialogue_of}
 use Rattle.check_late_laws.specs.FetchingLaws.{GoesFetching}

@@ -15,7 +15,7 @@ use Rattle.check_laws.specs.Keeping.{Kept}
 use Rattle.check_laws.specs.RepliesShown.{responder_for}
 use Rattle.check_laws.specs.declared.verdict.Seen.{Seen}
 use Rattle.check_fetched_laws.proofs.NoneTurns.{repeat_may_go}
-use Rattle.check_fetched_laws.proofs.HeardOn.{heard_on}
+use Rattle.check_fetched_ends.proofs.HeardOn.{heard_on}
 use Rattle.check_fetched_ends.proofs.HeldNever.{clear_shape}
 use Rattle.check_fetched_ends.proofs.HeldRounds.{again_is, type}
 use Rattle.check_fetched_ends.specs.Fetched.{IsRepliedTo, rows_upon}

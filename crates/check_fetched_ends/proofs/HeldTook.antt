@@ -20,7 +20,7 @@ use Rattle.check_fetched_laws.proofs.ClearViews.{keys_stand_on}
 use Rattle.check_fetched_laws.proofs.MeanwhileClear.{get_goes_on}
 use Rattle.check_fetched_laws.specs.ClearChunks.{clear_with, get_entry, get_message, get_response}
 use Rattle.check_fetched_ends.proofs.HasGets.{gets_more, views_held}
-use Rattle.check_fetched_laws.proofs.HeardOn.{heard_on}
+use Rattle.check_fetched_ends.proofs.HeardOn.{heard_on}
 use Rattle.check_fetched_ends.proofs.HeldCut.{can_be_cut}
 use Rattle.check_fetched_ends.proofs.HeldGave.{e, gave_there, get, message_is, p, response}
 use Rattle.check_fetched_ends.proofs.HeldRounds.{asked, response_is, transfer_is}

@@ -30,7 +30,7 @@ use Rattle.capture_machine.proofs.SeenAnswers.{led_stands}
 use Rattle.capture_machine.proofs.UnseenStands.{UnseenStand}
 use Rattle.capture_machine.specs.LargeAnswers.{place_of, takes_get, with_large}
 use Rattle.world_machine.specs.Setup.{Configuration}
-use Rattle.check_fetched_laws.proofs.ChangesOn.{accepted_on, asked_on}
+use Rattle.check_fetched_ends.proofs.ChangesOn.{accepted_on, asked_on}
 use Rattle.check_fetched_ends.proofs.InSessionRecord.{behind_is, e, id_is, leads, next, still_plain, unseen_stand}
 use Rattle.check_late_laws.proofs.Late.QuietSteps.{none_accepted, quiet_step}
 use Rattle.check_fetched_laws.proofs.RecordTaken.{taken_is}

@@ -41,8 +41,8 @@ use Rattle.capture_machine.specs.LargeAnswers.{begun_with, dropped_before_large,
 use Rattle.capture_machine.specs.Rounds.{Dialogue, Round}
 use Rattle.capture_machine.specs.SessionTable.{Row, number_from}
 use Rattle.world_machine.specs.Setup.{Configuration}
-use Rattle.check_fetched_laws.proofs.ChangesOn.{accepted_on, asked_on}
-use Rattle.check_fetched_laws.proofs.HeardOn.{IsHeardOn, heard_on}
+use Rattle.check_fetched_ends.proofs.ChangesOn.{accepted_on, asked_on}
+use Rattle.check_fetched_ends.proofs.HeardOn.{IsHeardOn, heard_on}
 use Rattle.check_fetched_ends.proofs.InSessionRecord.{place_is}
 use Rattle.check_late_laws.proofs.Late.QuietSteps.{none_accepted, quiet_step}
 use Rattle.check_fetched_laws.proofs.RecordTaken.{body_adds, entry_at, taken_is}

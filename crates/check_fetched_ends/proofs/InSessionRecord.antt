@@ -48,7 +48,7 @@ use Rattle.capture_machine.specs.LargeAnswers.{is_unseen_in, judging, place_name
 use Rattle.capture_machine.specs.Opening.{turn_in}
 use Rattle.capture_machine.specs.Rounds.{Dialogue, Round, no_draw}
 use Rattle.world_machine.specs.Setup.{Configuration}
-use Rattle.check_fetched_laws.proofs.HeardOn.{heard_on}
+use Rattle.check_fetched_ends.proofs.HeardOn.{heard_on}
 use Rattle.check_fetched_ends.proofs.HeldMessages.{IsHeld, held_in}
 use Rattle.check_late_laws.proofs.Late.PlainTexts.{one_inner}
 use Rattle.check_fetched_ends.specs.InSession.{is_chunk}

@@ -69,8 +69,8 @@ use Rattle.capture_machine.specs.Rounds.{Dialogue, Round, no_draw}
 use Rattle.capture_machine.specs.SessionTable.{Row, number_from}
 use Rattle.world_machine.specs.Setup.{Configuration}
 use Rattle.check_late_laws.proofs.Late.AcceptsNone.{version_accepts}
-use Rattle.check_fetched_laws.proofs.ChangesOn.{accepted_on, asked_on}
-use Rattle.check_fetched_laws.proofs.HeardOn.{IsHeardOn, heard_on}
+use Rattle.check_fetched_ends.proofs.ChangesOn.{accepted_on, asked_on}
+use Rattle.check_fetched_ends.proofs.HeardOn.{IsHeardOn, heard_on}
 use Rattle.check_fetched_ends.proofs.InSessionTold.{few_large}
 use Rattle.check_fetched_ends.proofs.NoneGoesOn.{IsNone, refused_by}
 use Rattle.check_late_laws.proofs.Late.QuietSteps.{quiet_step}

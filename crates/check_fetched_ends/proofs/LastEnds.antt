@@ -27,9 +27,9 @@ use Rattle.check_laws.specs.declared.verdict.Seen.{Seen}
 use Rattle.responder_core.specs.Connected as connected
 use Rattle.responder_core.specs.declared.connected.Connection.{Connection}
 use Rattle.check_fetched_laws.specs.LastShown.{IsShownEntry, drops_with}
-use Rattle.check_fetched_laws.proofs.ChangesOn.{accepted_on, asked_on}
+use Rattle.check_fetched_ends.proofs.ChangesOn.{accepted_on, asked_on}
 use Rattle.check_fetched_ends.proofs.FrontHeld.{begun_held, given_messages}
-use Rattle.check_fetched_laws.proofs.HeardOn.{IsHeardOn, heard_on}
+use Rattle.check_fetched_ends.proofs.HeardOn.{IsHeardOn, heard_on}
 use Rattle.check_fetched_ends.proofs.HeldOn.{carries}
 use Rattle.check_fetched_ends.proofs.HeldRounds.{place}
 use Rattle.check_fetched_ends.proofs.LastInClear.{last_ends}

@@ -30,7 +30,7 @@ use Rattle.check_fetched_laws.proofs.FewBytes.{answers_few}
 use Rattle.check_fetched_laws.proofs.RestQuiet.{none_pends_in_clear}
 use Rattle.check_fetched_laws.specs.ClearChunks.{clear_with}
 use Rattle.check_fetched_laws.specs.ClearSessions.{is_clear_get}
-use Rattle.check_fetched_laws.proofs.HeardOn.{heard_on}
+use Rattle.check_fetched_ends.proofs.HeardOn.{heard_on}
 use Rattle.check_fetched_ends.proofs.HeldLengths.{lengths_are}
 use Rattle.check_fetched_ends.proofs.HeldNever.{clear_shape}
 use Rattle.check_fetched_ends.proofs.LargeShows.{AllShow, repeats_shown, shows_at, walk_shows}

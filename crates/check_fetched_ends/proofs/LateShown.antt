@@ -4,7 +4,7 @@ use Rattle.std.proofs.Common.{◌≡◌, ◌<◌, ◌≤◌, ◌==◌, ◌&&◌,
 use Rattle.std.specs.Prelude.{not, slice_index}
 use Rattle.std.proofs.lemmas.Bool.{false≢true}
 use Rattle.check_ends.proofs.InTurn.{AnswersInTurn}
-use Rattle.check_ends.proofs.KnownFetches.{kept_asks_none}
+use Rattle.check_laws.proofs.KnownFetches.{kept_asks_none}
 use Rattle.check_responder.proofs.LargeReplies.{turn_tells}
 use Rattle.check_responder.specs.Answerer.{shows_large}
 use Rattle.check_requester.specs.HeardKept.{asks_upon}

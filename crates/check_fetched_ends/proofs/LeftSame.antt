@@ -4,7 +4,7 @@ use Rattle.std.proofs.Common.{◌≡◌, ◌==◌, ◌∙◌, ℕ, List, ◌∷�
 use Rattle.std.specs.Prelude.{not}
 use Rattle.std.proofs.lemmas.Bool.{false≢true}
 use Rattle.std.proofs.lemmas.Option.{none-some, same_Some}
-use Rattle.check_ends.proofs.KnownFetches.{kept_asks_none}
+use Rattle.check_laws.proofs.KnownFetches.{kept_asks_none}
 use Rattle.check_requester.specs.HeardKept.{asks_upon}
 use Rattle.check_laws.proofs.KeptAnswers.{kept_is_restored}
 use Rattle.check_laws.proofs.OneWalk.{walks_alike}

@@ -123,3 +123,9 @@ pub mod OfferAwaited
 pub mod FirstTaken
 pub mod PiecesSent
 pub mod StatedLaws
+pub mod FetchedAsked
+pub mod EndsPrepared
+pub mod HeardOn
+pub mod ChangesOn
+pub mod Awaited
+pub mod LargeAsks

@@ -5,7 +5,7 @@ use Rattle.std.specs.Prelude.{nat_lt, not, slice_index}
 use Rattle.std.proofs.lemmas.Bool.{false≢true}
 use Rattle.std.proofs.lemmas.Option.{none-some, same_Some}
 use Rattle.check_ends.proofs.InTurn.{AnswersInTurn}
-use Rattle.check_ends.proofs.KnownFetches.{kept_asks_none}
+use Rattle.check_laws.proofs.KnownFetches.{kept_asks_none}
 use Rattle.check_requester.specs.HeardKept.{asks_upon}
 use Rattle.check_laws.proofs.KeptAnswers.{kept_is_restored}
 use Rattle.check_laws.proofs.LargeShown.{large_is_shown}
@@ -22,7 +22,7 @@ use Rattle.check_late_laws.proofs.Late.CapsTurns.{Settling, turn_settles}
 use Rattle.check_late_laws.proofs.Late.CapsTurns.Settling.{Renews, Tells, Stays}
 use Rattle.check_fetched_ends.proofs.HeldNever.{clear_shape}
 use Rattle.check_fetched_ends.proofs.HeldTurns.{large_turn}
-use Rattle.check_fetched_laws.proofs.LargeAsks.{IsGivenLarge, asks_first}
+use Rattle.check_fetched_ends.proofs.LargeAsks.{IsGivenLarge, asks_first}
 use Rattle.check_fetched_ends.proofs.RoundAnswered.{IsSteady, IsWaiting, walks_wait}
 use Rattle.check_fetched_laws.proofs.CapsSent.{IsTagged}
 use Rattle.check_fetched_ends.proofs.SameChunks.{same_common, walks_agree}

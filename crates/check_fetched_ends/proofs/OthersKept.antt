@@ -36,7 +36,7 @@ use Rattle.capture_machine.specs.LargeAnswers.{is_fetching, is_unseen_in, seen, 
 use Rattle.capture_machine.specs.Rounds.{Dialogue, Round}
 use Rattle.capture_machine.specs.SessionTable.{Row}
 use Rattle.world_machine.specs.Setup.{Configuration}
-use Rattle.check_fetched_laws.proofs.HeardOn.{IsHeardOn, heard_on}
+use Rattle.check_fetched_ends.proofs.HeardOn.{IsHeardOn, heard_on}
 use Rattle.check_fetched_ends.proofs.InSessionRecord.{unseen_stand}
 use Rattle.check_fetched_laws.proofs.OthersLed.{sealed_in}
 use Rattle.check_fetched_ends.proofs.OthersSame.{judged_at, same_on}

@@ -69,7 +69,7 @@ use Rattle.check_late_laws.proofs.Late.AcceptsNone.{record_accepts}
 use Rattle.check_fetched_ends.proofs.AsksTold.{plain_ends}
 use Rattle.check_fetched_ends.proofs.BegunGiven.{none_begun}
 use Rattle.check_fetched_ends.proofs.BegunTold.{six_again}
-use Rattle.check_fetched_laws.proofs.ChangesOn.{accepted_on, asked_on}
+use Rattle.check_fetched_ends.proofs.ChangesOn.{accepted_on, asked_on}
 use Rattle.check_fetched_ends.proofs.InSessionRefused.{refused}
 use Rattle.check_fetched_ends.proofs.OthersKept.{answer_then, asks_then, behind, clear_then, goes, ids, large_then, leads, next, outcome, plainly, stands_then, unseen_then}
 use Rattle.check_fetched_ends.proofs.OthersLeft.{left_is, sizes_then}

@@ -45,7 +45,7 @@ use Rattle.capture_machine.specs.Rounds.{Dialogue, Round, no_draw}
 use Rattle.capture_machine.specs.SessionTable.{Row}
 use Rattle.world_machine.specs.Setup.{Configuration}
 use Rattle.check_fetched_ends.proofs.BeginsThere.{big, e0, f0, leads, on_is, shown_is, unseen_is}
-use Rattle.check_fetched_laws.proofs.HeardOn.{IsHeardOn, heard_on}
+use Rattle.check_fetched_ends.proofs.HeardOn.{IsHeardOn, heard_on}
 use Rattle.check_fetched_ends.proofs.InSessionRecord.{unseen_stand}
 use Rattle.check_fetched_ends.proofs.OthersSame.{judged_at, place_at}
 use Rattle.check_late_laws.proofs.Late.SeenAlike.{SeenAlike}

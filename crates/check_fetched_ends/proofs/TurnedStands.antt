@@ -62,7 +62,7 @@ use Rattle.check_fetched_ends.proofs.BeginsThere.{f0}
 use Rattle.check_fetched_ends.proofs.BegunStands.{behind_entry, ceil_some}
 use Rattle.check_fetched_ends.proofs.BegunTold.{six_again}
 use Rattle.check_fetched_ends.proofs.BegunUnfetched.{unseen_newest}
-use Rattle.check_fetched_laws.proofs.ChangesOn.{accepted_on, asked_on}
+use Rattle.check_fetched_ends.proofs.ChangesOn.{accepted_on, asked_on}
 use Rattle.check_fetched_ends.proofs.InSessionRecord.{id_is}
 use Rattle.check_fetched_ends.proofs.LeftBefore.{one, unseen_is}
 use Rattle.check_late_laws.proofs.Late.MeasuredTurns.{large_turn}

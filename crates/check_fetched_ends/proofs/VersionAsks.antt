@@ -15,7 +15,7 @@ use Rattle.check_fetched_laws.proofs.GetSteps.{Fetches}
 use Rattle.check_fetched_laws.proofs.GetSteps.Fetches.{Owes, Asks, Has}
 use Rattle.check_fetched_laws.proofs.WalksSound.{walks_sound}
 use Rattle.check_fetched_laws.specs.ClearChunks.{get_message}
-use Rattle.check_fetched_laws.proofs.HeardOn.{IsHeardOn, heard_on}
+use Rattle.check_fetched_ends.proofs.HeardOn.{IsHeardOn, heard_on}
 use Rattle.check_fetched_ends.specs.AsksUpon.{VersionAsksNone}
 use Rattle.check_late_laws.specs.Fetching.{Fetching, IsFetchingOf, dialogue_of}
 use Rattle.requester_machine.proofs.Heard.{accepted}

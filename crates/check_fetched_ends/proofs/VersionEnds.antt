@@ -23,8 +23,8 @@ use Rattle.check_fetched_laws.proofs.ClearViews.{keys_stand_on}
 use Rattle.check_fetched_laws.proofs.MeanwhileClear.{version_goes}
 use Rattle.check_fetched_laws.proofs.VersionGiven.{version_is_given}
 use Rattle.check_fetched_laws.specs.StandsAlike.{version_entry}
-use Rattle.check_fetched_laws.proofs.ChangesOn.{accepted_on, asked_on}
-use Rattle.check_fetched_laws.proofs.HeardOn.{IsHeardOn, heard_on}
+use Rattle.check_fetched_ends.proofs.ChangesOn.{accepted_on, asked_on}
+use Rattle.check_fetched_ends.proofs.HeardOn.{IsHeardOn, heard_on}
 use Rattle.check_fetched_ends.proofs.HeldOn.{carries}
 use Rattle.check_late_laws.proofs.Late.QuietSteps.{quiet_step}
 use Rattle.check_late_laws.proofs.Late.VersionHeard.{version_accepts_none}

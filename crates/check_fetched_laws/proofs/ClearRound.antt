@@ -22,7 +22,7 @@ use Rattle.check_fetched_laws.proofs.ClearChunks.{next_is_given}
 use Rattle.check_fetched_laws.proofs.GetSteps.{Fetches, next_of}
 use Rattle.check_fetched_laws.proofs.GetSteps.Fetches.{Owes, Asks, Has}
 use Rattle.check_fetched_laws.proofs.GetTurns.{Alike, FetchesSo, asks_so, replies_so}
-use Rattle.check_ends.proofs.KnownFetches.{IsKnown, asks_known, replies_known}
+use Rattle.check_laws.proofs.KnownFetches.{IsKnown, asks_known, replies_known}
 use Rattle.check_fetched_laws.proofs.LargeWalks.{walks_large}
 use Rattle.check_fetched_laws.proofs.ReadyGets.{IsReady, LargeStand}
 use Rattle.check_fetched_laws.proofs.RoomWalks.{RoomStand, given_stands, room_chunks, walks_room}

@@ -76,3 +76,5 @@ pub mod PlacesShown
 pub mod RowsKept
 pub mod Large
 pub mod StatedLaws
+pub mod KeptWalks
+pub mod KnownFetches

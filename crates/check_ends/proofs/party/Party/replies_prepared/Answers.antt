@@ -15,7 +15,7 @@ use Rattle.responder_session.specs.declared.answer_key.AnswerKey.{AnswerKey}
 use Rattle.spdm_basis.specs.declared.OutOfMemory.{OutOfMemory}
 use Rattle.check_ends.proofs.InTurn.{answers_in_turn}
 use Rattle.check_requester.proofs.CarriedBy.{keeps_carries}
-use Rattle.check_ends.proofs.KnownFetches.{kept_asks_none}
+use Rattle.check_laws.proofs.KnownFetches.{kept_asks_none}
 use Rattle.check_ends.proofs.KeptTyped.{kept_apart, kept_body}
 use Rattle.check_ends.proofs.PartyReplied.{answers_round, apart_for, asked_upon, behind_whole, body_is, few_messages, goes_whole, is_part, kept_limits, refused_for, whole_kept}
 use Rattle.check_ends.proofs.PartyTold.{few_behind, is_change, is_step}

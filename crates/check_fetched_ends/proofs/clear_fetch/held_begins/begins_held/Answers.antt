@@ -3,7 +3,7 @@ use Rattle.std.specs.Prelude.{OnOk, not, slice_index}
 use Rattle.spdm_basis.specs.declared.OutOfMemory.{OutOfMemory}
 use Rattle.check_requester.proofs.CarriedBy.{keeps_carries}
 use Rattle.check_ends.proofs.InTurn.{answers_in_turn}
-use Rattle.check_ends.proofs.KnownFetches.{kept_asks_none}
+use Rattle.check_laws.proofs.KnownFetches.{kept_asks_none}
 use Rattle.check_ends.proofs.PartyReplied.{few_messages, kept_limits}
 use Rattle.check_requester.specs.Asker.{IsAsker}
 use Rattle.check_requester.specs.HeardKept.{asks_upon, heard_kept}

@@ -2,7 +2,7 @@ use Rattle.std.proofs.Common.{◌≡◌, ◌∙◌, refl, sym, subst, Option, No
 use Rattle.mctp_framing.specs.Gathering.Gathered.{Whole}
 use Rattle.check_ends.proofs.WalkRows.{walk_round}
 use Rattle.check_laws.specs.Order.{asked_why}
-use Rattle.check_fetched_laws.proofs.Awaited.{fetching_carries}
+use Rattle.check_fetched_ends.proofs.Awaited.{fetching_carries}
 use Rattle.check_fetched_ends.proofs.EndsAsked.{asked_on}
 use Rattle.check_fetched_ends.proofs.EndsKept.{beside_of}
 use Rattle.check_fetched_ends.proofs.EndsReplied.{asked_rest, none_of, some_of}

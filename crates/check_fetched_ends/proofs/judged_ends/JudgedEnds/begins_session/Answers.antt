@@ -15,7 +15,7 @@ use Rattle.check_laws.specs.Rows.{StandsForRows}
 use Rattle.check_laws.specs.declared.verdict.Seen.{Seen}
 use Rattle.responder_core.specs.Setup.{IsSetUp}
 use Rattle.check_fetched_ends.proofs.EndsLeft.{told_in}
-use Rattle.check_fetched_laws.proofs.EndsPrepared.{party_prepared}
+use Rattle.check_fetched_ends.proofs.EndsPrepared.{party_prepared}
 use Rattle.check_fetched_ends.proofs.EndsReplied.{begun_on}
 use Rattle.check_fetched_ends.proofs.judged_ends.JudgedEnds.begins_session.Goals as goal
 use Rattle.check_fetched_ends.specs.BegunIn.{IsBegunIn}

@@ -7,7 +7,7 @@ use Rattle.check_laws.specs.Keeping.{restored}
 use Rattle.check_laws.specs.Order.{body_in}
 use Rattle.check_laws.specs.RepliesShown.{responder_for}
 use Rattle.check_fetched_ends.proofs.EndsLeft.{sent_rest}
-use Rattle.check_fetched_laws.proofs.EndsPrepared.{party_prepared, talk_prepared}
+use Rattle.check_fetched_ends.proofs.EndsPrepared.{party_prepared, talk_prepared}
 use Rattle.check_fetched_ends.proofs.EndsReplied.{none_sent}
 use Rattle.check_fetched_ends.proofs.LargeRecords.{none_asked}
 use Rattle.check_fetched_ends.proofs.judged_ends.JudgedEnds.replies_at_rest.Goals as goal

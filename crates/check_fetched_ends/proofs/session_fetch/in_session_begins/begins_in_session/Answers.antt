@@ -5,7 +5,7 @@ use Rattle.std.proofs.lemmas.Bool.{false≢true, not-false, not-true}
 use Rattle.std.proofs.lemmas.Option.{same_Some}
 use Rattle.check_requester.proofs.CarriedBy.{keeps_carries}
 use Rattle.check_ends.proofs.InTurn.{answers_in_turn}
-use Rattle.check_ends.proofs.KnownFetches.{kept_asks_none}
+use Rattle.check_laws.proofs.KnownFetches.{kept_asks_none}
 use Rattle.check_ends.proofs.PartyReplied.{asked_upon, behind_whole, few_messages, goes_whole, is_part, kept_limits, refused_for, whole_kept}
 use Rattle.check_ends.proofs.PartyTold.{few_behind, is_change, is_step}
 use Rattle.check_responder.specs.AnswerKeys.{IsComingKey, StandFor}

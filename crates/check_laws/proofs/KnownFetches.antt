@@ -15,7 +15,7 @@ use Rattle.requester_machine.specs.Setup.{ReqSetup}
 use Rattle.check_laws.proofs.KeptAnswers.{kept_is_restored}
 use Rattle.check_laws.proofs.Steadily.{IsSteady}
 use Rattle.check_laws.specs.Keeping.{Keeps, Kept, restored}
-use Rattle.check_ends.proofs.KeptTyped.{walks_keep}
+use Rattle.check_laws.proofs.KeptWalks.{walks_keep}
 use Rattle.capture_machine.proofs.AskTells.{IsSent, kind_of, sent_by_kind}
 use Rattle.capture_machine.specs.Capture.{AsksBy, Begins, Copies, RepliesBy}
 use Rattle.capture_machine.specs.CapturedRequests.{Sends, Tells, without_owed}
