@@ -7,8 +7,6 @@
 
 mod boot_fault;
 mod boots;
-#[cfg(test)]
-mod boots_tests;
 mod file_keeper;
 mod keeper;
 mod laws;

@@ -1,4 +1,4 @@
-use crate::{BootFault, FileKeeper, MemKeeper, next_boot};
+use boot_keeper::{BootFault, FileKeeper, MemKeeper, next_boot};
 use std::fs;
 use std::test::Fail;
 
