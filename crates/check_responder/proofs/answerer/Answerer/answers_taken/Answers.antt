@@ -18,13 +18,13 @@ use Rattle.check_responder.specs.ShownBy.{IsRecordGiven, text_shown}
 use Rattle.capture_machine.specs.Opening.{turn_in}
 use Rattle.capture_machine.specs.Rounds.{no_draw}
 
-pub returns-then-sealed-lt-LEAST_RECORD-clause-told : goal.returns-then-sealed-lt-LEAST_RECORD-clause-told
-returns-then-sealed-lt-LEAST_RECORD-clause-told c = λ r h tag set stands few taken opens key.
+pub returns-then-sealed-lt-MIN_RECORD_SIZE-clause-told : goal.returns-then-sealed-lt-MIN_RECORD_SIZE-clause-told
+returns-then-sealed-lt-MIN_RECORD_SIZE-clause-told c = λ r h tag set stands few taken opens key.
     let request : List ℕ = c.args.request.now in
     let sealed : List ℕ = c.args.sealed.now in
     let s = session_of (id_in_record request) h in
     let least = live_least _ r h (id_in_record request) stands (first_true (is_live s) _ taken.opens) in
-    λ a. size_never r h tag request taken least (record_values r h request sealed) sealed c.if-sealed-lt-LEAST_RECORD.true a
+    λ a. size_never r h tag request taken least (record_values r h request sealed) sealed c.if-sealed-lt-MIN_RECORD_SIZE.true a
 
 pub returns-then-not-gives_shown-clause-told : goal.returns-then-not-gives_shown-clause-told
 returns-then-not-gives_shown-clause-told c = λ r h tag set stands few taken opens key.
