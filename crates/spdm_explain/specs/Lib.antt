@@ -1,3 +1,4 @@
 pub mod Help
 pub mod Report
 pub mod Words
+pub mod Outcomes

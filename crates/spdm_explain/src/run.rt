@@ -1,6 +1,7 @@
-ghost use Rattle.std.specs.Prelude.{◌≡◌, ◌≤◌, ◌<◌, ◌↔◌, ◌⊎◌, ℕ, List, [], Some, None, map, length, string_bytes};
-ghost use Rattle.spdm_basis.specs.Stream.{HasFault, IsQuiet, Takes};
+ghost use Rattle.std.specs.Prelude.{◌≡◌, ◌≤◌, ◌<◌, ◌↔◌, ◌⊎◌, ℕ, List, [], Some, None, true, map, length, string_bytes};
+ghost use Rattle.spdm_basis.specs.Stream.{GivesSome, HasFault, IsQuiet, Takes, TakesPrefix};
 ghost use Rattle.spdm_explain.specs.Words.{form_of};
+ghost use Rattle.spdm_explain.specs.Outcomes.{reads_whole, writes_nothing};
 ghost use Rattle.spdm_explain.specs.Report.{said_of, report_text, IsBad};
 ghost use Rattle.spdm_explain.specs.declared.report.Report.TheVariants.{Good, Bad};
 
@@ -26,7 +27,8 @@ pub enum Outcome {
     TooLong,
 }
 
-/// Reads a text whose form is the one word, and writes what is reported of it.
+/// Reads a text whose form is the one word, and writes what is reported of it. Nothing is written where memory runs
+/// out.
 pub fn run<S: Source, K: Sink>(
     alloc: Global,
     words: &[String],
@@ -42,6 +44,20 @@ pub fn run<S: Source, K: Sink>(
         → form_of (map string_bytes words.now) ≡ Some form → S.remaining source.old ≡ Some text
         → IsBad (said_of form text)
         × Takes (K.contents sink.old) (report_text (said_of form text)) (K.contents sink.new) }
+
+    ensures part { result ≡ Outcome.WriteFault → (form : Form) (text : List ℕ)
+        → form_of (map string_bytes words.now) ≡ Some form → S.remaining source.old ≡ Some text
+        → TakesPrefix (K.contents sink.old) (report_text (said_of form text))
+        (K.contents sink.new) }
+    ensures nothing_written { writes_nothing result ≡ true → sink.new ≡ sink.old }
+
+    // What is read is a part of the text, and with some answers all of it.
+    ensures read_some { GivesSome (S.remaining source.old) (S.remaining source.new) }
+    ensures read_to_end { reads_whole result ≡ true → (text : List ℕ)
+        → S.remaining source.old ≡ Some text → S.remaining source.new ≡ Some [] }
+    ensures nothing_read { result ≡ Outcome.Usage → source.new ≡ source.old }
+    ensures read_later { S.faults source.old ≤ S.faults source.new }
+    ensures written_later { K.faults sink.old ≤ K.faults sink.new }
 
     ensures usage { (result ≡ Outcome.Usage) ↔ (form_of (map string_bytes words.now) ≡ None) }
     ensures read_fault { result ≡ Outcome.ReadFault
@@ -66,15 +82,17 @@ pub fn run<S: Source, K: Sink>(
         Err(InFault::OutOfMemory) => return Outcome::OutOfMemory,
     };
     let report = explain(alloc, form, text.as_slice());
+    let outcome = match report {
+        Report::Good => Outcome::Good,
+        Report::Bad { .. } => Outcome::Bad,
+        Report::OutOfMemory => return Outcome::OutOfMemory,
+    };
     let Ok(told) = report.text(alloc) else {
         return Outcome::OutOfMemory;
     };
-    let written = write_all(sink, told.as_bytes());
-    match (report, written) {
-        (Report::OutOfMemory, _) => Outcome::OutOfMemory,
-        (_, Err(_)) => Outcome::WriteFault,
-        (Report::Good, Ok(())) => Outcome::Good,
-        (Report::Bad { .. }, Ok(())) => Outcome::Bad,
+    match write_all(sink, told.as_bytes()) {
+        Ok(()) => outcome,
+        Err(_) => Outcome::WriteFault,
     }
 }
 
