@@ -2,7 +2,7 @@
 
 ghost use Rattle.script_laws.specs.Ends.{ConfiguredEndsHaveNoFault, ReadEndsHaveNoFault};
 ghost use Rattle.script_laws.specs.Laws.{ReadScriptIsSound};
-ghost use Rattle.script_laws.specs.Refused.{RefusesIn, TableRefusesClear, TableRefusesRecord};
+ghost use Rattle.script_laws.specs.Refused.{RefusedByTable, RefusesIn, TableRefuses};
 ghost use Rattle.script_laws.specs.Worlds.{AgreesIn, DeliversIn, MatchesIn, ReadSetUpIsConfigured, SealsOnceIn, ShowsAlikeIn};
 ghost use Rattle.std.specs.Prelude.{ℕ, List};
 
@@ -56,20 +56,22 @@ pub fn script_seals_once()
     ensures { (text : List ℕ) → SealsOnceIn text }
 {}
 
-/// At each packet that an event of a script gives to the responder, a request that is refused gets its ERROR and
-/// changes no session, apart from the counts of records, the stored reply and the clock of the one whose record carried
-/// it.
+/// At each packet that an event of a script gives to the responder: it is told as refused exactly where the table
+/// refuses the request that it completes. This gets exactly its ERROR, and changes no session, apart from the counts of
+/// records, the stored reply and the clock of the one whose record carried it; a refused large request that chunks
+/// carried in the clear changes none.
 pub fn script_refuses()
     ensures { (text : List ℕ) → RefusesIn text }
 {}
 
-/// A clear request that comes anew and that the table refuses is told as refused, and gets the ERROR of the table.
-pub fn table_refuses_clear()
-    ensures { TableRefusesClear }
+/// A request, in the clear or in a record, that comes anew and that the table refuses is told as refused with the
+/// table's code, and gets exactly its ERROR: in the clear upon a clear request, and upon a record in the next record of
+/// the session.
+pub fn table_refuses()
+    ensures { TableRefuses }
 {}
 
-/// A message in a record that comes anew and opens, and that the table refuses, is told as refused, and gets a record
-/// with the ERROR of the table.
-pub fn table_refuses_record()
-    ensures { TableRefusesRecord }
+/// What is told as refused is a request that comes anew and that the table refuses with this code.
+pub fn refused_by_table()
+    ensures { RefusedByTable }
 {}
