@@ -9,6 +9,7 @@ use Rattle.mctp_framing.specs.Gathering.{Gathered}
 use Rattle.mctp_framing.specs.Gathering.Gathered.{Dropped, More, Whole}
 use Rattle.mctp_framing.specs.Packet.{PacketFields, parsed}
 use Rattle.responder.proofs.Harmless.{harmless}
+use Rattle.responder_core.proofs.Outcomes.{by_record}
 use Rattle.responder_machine.proofs.Connection.{refused_connection}
 use Rattle.responder_machine.proofs.Entries.{others_kept}
 use Rattle.responder_machine.proofs.KeptRest.{refused_chunk_rest, refused_record_rest}
@@ -324,6 +325,17 @@ refused_chunks r packet c route body k e completes here =
     let facts = refused_chunk_by c.setup c.history route.tag body (next_draw r) k e (slice_index body 0 == SPDM) here.clear here.chunk here.refused in
     record { connections = ap (λ (s : RspStep). s.after.connections) (completed_step r packet c route body completes); sessions = facts.0; connection = facts.1 }
 
+-- A record moves the session that it names alone.
+record_apart : (r : RspSetup) (h : History) (tag : ℕ) (sealed : List ℕ) (d : Draw) (id : ℕ) → id_in_record sealed ≢ id → session_of id (after h (record_does r h tag sealed d)) ≡ session_of id h
+record_apart r h tag sealed d id differs =
+    by_record r h tag sealed (record_chosen r h sealed d) d (λ (o : Outcome). session_of id (after h o) ≡ session_of id h) (λ body. refl) (λ body. refl)
+    (λ s inner reply. others_kept h tag sealed (session_turn r s inner (record_chosen r h sealed d)) reply d id differs)
+
+body_apart : (r : RspSetup) (h : History) (tag : ℕ) (body : List ℕ) (d : Draw) (id : ℕ) (b : Bool) → b ≡ false → id_in_record (drop 1 body) ≢ id
+    → session_of id (after h (if b then clear_does r h tag (drop 1 body) d else record_does r h tag (drop 1 body) d)) ≡ session_of id h
+body_apart r h tag body d id true is differs = absurd (true≢false is)
+body_apart r h tag body d id false is differs = record_apart r h tag (drop 1 body) d id differs
+
 -- ---- A packet that is told as refused.
 
 module _ (r : Responding) (packet : List ℕ) (code : ℕ) (takes : is_worn r ≡ false) (fields : PacketFields) (parses : parsed packet ≡ Ok fields) (to : (fields.to == r.part.eid) ≡ true) (c : Connection)
@@ -381,7 +393,7 @@ module _ (r : Responding) (packet : List ℕ) (code : ℕ) where
 -- ---- Of every packet.
 
 pub refused_harmlessly : (r : Responding) (packet : List ℕ) → IsRefusedHarmlessly r packet
-refused_harmlessly r packet = record { only = refused_only r packet; all = refused_all r packet; in_chunks = refused_chunks r packet; harmless = harmless r packet }
+refused_harmlessly r packet = record { only = refused_only r packet; all = refused_all r packet; in_chunks = refused_chunks r packet; apart = λ c route body completes sealed id differs. body_apart c.setup c.history route.tag body (next_draw r) id (slice_index body 0 == SPDM) sealed differs; harmless = harmless r packet }
 
 pub refuses : (text : List ℕ) → RefusesIn text
 refuses text script read before entry behind is between packet given = refused_harmlessly between.responder packet

@@ -149,14 +149,17 @@ pub record IsLeftByChunk (r : Responding) (packet : List ℕ) (c : Connection) (
 -- ---- At every event of every script.
 
 -- Of a packet that is given to the responder: it is told as refused exactly where the table refuses the request that it
--- completes; this gets its ERROR and leaves what it has to leave, also where chunks carried it; and a packet of which
--- nothing is taken changes no connection.
+-- completes; this gets its ERROR and leaves what it has to leave, also where chunks carried it; a record, refused or
+-- not, moves the session that it names alone; and a packet of which nothing is taken changes no connection.
 pub record IsRefusedHarmlessly (r : Responding) (packet : List ℕ) : Type 0 where
   pub only : (code : ℕ) → (responder_hears r packet).heard ≡ heard.Refused code → IsRefused r packet code
   pub all : (c : Connection) (route : RouteFields) (body : List ℕ) (e : ErrorCode) → Completes r packet c route body
       → IsRefusedBody c.setup c.history route.tag body (next_draw r) e → IsAnsweredByError r packet c route body e
   pub in_chunks : (c : Connection) (route : RouteFields) (body : List ℕ) (k : ChunkMessage) (e : ErrorCode) → Completes r packet c route body
       → IsRefusedInChunks c.setup c.history body (next_draw r) k e → IsLeftByChunk r packet c route body
+  pub apart : (c : Connection) (route : RouteFields) (body : List ℕ) → Completes r packet c route body
+      → (slice_index body 0 == SPDM) ≡ false → (id : ℕ) → id_in_record (drop 1 body) ≢ id
+      → session_of id (after c.history (responder_does c.setup c.history route.tag body (next_draw r))) ≡ session_of id c.history
   pub harmless : IsHarmless r packet (responder_hears r packet).heard
 
 -- Each packet that an event of the script that a text is gives to the responder.
