@@ -10,6 +10,7 @@ use spdm_grammar::Why;
 // The answers that a responder gives.
 impl Party {
     ghost use Rattle.std.specs.Prelude.{◌≡◌, ◌≤◌, ◌<◌, ◌-◌, ◌^◌, ℕ, List, None, Some, Ok, IfOk, OnErr, IsSome, drop, length};
+    ghost use Rattle.spdm_grammar.specs.declared.names.TheConstants.{MAX_BODY_SIZE};
     ghost use Rattle.responder_core.specs.Setup.{IsSetUp};
     ghost use Rattle.mctp_framing.specs.Cutting.{RouteFields};
     ghost use Rattle.mctp_framing.specs.Gathering.Gathered.{Whole};
@@ -75,6 +76,7 @@ impl Party {
 
 impl Conversation {
     ghost use Rattle.std.specs.Prelude.{◌≡◌, ◌≤◌, ◌<◌, ◌-◌, ◌^◌, ℕ, List, None, Ok, IfOk, OnErr, IsSome, drop, length};
+    ghost use Rattle.spdm_grammar.specs.declared.names.TheConstants.{MAX_BODY_SIZE};
     ghost use Rattle.responder_core.specs.Setup.{IsSetUp};
     ghost use Rattle.mctp_framing.specs.Cutting.{RouteFields};
     ghost use Rattle.mctp_framing.specs.Gathering.Gathered.{Whole};
