@@ -4,3 +4,4 @@ pub mod NoFault
 pub mod Going
 mod GeneratedSound
 mod Generating
+pub mod Judged

@@ -125,6 +125,17 @@ full_by (Some Serve) text = None
 full_by (Some Drive) text = None
 full_by (Some Check) text = None
 
+-- This comes of a script alone, or of a generated one.
+abbrev pub is_of_scripts : Outcome → Bool
+is_of_scripts (LinkFull line) = true
+is_of_scripts _ = false
+
+-- The command runs a script.
+abbrev pub runs_script : Option Command → Bool
+runs_script (Some (Text Run)) = true
+runs_script (Some (Text (Gen seed count))) = true
+runs_script _ = false
+
 -- ---- What is answered.
 
 -- The first bad line, else the line at which the link is full, else success.

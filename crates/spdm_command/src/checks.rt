@@ -1,10 +1,11 @@
 ghost use Rattle.std.specs.Prelude.{◌≡◌, ◌≢◌, ◌≤◌, ◌⊎◌, [], ℕ, List, None, Some, true, false, length};
 ghost use Rattle.script_text.specs.Reading.{bad_line_in};
 ghost use Rattle.script_text.specs.ScriptText.{capture_in};
+ghost use Rattle.script_text.specs.declared.texts.script.Capture.{Capture};
 ghost use Rattle.spdm_basis.specs.Stream.{HasFault, IsQuiet};
-ghost use Rattle.trace_check.specs.Answers.{Finding, HasFinding};
+ghost use Rattle.trace_check.specs.Answers.{Finding, HasFinding, IsCapture};
 ghost use Rattle.spdm_command.specs.Answer.{text_limit, writes_nothing};
-ghost use Rattle.spdm_command.specs.Checks.{IsChecked, is_judged, outcome_for, outcome_of};
+ghost use Rattle.spdm_command.specs.Checks.{IsChecked, IsJudgedExactly, is_judged, outcome_for, outcome_of};
 ghost use Rattle.spdm_command.specs.Streams.{is_of_streams};
 
 use crate::outcome::Outcome;
@@ -41,6 +42,10 @@ pub fn check_capture<S: Source, K: Sink>(alloc: Global, source: &mut S, sink: &m
         → HasFinding text found → IsQuiet (S.faults source.old) (S.faults source.new)
         → IsQuiet (K.faults sink.old) (K.faults sink.new)
         → (result ≡ Outcome.OutOfMemory) ⊎ (result ≡ outcome_for found) }
+    ensures exact_verdict { (text : List ℕ) (capture : Capture) → S.remaining source.old ≡ Some text
+        → IsCapture text capture → IsQuiet (S.faults source.old) (S.faults source.new)
+        → IsQuiet (K.faults sink.old) (K.faults sink.new)
+        → (result ≡ Outcome.OutOfMemory) ⊎ IsJudgedExactly capture result }
     ensures complete { (text : List ℕ) → S.remaining source.old ≡ Some text
         → length text ≤ text_limit → bad_line_in (capture_in text) ≡ None
         → IsQuiet (S.faults source.old) (S.faults source.new)
@@ -49,6 +54,7 @@ pub fn check_capture<S: Source, K: Sink>(alloc: Global, source: &mut S, sink: &m
     ensures read_to_end { is_judged result ≡ true → (text : List ℕ)
         → S.remaining source.old ≡ Some text → S.remaining source.new ≡ Some [] }
     ensures nothing_written { writes_nothing result ≡ true → sink.new ≡ sink.old }
+    ensures no_memory { result ≡ Outcome.OutOfMemory → sink.new ≡ sink.old }
     ensures no_usage { result ≢ Outcome.Usage }
     ensures no_link { (line : ℕ) → result ≢ Outcome.LinkFull line }
     ensures no_stream { is_of_streams result ≡ false }

@@ -1,7 +1,7 @@
-ghost use Rattle.std.specs.Prelude.{◌≡◌, ◌≤◌, ℕ, Err, None, Some, length, IsErrOf, OnErr, OnOk};
+ghost use Rattle.std.specs.Prelude.{◌≡◌, ◌≤◌, ℕ, Err, None, Some, true, length, IsErrOf, OnErr, OnOk};
 ghost use Rattle.script_text.specs.declared.texts.faults.LineFault.{LineFault};
 ghost use Rattle.spdm_basis.specs.Stream.{HasFault, Takes, TakesPrefix};
-ghost use Rattle.spdm_command.specs.Answer.{IsLeft, bad_line_of, full_of, output_of};
+ghost use Rattle.spdm_command.specs.Answer.{IsLeft, bad_line_of, full_of, output_of, runs_script};
 ghost use Rattle.spdm_command.specs.Words.{IsTextInRange};
 ghost use Rattle.spdm_command.specs.declared.words.Command.TheVariants.{Text};
 ghost use Rattle.spdm_command.specs.declared.words.TextCommand.TheVariants.{Show};
@@ -59,6 +59,8 @@ pub fn write_output<K: Sink>(
     ensures link_full { (line : ℕ) → result ≡ Err (TextFault.LinkFull line)
         → (bad_line_of command text.now ≡ None) × (full_of command text.now ≡ Some line)
         × Takes (K.contents sink.old) (output_of command text.now) (K.contents sink.new) }
+    ensures runs { (line : ℕ) → result ≡ Err (TextFault.LinkFull line)
+        → runs_script (Some (Text command)) ≡ true }
     ensures readable { IsErrOf result TextFault.WriteFault → bad_line_of command text.now ≡ None }
     ensures write_fault { IsErrOf result TextFault.WriteFault
         → HasFault (K.faults sink.old) (K.faults sink.new) }

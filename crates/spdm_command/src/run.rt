@@ -2,12 +2,13 @@ ghost use Rattle.std.specs.Prelude.{◌≡◌, ◌≢◌, ◌≤◌, ◌<◌, �
 ghost use Rattle.script_text.specs.Reading.{bad_line_in};
 ghost use Rattle.script_text.specs.ScriptText.{capture_in};
 ghost use Rattle.script_text.specs.declared.texts.faults.LineFault.{LineFault};
+ghost use Rattle.script_text.specs.declared.texts.script.Capture.{Capture};
 ghost use Rattle.script_laws.specs.Refused.{RefusesIn};
 ghost use Rattle.script_laws.specs.Worlds.{AgreesIn, DeliversIn, MatchesIn, SealsOnceIn, ShowsAlikeIn};
 ghost use Rattle.spdm_basis.specs.Stream.{HasFault, IsQuiet, Takes, TakesPrefix};
-ghost use Rattle.trace_check.specs.Answers.{Finding, HasFinding};
-ghost use Rattle.spdm_command.specs.Answer.{IsLeft, IsReadQuietly, answer_to, bad_line_by, full_by, input_by, output_by, ran, reads, text_limit, writes_nothing};
-ghost use Rattle.spdm_command.specs.Checks.{IsChecked, is_judged, is_of_captures, outcome_for};
+ghost use Rattle.trace_check.specs.Answers.{Finding, HasFinding, IsCapture};
+ghost use Rattle.spdm_command.specs.Answer.{IsLeft, IsReadQuietly, answer_to, bad_line_by, full_by, input_by, is_of_scripts, output_by, ran, reads, runs_script, text_limit, writes_nothing};
+ghost use Rattle.spdm_command.specs.Checks.{IsChecked, IsJudgedExactly, is_judged, is_of_captures, outcome_for};
 ghost use Rattle.spdm_command.specs.Streams.{IsDriven, IsServed, answers_stream, is_of_streams, outcome_of};
 ghost use Rattle.spdm_command.specs.Words.{call_of};
 ghost use Rattle.spdm_command.specs.declared.words.Command.TheVariants.{Check, Drive, Serve};
@@ -65,6 +66,8 @@ pub fn spdm<S: Source, K: Sink, E: Seeds>(
         → input_by (call_of words.now) (S.remaining source.old) ≡ Some text
         → Takes (K.contents sink.old) (output_by (call_of words.now) text)
         (K.contents sink.new) }
+    ensures of_scripts_alone { is_of_scripts result ≡ true
+        → runs_script (call_of words.now) ≡ true }
     ensures room { result ≡ Outcome.Done → (text : List ℕ)
         → input_by (call_of words.now) (S.remaining source.old) ≡ Some text
         → full_by (call_of words.now) text ≡ None }
@@ -114,6 +117,11 @@ pub fn spdm<S: Source, K: Sink, E: Seeds>(
         → HasFinding text found → IsQuiet (S.faults source.old) (S.faults source.new)
         → IsQuiet (K.faults sink.old) (K.faults sink.new)
         → (result ≡ Outcome.OutOfMemory) ⊎ (result ≡ outcome_for found) }
+    ensures judged_exactly { call_of words.now ≡ Some Check
+        → (text : List ℕ) (capture : Capture) → S.remaining source.old ≡ Some text
+        → IsCapture text capture → IsQuiet (S.faults source.old) (S.faults source.new)
+        → IsQuiet (K.faults sink.old) (K.faults sink.new)
+        → (result ≡ Outcome.OutOfMemory) ⊎ IsJudgedExactly capture result }
     ensures each_capture_judged { call_of words.now ≡ Some Check
         → (text : List ℕ) → S.remaining source.old ≡ Some text
         → length text ≤ text_limit → bad_line_in (capture_in text) ≡ None
@@ -125,6 +133,8 @@ pub fn spdm<S: Source, K: Sink, E: Seeds>(
         → S.remaining source.new ≡ Some [] }
     ensures check_leaves_nothing { call_of words.now ≡ Some Check
         → left.new ≡ left.old }
+    ensures check_without_memory { call_of words.now ≡ Some Check
+        → result ≡ Outcome.OutOfMemory → sink.new ≡ sink.old }
     ensures of_captures_alone { is_of_captures result ≡ true
         → call_of words.now ≡ Some Check }
 

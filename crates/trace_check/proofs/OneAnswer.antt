@@ -1,6 +1,7 @@
 -- A text calls for one answer, and where nothing fails it is given.
-use Rattle.std.proofs.Common.{◌≡◌, ◌∙◌, ◌≤◌, ◌<◌, ◌⊎◌, inl, inr, ℕ, List, [], ◌++◌, length, refl, ap, sym, subst, arith, Option, Some, None, true, Result, Ok, Err}
-use Rattle.std.proofs.lemmas.List.{append-nil}
+use Rattle.std.proofs.Common.{◌≡◌, ◌∙◌, ◌≤◌, ◌<◌, ◌⊎◌, inl, inr, ℕ, List, [], ◌++◌, length, refl, ap, sym, subst, arith, drop, take, Bool, Option, Some, None, false, true, Result, Ok, Err}
+use Rattle.std.proofs.lemmas.Bool.{false≢true, true≢false}
+use Rattle.std.proofs.lemmas.List.{append-nil, take-append-drop}
 use Rattle.std.proofs.lemmas.Option.{none-some, same_Some}
 use Rattle.std.specs.Prelude.{is_ok}
 use Rattle.std.specs.Result.{result_unwrap_or}
@@ -20,14 +21,16 @@ use Rattle.spdm_grammar.specs.declared.told.why.Why.TheVariants as why
 use Rattle.spdm_basis.specs.Stream.{Gives, HasFault, IsQuiet}
 use Rattle.capture_machine.proofs.Captures.{beginning, has_table}
 use Rattle.capture_machine.proofs.WalksAlike.{one_reason, one_table}
-use Rattle.capture_machine.specs.Difference.{Why}
+use Rattle.capture_machine.specs.Capture.{Conforms}
+use Rattle.capture_machine.specs.Difference.{IsDifference, Why}
 use Rattle.capture_machine.specs.Difference.Why.{BadPacket, BadRecord, BadReply, BadRequest, BadVerify, UnknownEnd, WrongTurn}
-use Rattle.trace_check.specs.Answers.{Finding, HasFinding, HasVerdict, IsAnswered, answer_for}
+use Rattle.trace_check.specs.Answers.{Finding, HasFinding, HasVerdict, IsAnswered, IsCapture, IsExact, answer_for}
 use Rattle.trace_check.specs.Answers.Finding.{BadText, Judged, LongText}
 use Rattle.trace_check.specs.declared.answer.CheckAnswer.{CheckAnswer}
 use Rattle.trace_check.specs.declared.answer.CheckAnswer.TheVariants as answer
 use Rattle.trace_check.specs.declared.answer.CheckFault.{CheckFault}
 use Rattle.trace_check.specs.declared.answer.CheckFault.TheVariants as fault
+use Rattle.world_machine.specs.Setup.{Configuration}
 
 -- ---- The reason that is told is that of the definitions.
 
@@ -127,6 +130,65 @@ completely text old now (Err fault.TooLong) short good is read wrote = absurd (s
 completely text old now (Err fault.WriteFault) short good is read wrote = absurd (wrote refl)
 completely text old now (Err fault.ReadFault) short good is read wrote = absurd (read refl)
 completely text old now (Err fault.OutOfMemory) short good is read wrote = inl refl
+
+-- ---- The verdict on a capture.
+
+-- What conforms has no first difference.
+no_difference : (w : Configuration) (packets : List (List ℕ)) (number : ℕ) (why : Why) → Conforms w packets → IsDifference w packets number why → ⊥
+no_difference w packets number why conforms is =
+    is.first.at (beginning w (take number packets) (drop number packets) (subst (Conforms w) (sym (take-append-drop number packets)) conforms))
+
+abbrev conforms_in : Result CheckAnswer CheckFault → Bool
+conforms_in (Ok answer.Conforms) = true
+conforms_in _ = false
+
+abbrev number_in : Result CheckAnswer CheckFault → ℕ
+number_in (Ok (answer.Differs packet w)) = packet
+number_in _ = 0
+
+abbrev reason_in : Result CheckAnswer CheckFault → declared.Why
+reason_in (Ok (answer.Differs packet w)) = w
+reason_in _ = why.BadPacket
+
+judged_exactly : (capture : Capture) (told : Verdict) → IsVerdict (configuration_in capture.config) capture.packets told → IsExact capture (answer_for (Judged told))
+judged_exactly capture (verdict.Conforms table) has =
+    let w : Configuration = configuration_in capture.config in
+    let conforms : Conforms w capture.packets = (has_table w capture.packets).1 _ has in
+    record {
+      conforms = (λ is. conforms, λ c. refl);
+      differs = λ packet reason. (λ is. absurd (true≢false (ap conforms_in is)), λ d. absurd (no_difference w capture.packets packet (why_of reason) conforms d));
+    }
+judged_exactly capture (verdict.Differs number because) has =
+    let w : Configuration = configuration_in capture.config in
+    record {
+      conforms = (λ is. absurd (false≢true (ap conforms_in is)), λ c. absurd (no_difference w capture.packets number (why_of because) c has));
+      differs = λ packet reason. (
+        (λ is. subst (λ (n : ℕ). IsDifference w capture.packets n (why_of reason)) (ap number_in is)
+          (subst (λ (r : declared.Why). IsDifference w capture.packets number (why_of r)) (ap reason_in is) has)),
+        (λ d. let one = one_reason w capture.packets number packet (why_of because) (why_of reason) has d in
+          ap (λ (n : ℕ). answer_for (Judged (verdict.Differs n because))) one.0 ∙ ap (λ (r : declared.Why). answer_for (Judged (verdict.Differs packet r))) (one_told because reason one.1)));
+    }
+
+-- A capture that is the text has this verdict.
+text_exactly : (text : List ℕ) (capture : Capture) (told : Verdict) → IsCapture text capture → HasVerdict text told → IsExact capture (answer_for (Judged told))
+text_exactly text capture told is has =
+    let same : has.0 ≡ capture = ap (λ (r : Result Capture ScriptFault). result_unwrap_or r has.0) (sym has.1.1 ∙ is.1) in
+    judged_exactly capture told (subst (λ (c : Capture). IsVerdict (configuration_in c.config) c.packets told) same has.2)
+
+-- Where no call failed and memory did not run out, the verdict is exact.
+pub exact_verdict : (text : List ℕ) (old now : Option (List ℕ)) (capture : Capture) (given : Result CheckAnswer CheckFault)
+    → IsCapture text capture → IsAnswered text old now given → (given ≡ Err fault.ReadFault → ⊥) → (given ≡ Err fault.WriteFault → ⊥)
+    → (given ≡ Err fault.OutOfMemory) ⊎ IsExact capture given
+exact_verdict text old now capture given is answered read wrote = by_told (told_of text old now given answered read wrote)
+  where
+    by_finding : (f : Finding) → HasFinding text f → given ≡ answer_for f → IsExact capture given
+    by_finding LongText long same = absurd (short_long (length text) TEXT_LIMIT is.0 long)
+    by_finding (BadText bad) has same = absurd (no_bad_line (capture_in text) capture bad is.1 has.1)
+    by_finding (Judged told) has same = subst (IsExact capture) (sym same) (text_exactly text capture told is has)
+
+    by_told : IsTold text given → (given ≡ Err fault.OutOfMemory) ⊎ IsExact capture given
+    by_told (inl none) = inl none
+    by_told (inr own) = inr (by_finding own.0 own.1 own.2)
 
 -- ---- What was read.
 

@@ -1,5 +1,8 @@
 -- What is answered for a text as a capture, and what is written then. This project's own.
-use Rattle.std.specs.Prelude.{◌≡◌, ◌<◌, ◌≤◌, ℕ, List, length, Bool, true, false, Option, Some, Result, Ok, Err}
+use Rattle.std.specs.Prelude.{◌≡◌, ◌<◌, ◌≤◌, ◌↔◌, ℕ, List, length, Bool, true, false, Option, Some, Result, Ok, Err}
+use Rattle.capture_machine.specs.Capture.{Conforms}
+use Rattle.capture_machine.specs.Difference.{IsDifference}
+use Rattle.check_laws.specs.Judged.{why_of}
 use Rattle.check_laws.specs.declared.verdict.Seen.{Seen}
 use Rattle.check_laws.specs.declared.verdict.Verdict.{Verdict}
 use Rattle.check_laws.specs.declared.verdict.Verdict.TheVariants as verdict
@@ -13,6 +16,7 @@ use Rattle.script_text.specs.declared.texts.faults.ScriptFault.TheVariants as sc
 use Rattle.script_text.specs.declared.texts.script.Capture.{Capture}
 use Rattle.script_text.specs.declared.configuration.config_text.TheConstants.{TEXT_LIMIT}
 use Rattle.spdm_basis.specs.Stream.{Takes, TakesPrefix}
+use Rattle.spdm_grammar.specs.declared.told.why.Why.{Why}
 use Rattle.trace_check.specs.Lines.{verdict_text}
 use Rattle.trace_check.specs.declared.answer.CheckAnswer.{CheckAnswer}
 use Rattle.trace_check.specs.declared.answer.CheckAnswer.TheVariants as answer
@@ -50,6 +54,12 @@ IsAnswered text old now (Err fault.TooLong) = TEXT_LIMIT < length text
 IsAnswered text old now (Err fault.WriteFault) = (told : Verdict) × HasVerdict text told × TakesPrefix old (verdict_text told) now
 IsAnswered text old now (Err fault.ReadFault) = now ≡ old
 IsAnswered text old now (Err fault.OutOfMemory) = now ≡ old
+
+-- The verdict on a capture is exact: that it conforms where it does and nowhere else, and a packet with a reason where
+-- the first difference is that packet for this reason, and nowhere else.
+pub record IsExact (capture : Capture) (given : Result CheckAnswer CheckFault) : Type 0 where
+  pub conforms : (given ≡ Ok answer.Conforms) ↔ Conforms (configuration_in capture.config) capture.packets
+  pub differs : (packet : ℕ) (why : Why) → (given ≡ Ok (answer.Differs packet why)) ↔ IsDifference (configuration_in capture.config) capture.packets packet (why_of why)
 
 -- Nothing is written with this answer.
 abbrev pub writes_nothing : Result CheckAnswer CheckFault → Bool

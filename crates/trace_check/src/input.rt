@@ -2,7 +2,8 @@ ghost use Rattle.std.specs.Prelude.{◌≡◌, ◌≤◌, ◌⊎◌, [], ℕ, Li
 ghost use Rattle.script_text.specs.Reading.{bad_line_in};
 ghost use Rattle.script_text.specs.ScriptText.{capture_in};
 ghost use Rattle.spdm_basis.specs.Stream.{HasFault, IsQuiet};
-ghost use Rattle.trace_check.specs.Answers.{Finding, HasFinding, IsAnswered, answer_for, answer_of, fault_of, writes_nothing};
+ghost use Rattle.trace_check.specs.Answers.{Finding, HasFinding, IsAnswered, IsCapture, IsExact, answer_for, answer_of, fault_of, writes_nothing};
+ghost use Rattle.script_text.specs.declared.texts.script.Capture.{Capture};
 
 use crate::{CheckAnswer, CheckFault, check_text, write_verdict};
 use check_laws::Verdict;
@@ -67,6 +68,11 @@ pub fn check_input<S: Source, K: Sink>(
         → HasFinding text found → IsQuiet (S.faults source.old) (S.faults source.new)
         → IsQuiet (K.faults sink.old) (K.faults sink.new)
         → (result ≡ Err CheckFault.OutOfMemory) ⊎ (result ≡ answer_for found) }
+    // Of a capture, unless memory runs out, the verdict is exact.
+    ensures exact_verdict { (text : List ℕ) (capture : Capture) → S.remaining source.old ≡ Some text
+        → IsCapture text capture → IsQuiet (S.faults source.old) (S.faults source.new)
+        → IsQuiet (K.faults sink.old) (K.faults sink.new)
+        → (result ≡ Err CheckFault.OutOfMemory) ⊎ IsExact capture result }
     ensures complete { (text : List ℕ) → S.remaining source.old ≡ Some text
         → length text ≤ TEXT_LIMIT → bad_line_in (capture_in text) ≡ None
         → IsQuiet (S.faults source.old) (S.faults source.new)
