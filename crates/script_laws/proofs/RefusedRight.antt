@@ -357,8 +357,8 @@ module _ (r : Responding) (packet : List ℕ) (code : ℕ) (takes : is_worn r �
 
   by_owner : (route : RouteFields) (body : List ℕ) → gathered_from c.setup.eid c.setup.peer r.given fields ≡ Whole route body → (b : Bool) → route.owner ≡ b
       → (if not b then ignores r packet (heard.Ignored ignored.NotRequest)
-         else (if not (body_type body == SPDM || body_type body == SECURED) then ignores r packet (heard.Ignored ignored.OtherType)
-         else answers r c packet route body (responder_does c.setup c.history route.tag body (next_draw r)))).heard ≡ heard.Refused code → IsRefused r packet code
+      else (if not (body_type body == SPDM || body_type body == SECURED) then ignores r packet (heard.Ignored ignored.OtherType)
+      else answers r c packet route body (responder_does c.setup c.history route.tag body (next_draw r)))).heard ≡ heard.Refused code → IsRefused r packet code
   by_owner route body whole false owner is = not_refused (heard.Ignored ignored.NotRequest) code refl is
   by_owner route body whole true owner is = by_known route body whole owner (body_type body == SPDM || body_type body == SECURED) refl is
 

@@ -15,10 +15,10 @@ module _ (Whole : (before after : Outside) → Ending → Type 0) (Part : (befor
   -- Where there is no beginning nothing was written, and no seed is gone.
   pub not_begun : (left rest held : Option (List ℕ)) (seeds others : Option (List (List ℕ))) (n : Tries) (written : ℕ) (f : StreamFault) → others ≡ seeds → IsBeginCause left n f →
       IsCauseBy Whole Part (outside left held seeds n.read_before written n.seeded_before) (outside rest held others n.read_after written n.seeded_after) f
-  not_begun left rest held seeds others n written fault.ReadFault same is = (is, inl refl)
-  not_begun left rest held seeds others n written fault.SeedFault same is = (is.0, is.1, same, refl)
-  not_begun left rest held seeds others n written fault.TooLong same is = inl (is, refl)
-  not_begun left rest held seeds others n written (fault.BadScript line f) same is = (is, refl)
-  not_begun left rest held seeds others n written fault.OutOfMemory same is = refl
+  not_begun left rest held seeds others n written fault.ReadFault same is = (is, inl (refl, same))
+  not_begun left rest held seeds others n written fault.SeedFault same is = (is.0, is.1, (refl, same))
+  not_begun left rest held seeds others n written fault.TooLong same is = inl (is, (refl, same))
+  not_begun left rest held seeds others n written (fault.BadScript line f) same is = (is, (refl, same))
+  not_begun left rest held seeds others n written fault.OutOfMemory same is = (refl, inl same)
   not_begun left rest held seeds others n written fault.WriteFault same is = absurd is
   not_begun left rest held seeds others n written (fault.BadFrame at) same is = absurd is

@@ -76,5 +76,5 @@ module _ (before after : Outside) (begun : Begun) (rest ahead : Option (List ℕ
       subst (IsCause before after) (sym t) (subst (λ m. HasFault m after.write_faults) wrote (subst (HasFault n.written_before) writes cause.0), begun_part cause.1)
   not_served serve.TooLong cause t = subst (IsCause before after) (sym t) (inr (whole_frames TooLong cause))
   not_served (serve.BadFrame at) cause t = subst (IsCause before after) (sym t) (whole_frames (Bad at) cause)
-  not_served serve.OutOfMemory cause t = subst (IsCause before after) (sym t) cause
+  not_served serve.OutOfMemory cause t = subst (IsCause before after) (sym t) (cause, inr (begun.config, begun.seed, set_up before after begun rest is))
   not_served (serve.Responder refused) cause t = absurd t

@@ -37,21 +37,29 @@ pub record IsSetUp (c : ScriptConfig) (seed : List ℕ) (before after : Outside)
 abbrev pub IsUnwritten : (before after : Outside) → Type 0
 IsUnwritten before after = after.holds ≡ before.holds
 
+-- Nothing was written, and no seed was taken.
+abbrev pub IsUntouched : (before after : Outside) → Type 0
+IsUntouched before after = IsUnwritten before after × (after.seeds ≡ before.seeds)
+
+-- No seed was taken, or the one of the end that was set up.
+abbrev pub TookOneAtMost : (before after : Outside) → Type 0
+TookOneAtMost before after = (after.seeds ≡ before.seeds) ⊎ ((c : ScriptConfig) × (seed : List ℕ) × IsSetUp c seed before after)
+
 -- ---- What is answered. `Whole` says that what all whole frames of the stream led to was written, and no more, and that the
 -- stream ends so after them; `Part` that a prefix of what its first frames led to was written.
 
 -- The cause of a fault, and what was written before it. Memory runs out only before the first frame.
 abbrev pub IsCauseBy : (Whole : (before after : Outside) → Ending → Type 0) → (Part : (before after : Outside) → Type 0) → (before after : Outside) → StreamFault → Type 0
-IsCauseBy Whole Part before after fault.ReadFault = HasFault before.read_faults after.read_faults × (IsUnwritten before after ⊎ Part before after)
+IsCauseBy Whole Part before after fault.ReadFault = HasFault before.read_faults after.read_faults × (IsUntouched before after ⊎ Part before after)
 IsCauseBy Whole Part before after fault.WriteFault = HasFault before.write_faults after.write_faults × Part before after
 IsCauseBy Whole Part before after fault.SeedFault =
     HasFault before.seed_faults after.seed_faults × ((c : ScriptConfig) × IsConfigured c before.left)
-    × (after.seeds ≡ before.seeds) × IsUnwritten before after
-IsCauseBy Whole Part before after fault.TooLong = (IsLongText before.left × IsUnwritten before after) ⊎ Whole before after TooLong
+    × IsUntouched before after
+IsCauseBy Whole Part before after fault.TooLong = (IsLongText before.left × IsUntouched before after) ⊎ Whole before after TooLong
 IsCauseBy Whole Part before after (fault.BadFrame at) = Whole before after (Bad at)
 IsCauseBy Whole Part before after (fault.BadScript line f) =
-    IsBadText (record { line = line; fault = f }) before.left × IsUnwritten before after
-IsCauseBy Whole Part before after fault.OutOfMemory = IsUnwritten before after
+    IsBadText (record { line = line; fault = f }) before.left × IsUntouched before after
+IsCauseBy Whole Part before after fault.OutOfMemory = IsUnwritten before after × TookOneAtMost before after
 
 -- With `Ok` the stream was read to its end.
 abbrev pub IsAnsweredBy : (Whole : (before after : Outside) → Ending → Type 0) → (Part : (before after : Outside) → Type 0) → (before after : Outside) → Result (Unit {0}) StreamFault → Type 0

@@ -164,9 +164,10 @@ judged_exactly capture (verdict.Differs number because) has =
       conforms = (λ is. absurd (false≢true (ap conforms_in is)), λ c. absurd (no_difference w capture.packets number (why_of because) c has));
       differs = λ packet reason. (
         (λ is. subst (λ (n : ℕ). IsDifference w capture.packets n (why_of reason)) (ap number_in is)
-          (subst (λ (r : declared.Why). IsDifference w capture.packets number (why_of r)) (ap reason_in is) has)),
+            (subst (λ (r : declared.Why). IsDifference w capture.packets number (why_of r)) (ap reason_in is) has)),
         (λ d. let one = one_reason w capture.packets number packet (why_of because) (why_of reason) has d in
-          ap (λ (n : ℕ). answer_for (Judged (verdict.Differs n because))) one.0 ∙ ap (λ (r : declared.Why). answer_for (Judged (verdict.Differs packet r))) (one_told because reason one.1)));
+            ap (λ (n : ℕ). answer_for (Judged (verdict.Differs n because))) one.0 ∙ ap (λ (r : declared.Why). answer_for (Judged (verdict.Differs packet r))) (one_told because reason one.1)),
+      );
     }
 
 -- A capture that is the text has this verdict.
