@@ -34,7 +34,8 @@ use Rattle.responder_machine.specs.SameSession.{IsSameConnection, IsSameSession}
 use Rattle.responder_machine.specs.Setup.{RspSetup}
 use Rattle.responder_machine.specs.Turn.{Turn, is_data}
 use Rattle.responder_machine.specs.Turn.Effect.{NoEffect}
-use Rattle.script_laws.specs.Refused.{Completes, IsAnsweredByError, IsLeftBy, IsLeftByChunk, IsRefused, IsRefusedBody, IsRefusedHarmlessly, IsRefusedInChunks, IsRefusedMessage, IsRefusedRecord, RefusedByTable, RefusesIn, TableRefuses, error_body, error_record, inner_code, is_empty}
+use Rattle.script_text.specs.declared.texts.script.Script.{Script}
+use Rattle.script_laws.specs.Refused.{Completes, IsAnsweredByError, IsLeftBy, IsLeftByChunk, IsRefused, IsRefusedBody, IsRefusedHarmlessly, IsRefusedInChunks, IsRefusedMessage, IsRefusedRecord, RefusedByTable, Refuses, RefusesIn, TableRefuses, error_body, error_record, inner_code, is_empty}
 use Rattle.spdm_basis.specs.declared.DropCause.TheVariants.{NotOurs}
 use Rattle.spdm_basis.specs.declared.PacketFault.{PacketFault}
 use Rattle.spdm_basis.specs.declared.causes.record_fault.RecordFault.{RecordFault}
@@ -395,5 +396,8 @@ module _ (r : Responding) (packet : List ℕ) (code : ℕ) where
 pub refused_harmlessly : (r : Responding) (packet : List ℕ) → IsRefusedHarmlessly r packet
 refused_harmlessly r packet = record { only = refused_only r packet; all = refused_all r packet; in_chunks = refused_chunks r packet; apart = λ c route body completes sealed id differs. body_apart c.setup c.history route.tag body (next_draw r) id (slice_index body 0 == SPDM) sealed differs; harmless = harmless r packet }
 
+pub script_refuses : (script : Script) → Refuses script
+script_refuses script before entry behind is between packet given = refused_harmlessly between.responder packet
+
 pub refuses : (text : List ℕ) → RefusesIn text
-refuses text script read before entry behind is between packet given = refused_harmlessly between.responder packet
+refuses text script read = script_refuses script

@@ -162,8 +162,12 @@ pub record IsRefusedHarmlessly (r : Responding) (packet : List ℕ) : Type 0 whe
       → session_of id (after c.history (responder_does c.setup c.history route.tag body (next_draw r))) ≡ session_of id c.history
   pub harmless : IsHarmless r packet (responder_hears r packet).heard
 
--- Each packet that an event of the script that a text is gives to the responder.
-abbrev pub RefusesIn : List ℕ → Type 0
-RefusesIn text = (script : Script) → script_in text ≡ Ok script → (before : List Entry) (entry : Entry) (behind : List Entry) → script.events ≡ before ++ entry ∷ behind
+-- Each packet that an event of a script gives to the responder.
+abbrev pub Refuses : Script → Type 0
+Refuses script = (before : List Entry) (entry : Entry) (behind : List Entry) → script.events ≡ before ++ entry ∷ behind
     → (between : World) (packet : List ℕ) → IsGivenIn (world_in script before) (happening_of entry.event) between packet
     → IsRefusedHarmlessly between.responder packet
+
+-- Of the script that a text is.
+abbrev pub RefusesIn : List ℕ → Type 0
+RefusesIn text = (script : Script) → script_in text ≡ Ok script → Refuses script

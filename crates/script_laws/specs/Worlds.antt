@@ -1,9 +1,11 @@
 -- What holds of the worlds of every script, where no tags agree by chance. This project's own.
 use Rattle.std.specs.Prelude.{◌≡◌, ℕ, List, ◌++◌, Ok}
 use Rattle.script_text.specs.ScriptText.{script_in}
+use Rattle.script_text.specs.Sound.{IsSoundConfig}
 use Rattle.script_text.specs.declared.events.event.Entry.{Entry}
 use Rattle.script_text.specs.declared.texts.script.Script.{Script}
 use Rattle.script_ends.specs.Configured.{configuration_in}
+use Rattle.script_laws.specs.Refused.{Refuses}
 use Rattle.script_laws.specs.Scripts.{set_up, world_in}
 use Rattle.spdm_agreement.specs.Configured.{IsConfiguration, IsConfigured}
 use Rattle.world_machine.specs.Agreement.{Agreement, DataPrefix, HashesAgree, Matched, SealedOnce}
@@ -18,28 +20,57 @@ ReadSetUpIsConfigured = (text : List ℕ) (script : Script) → script_in text �
 
 -- ---- After each beginning of its events.
 
--- Of the script that a text is, if it is one: of the world after each beginning of its events, where nothing agreed by
--- chance up to there.
-abbrev pub InEachWorldOf : List ℕ → (World → Type 0) → Type 0
-InEachWorldOf text Holds = (script : Script) → script_in text ≡ Ok script → (before behind : List Entry) → script.events ≡ before ++ behind →
-    NoChance (world_in script before).log → Holds (world_in script before)
+-- Of a script: of the world after each beginning of its events, where nothing agreed by chance up to there.
+abbrev pub InEachWorldOf : Script → (World → Type 0) → Type 0
+InEachWorldOf script Holds = (before behind : List Entry) → script.events ≡ before ++ behind → NoChance (world_in script before).log → Holds (world_in script before)
+
+-- Of the script that a text is, if it is one.
+abbrev pub OfScriptIn : List ℕ → (Script → Type 0) → Type 0
+OfScriptIn text Holds = (script : Script) → script_in text ≡ Ok script → Holds script
 
 -- Where both ends hold open a session of one id, it is one session.
+abbrev pub Agrees : Script → Type 0
+Agrees script = InEachWorldOf script Agreement
+
 abbrev pub AgreesIn : List ℕ → Type 0
-AgreesIn text = InEachWorldOf text Agreement
+AgreesIn text = OfScriptIn text Agrees
 
 -- What an end took of application data is the beginning of what the other end sealed.
+abbrev pub Delivers : Script → Type 0
+Delivers script = InEachWorldOf script DataPrefix
+
 abbrev pub DeliversIn : List ℕ → Type 0
-DeliversIn text = InEachWorldOf text DataPrefix
+DeliversIn text = OfScriptIn text Delivers
 
 -- A session that a requester opened was opened at the responder, each at another one.
+abbrev pub Matches : Script → Type 0
+Matches script = InEachWorldOf script Matched
+
 abbrev pub MatchesIn : List ℕ → Type 0
-MatchesIn text = InEachWorldOf text Matched
+MatchesIn text = OfScriptIn text Matches
 
 -- Where both ends hold a session of one T2 open, they show one hash of it.
+abbrev pub ShowsAlike : Script → Type 0
+ShowsAlike script = InEachWorldOf script HashesAgree
+
 abbrev pub ShowsAlikeIn : List ℕ → Type 0
-ShowsAlikeIn text = InEachWorldOf text HashesAgree
+ShowsAlikeIn text = OfScriptIn text ShowsAlike
 
 -- No two different records are sealed under one purpose and number.
+abbrev pub SealsOnce : Script → Type 0
+SealsOnce script = InEachWorldOf script (λ world. SealedOnce world.log)
+
 abbrev pub SealsOnceIn : List ℕ → Type 0
-SealsOnceIn text = InEachWorldOf text (λ world. SealedOnce world.log)
+SealsOnceIn text = OfScriptIn text SealsOnce
+
+-- All of it, of each script whose configuration is in range, be it a text or generated.
+pub record HoldsOf (script : Script) : Type 0 where
+  pub agrees : Agrees script
+  pub delivers : Delivers script
+  pub matches : Matches script
+  pub shows_alike : ShowsAlike script
+  pub seals_once : SealsOnce script
+  pub refuses : Refuses script
+
+abbrev pub SoundScriptHolds : Type 0
+SoundScriptHolds = (script : Script) → IsSoundConfig script.config → HoldsOf script

@@ -3,7 +3,7 @@
 ghost use Rattle.script_laws.specs.Ends.{ConfiguredEndsHaveNoFault, ReadEndsHaveNoFault};
 ghost use Rattle.script_laws.specs.Laws.{ReadScriptIsSound};
 ghost use Rattle.script_laws.specs.Refused.{RefusedByTable, RefusesIn, TableRefuses};
-ghost use Rattle.script_laws.specs.Worlds.{AgreesIn, DeliversIn, MatchesIn, ReadSetUpIsConfigured, SealsOnceIn, ShowsAlikeIn};
+ghost use Rattle.script_laws.specs.Worlds.{AgreesIn, DeliversIn, MatchesIn, ReadSetUpIsConfigured, SealsOnceIn, ShowsAlikeIn, SoundScriptHolds};
 ghost use Rattle.std.specs.Prelude.{ℕ, List};
 
 /// A script that a text is has its configuration and its events in range.
@@ -62,6 +62,11 @@ pub fn script_seals_once()
 /// carried in the clear changes none.
 pub fn script_refuses()
     ensures { (text : List ℕ) → RefusesIn text }
+{}
+
+/// All six hold of each script whose configuration is in range, be it a text or generated.
+pub fn sound_script_holds()
+    ensures { SoundScriptHolds }
 {}
 
 /// A request, in the clear or in a record, that comes anew and that the table refuses is told as refused with the

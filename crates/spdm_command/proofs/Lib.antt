@@ -5,3 +5,4 @@ pub mod Going
 mod GeneratedSound
 mod Generating
 pub mod Judged
+pub mod GeneratedHolds

@@ -4,14 +4,16 @@ ghost use Rattle.script_text.specs.ScriptText.{capture_in};
 ghost use Rattle.script_text.specs.declared.texts.faults.LineFault.{LineFault};
 ghost use Rattle.script_text.specs.declared.texts.script.Capture.{Capture};
 ghost use Rattle.script_laws.specs.Refused.{RefusesIn};
-ghost use Rattle.script_laws.specs.Worlds.{AgreesIn, DeliversIn, MatchesIn, SealsOnceIn, ShowsAlikeIn};
+ghost use Rattle.script_laws.specs.Worlds.{AgreesIn, DeliversIn, HoldsOf, MatchesIn, SealsOnceIn, ShowsAlikeIn};
+ghost use Rattle.script_text.specs.Generator.{generated};
 ghost use Rattle.spdm_basis.specs.Stream.{HasFault, IsQuiet, Takes, TakesPrefix};
 ghost use Rattle.trace_check.specs.Answers.{Finding, HasFinding, IsCapture};
 ghost use Rattle.spdm_command.specs.Answer.{IsLeft, IsReadQuietly, answer_to, bad_line_by, full_by, input_by, is_of_scripts, output_by, ran, reads, runs_script, text_limit, writes_nothing};
 ghost use Rattle.spdm_command.specs.Checks.{IsChecked, IsJudgedExactly, is_judged, is_of_captures, outcome_for};
 ghost use Rattle.spdm_command.specs.Streams.{IsDriven, IsServed, answers_stream, is_of_streams, outcome_of};
 ghost use Rattle.spdm_command.specs.Words.{call_of};
-ghost use Rattle.spdm_command.specs.declared.words.Command.TheVariants.{Check, Drive, Serve};
+ghost use Rattle.spdm_command.specs.declared.words.Command.TheVariants.{Check, Drive, Serve, Text};
+ghost use Rattle.spdm_command.specs.declared.words.TextCommand.TheVariants.{Gen};
 ghost use Rattle.stream_commands.specs.InputEnds.{HasEnd, InputEnd, IsStreamToDrive, IsStreamToServe, answer_for};
 ghost use Rattle.stream_commands.specs.Outside.{outside};
 
@@ -32,7 +34,7 @@ use std::alloc::Global;
 /// reads a configuration up to `end`, takes one seed, and answers the frames that follow as the configured responder.
 /// `drive` does the same with the first configured requester, whose commands are frames too. `check` reads a capture,
 /// and writes whether its endpoints could have produced it.
-#[tactic(auto, using(crate::proofs::TopCall::read_is, script_laws::proofs::RefusedRight::refuses))]
+#[tactic(auto, using(crate::proofs::GeneratedHolds::generated_holds, crate::proofs::TopCall::read_is, script_laws::proofs::RefusedRight::refuses))]
 pub fn spdm<S: Source, K: Sink, E: Seeds>(
     alloc: Global,
     words: &[String],
@@ -151,6 +153,10 @@ pub fn spdm<S: Source, K: Sink, E: Seeds>(
     ensures matched { (text : List ℕ) → S.remaining source.old ≡ Some text → MatchesIn text }
     ensures sealed_once { (text : List ℕ) → S.remaining source.old ≡ Some text → SealsOnceIn text }
     ensures refused { (text : List ℕ) → S.remaining source.old ≡ Some text → RefusesIn text }
+
+    // And of the script that `gen` makes.
+    ensures generated { (seed count : ℕ) → call_of words.now ≡ Some (Text (Gen seed count))
+        → HoldsOf (generated seed count) }
 
     // Each answer comes at its cause.
     ensures usage { (result ≡ Outcome.Usage) ↔ (call_of words.now ≡ None) }
