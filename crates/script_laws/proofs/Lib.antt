@@ -10,3 +10,4 @@ pub mod ConfigTextRead
 pub mod RefusedRight
 pub mod Traces
 pub mod Going
+pub mod FewEvents

@@ -6,11 +6,13 @@ use Rattle.script_text.specs.declared.events.event.Entry.{Entry}
 use Rattle.script_text.specs.declared.texts.script.Script.{Script}
 use Rattle.script_ends.specs.Configured.{configuration_in}
 use Rattle.script_laws.specs.Refused.{Refuses}
-use Rattle.script_laws.specs.Scripts.{set_up, world_in}
+use Rattle.script_laws.specs.Scripts.{entries_in, set_up, world_in}
 use Rattle.spdm_agreement.specs.Configured.{IsConfiguration, IsConfigured}
+use Rattle.spdm_progress.specs.Honest.{AreHonest, NothingWaits}
+use Rattle.spdm_progress.specs.Scripts.{CanBeDone, IsQuietWorld, OfEachCommand, WillBeDone}
 use Rattle.world_machine.specs.Agreement.{Agreement, DataPrefix, HashesAgree, Matched, SealedOnce}
 use Rattle.world_machine.specs.Chance.{NoChance}
-use Rattle.world_machine.specs.World.{World}
+use Rattle.world_machine.specs.World.{World, new_world}
 
 -- ---- No premise is left on what is set up.
 
@@ -74,3 +76,19 @@ pub record HoldsOf (script : Script) : Type 0 where
 
 abbrev pub SoundScriptHolds : Type 0
 SoundScriptHolds = (script : Script) → IsSoundConfig script.config → HoldsOf script
+
+-- ---- Honest beginnings.
+
+-- Of a script: after each beginning of its events in which each packet is given to its end once and in order, each
+-- command finds no packet waiting, and none waits at the end, where nothing agreed by chance and each command that was
+-- answered `ok` could be done, each of these commands is done before the next one, with what it means, and the ends are
+-- quiet.
+abbrev pub Completes : Script → Type 0
+Completes script = (before behind : List Entry) → script.events ≡ before ++ behind
+    → AreHonest (new_world (set_up script)) (entries_in before) → NothingWaits (world_in script before)
+    → NoChance (world_in script before).log
+    → OfEachCommand CanBeDone (new_world (set_up script)) (entries_in before)
+    → OfEachCommand WillBeDone (new_world (set_up script)) (entries_in before) × IsQuietWorld (world_in script before)
+
+abbrev pub CompletesIn : List ℕ → Type 0
+CompletesIn text = OfScriptIn text Completes

@@ -3,7 +3,7 @@
 ghost use Rattle.script_laws.specs.Ends.{ConfiguredEndsHaveNoFault, ReadEndsHaveNoFault};
 ghost use Rattle.script_laws.specs.Laws.{ReadScriptIsSound};
 ghost use Rattle.script_laws.specs.Refused.{RefusedByTable, RefusesIn, TableRefuses};
-ghost use Rattle.script_laws.specs.Worlds.{AgreesIn, DeliversIn, MatchesIn, ReadSetUpIsConfigured, SealsOnceIn, ShowsAlikeIn, SoundScriptHolds};
+ghost use Rattle.script_laws.specs.Worlds.{AgreesIn, CompletesIn, DeliversIn, MatchesIn, ReadSetUpIsConfigured, SealsOnceIn, ShowsAlikeIn, SoundScriptHolds};
 ghost use Rattle.std.specs.Prelude.{ℕ, List};
 
 /// A script that a text is has its configuration and its events in range.
@@ -64,7 +64,14 @@ pub fn script_refuses()
     ensures { (text : List ℕ) → RefusesIn text }
 {}
 
-/// All six hold of each script whose configuration is in range, be it a text or generated.
+/// After each beginning of the events of a script that delivers honestly, each command that was answered `ok` is done
+/// before the next one, with what it means, where each of them could be done.
+pub fn script_completes()
+    ensures { (text : List ℕ) → CompletesIn text }
+{}
+
+/// What agreement, delivery and refusals say holds of each script whose configuration is in range, be it a text or
+/// generated.
 pub fn sound_script_holds()
     ensures { SoundScriptHolds }
 {}

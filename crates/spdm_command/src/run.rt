@@ -4,7 +4,7 @@ ghost use Rattle.script_text.specs.ScriptText.{capture_in};
 ghost use Rattle.script_text.specs.declared.texts.faults.LineFault.{LineFault};
 ghost use Rattle.script_text.specs.declared.texts.script.Capture.{Capture};
 ghost use Rattle.script_laws.specs.Refused.{RefusesIn};
-ghost use Rattle.script_laws.specs.Worlds.{AgreesIn, DeliversIn, HoldsOf, MatchesIn, SealsOnceIn, ShowsAlikeIn};
+ghost use Rattle.script_laws.specs.Worlds.{AgreesIn, CompletesIn, DeliversIn, HoldsOf, MatchesIn, SealsOnceIn, ShowsAlikeIn};
 ghost use Rattle.script_text.specs.Generator.{generated};
 ghost use Rattle.spdm_basis.specs.Stream.{HasFault, IsQuiet, Takes, TakesPrefix};
 ghost use Rattle.trace_check.specs.Answers.{Finding, HasFinding, IsCapture};
@@ -34,7 +34,7 @@ use std::alloc::Global;
 /// reads a configuration up to `end`, takes one seed, and answers the frames that follow as the configured responder.
 /// `drive` does the same with the first configured requester, whose commands are frames too. `check` reads a capture,
 /// and writes whether its endpoints could have produced it.
-#[tactic(auto, using(crate::proofs::GeneratedHolds::generated_holds, crate::proofs::TopCall::read_is, script_laws::proofs::RefusedRight::refuses))]
+#[tactic(auto, using(crate::proofs::GeneratedHolds::generated_holds, crate::proofs::TopCall::read_is, script_laws::proofs::RefusedRight::refuses, script_laws::proofs::WorldsRight::completes))]
 pub fn spdm<S: Source, K: Sink, E: Seeds>(
     alloc: Global,
     words: &[String],
@@ -153,6 +153,9 @@ pub fn spdm<S: Source, K: Sink, E: Seeds>(
     ensures matched { (text : List ℕ) → S.remaining source.old ≡ Some text → MatchesIn text }
     ensures sealed_once { (text : List ℕ) → S.remaining source.old ≡ Some text → SealsOnceIn text }
     ensures refused { (text : List ℕ) → S.remaining source.old ≡ Some text → RefusesIn text }
+
+    // Where delivery is honest, each command that could be done is done.
+    ensures completes { (text : List ℕ) → S.remaining source.old ≡ Some text → CompletesIn text }
 
     // And of the script that `gen` makes.
     ensures generated { (seed count : ℕ) → call_of words.now ≡ Some (Text (Gen seed count))
