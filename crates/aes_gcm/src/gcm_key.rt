@@ -1,4 +1,4 @@
-ghost use Rattle.std.specs.Prelude.{◌≡◌, ℕ, List, ◌≤◌, ◌+◌, ◌*◌, ◌↔◌, ◌⊎◌, IsOk, IfErr, OnOk, OnErr, length};
+ghost use Rattle.std.specs.Prelude.{◌≡◌, ℕ, List, ◌≤◌, ◌+◌, ◌*◌, ◌++◌, ◌↔◌, ◌⊎◌, IsOk, IfErr, OnOk, OnErr, length};
 ghost use Rattle.aes.specs.Words.{block_bytes};
 ghost use Rattle.aes_gcm.specs.Gcm.{stream_block, crypt, tag_of, lengths_block};
 ghost use Rattle.aes_gcm.specs.Behind.{crypt_behind};
@@ -18,7 +18,8 @@ fn lengths_block(aad: &[u8], text: &[u8]) -> u128
     8 * aad.len() as u128 * (1 << 64) + 8 * text.len() as u128
 }
 
-// A key of either size, with what is computed of it once. Contracts see the key.
+/// AES-128 or AES-256 in Galois/Counter Mode: a key of 16 or 32 bytes, with what is computed of it once.
+/// Contracts see the key.
 #[derive(Drop)]
 pub struct GcmKey {
     aes: Aes,
@@ -37,7 +38,7 @@ impl Model for GcmKey {
 }
 
 impl GcmKey {
-    // A key of 16 or 32 bytes.
+    /// The cipher under a key of 16 or 32 bytes.
     pub fn new(key: &[u8]) -> GcmKey
         requires { (length key.now ≡ 16) ⊎ (length key.now ≡ 32) }
         ensures { result ≡ key.now }
@@ -47,7 +48,7 @@ impl GcmKey {
         GcmKey { aes, hash }
     }
 
-    // The same key once more, with what is computed of it.
+    /// The same key once more, with what is computed of it.
     pub fn copied(&self) -> GcmKey
         ensures { result ≡ self.now }
     {
@@ -72,7 +73,8 @@ impl GcmKey {
         block_bytes(hash ^ mask)
     }
 
-    // Encrypts a text in place, and gives its tag.
+    /// Encrypts a text in place and gives the tag of the text and the associated data (SP 800-38D, section
+    /// 7.1). Both have at most 65,535 bytes. An IV serves once under a key.
     pub fn seal(&self, iv: &[u8; 12], aad: &[u8], text: &mut [u8]) -> [u8; 16]
         requires aad { length aad.now ≤ 65535 }
         requires text { length text.old ≤ 65535 }
@@ -102,7 +104,9 @@ impl GcmKey {
         Ok(())
     }
 
-    // Whether a tag is that of associated data and an encrypted text.
+    /// Tests a tag as `open` does, and decrypts nothing (SP 800-38D, section 7.2, without step 4).
+    /// Associated data and text have at most 65,535 bytes. `BadTag` comes exactly where `tag` is not the tag
+    /// of both.
     pub fn verify(
         &self,
         iv: &[u8; 12],
@@ -119,7 +123,8 @@ impl GcmKey {
         self.compare(stream_block(&self.aes, iv, 1), aad, text, tag)
     }
 
-    // Decrypts a text in place where the tag is its own.
+    /// Decrypts a text in place (SP 800-38D, section 7.2). Associated data and text have at most 65,535
+    /// bytes. `BadTag` comes exactly where `tag` is not the tag of both, and the text is then as before.
     pub fn open(
         &self,
         iv: &[u8; 12],
@@ -142,7 +147,8 @@ impl GcmKey {
         Ok(())
     }
 
-    // Encrypts or decrypts a text in place.
+    /// Encrypts or decrypts in place a text of at most 65,535 bytes, without a tag (SP 800-38D, section
+    /// 6.5): only for a text whose tag was tested, or whose tag is made after it.
     pub fn crypt(&self, iv: &[u8; 12], text: &mut [u8])
         requires { length text.old ≤ 65535 }
         ensures { text.new ≡ crypt self.now iv.now text.old }
@@ -150,10 +156,16 @@ impl GcmKey {
         crypt_in_place(&self.aes, iv, begin(&self.aes, iv, 1), text);
     }
 
-    // Encrypts or decrypts in place a text that stands behind `blocks` blocks.
+    /// Encrypts or decrypts in place, without a tag, what a text has behind its first `blocks` blocks of 16
+    /// bytes (SP 800-38D, section 6.5). The whole text has at most 65,535 bytes: only one whose tag was
+    /// tested, or whose tag is made after it.
     pub fn crypt_behind(&self, iv: &[u8; 12], blocks: usize, text: &mut [u8])
         requires { 16 * blocks + length text.old ≤ 65535 }
-        ensures { text.new ≡ crypt_behind blocks self.now iv.now text.old }
+        ensures value { text.new ≡ crypt_behind blocks self.now iv.now text.old }
+
+        // What stands in front and this text are then the whole text, encrypted or decrypted.
+        ensures whole { (front : List ℕ) → length front ≡ 16 * blocks
+            → crypt self.now iv.now (front ++ text.old) ≡ crypt self.now iv.now front ++ text.new }
     {
         crypt_behind(&self.aes, iv, blocks, text);
     }

@@ -3,13 +3,12 @@
 //! claimed to take the same time for all keys and texts.
 //!
 //! Read first: `crypted` in `specs/Gcm.antt`, a text under a key and nonce, with `tag_of` beside
-//! it. Calls are `seal` and `open` of `Aes128Gcm` and `Aes256Gcm`.
+//! it. Calls are `GcmKey::seal` and `GcmKey::open`.
 #![tactic(auto)]
 
 mod bad_tag;
-mod cipher;
 mod counter;
 mod gcm_key;
 
 pub use bad_tag::BadTag;
-pub use cipher::{Aes128Gcm, Aes256Gcm};
+pub use gcm_key::GcmKey;

@@ -2,7 +2,7 @@ use Rattle.std.proofs.Common.{◌++◌, ◌∙◌, ap, sym, List, ℕ}
 use Rattle.aes_gcm.specs.Gcm.{crypt}
 use Rattle.aes_gcm.specs.Behind.{crypt_behind}
 use Rattle.aes_gcm.proofs.Pieces.{crypt-append}
-use Rattle.aes_gcm.proofs.cipher.Aes128Gcm.crypt_behind.Goals as goal
+use Rattle.aes_gcm.proofs.gcm_key.GcmKey.crypt_behind.Goals as goal
 
 pub returns-clause-whole : goal.returns-clause-whole
 returns-clause-whole c = λ front long.
