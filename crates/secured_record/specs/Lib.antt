@@ -1,4 +1,3 @@
 pub mod Format
 pub mod Faults
 pub mod Contents
-pub mod Ciphers

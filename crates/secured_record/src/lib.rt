@@ -5,7 +5,7 @@
 //! `RecordKey::open`.
 #![tactic(auto)]
 
-mod aead;
+mod cipher;
 mod format;
 mod opening;
 mod record_key;

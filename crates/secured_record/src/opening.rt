@@ -3,17 +3,16 @@ ghost use Rattle.byteorder.specs.Endian.{little_bytes, little_number};
 ghost use Rattle.spdm_basis.specs.Sizes.{key_size};
 ghost use Rattle.aes_gcm.specs.Gcm.{crypt};
 ghost use Rattle.aes_gcm.specs.Behind.{crypt_behind};
-ghost use Rattle.secured_record.specs.Ciphers.{cipher_key};
 ghost use Rattle.spdm_basis.specs.SessionIdBytes.{session_id_bytes};
 ghost use Rattle.secured_record.specs.Format.{key_of, iv_of, record_of};
 ghost use Rattle.secured_record.specs.Contents.{IsRecordOf};
 ghost use Rattle.secured_record.specs.Faults.{header_fault, is_authentic, opened_text, text_part, fault_of, inner_of};
 ghost use Rattle.secured_record.specs.declared.TheConstants.{MAX_RECORD_SIZE, MIN_RECORD_SIZE};
 
-use crate::aead::RecordCipher;
+use crate::cipher::cipher_of;
 use crate::format::{nonce, two_bytes};
 use crate::{MAX_RECORD_SIZE, MIN_RECORD_SIZE, RecordFault};
-use aes_gcm::BadTag;
+use aes_gcm::{BadTag, GcmKey};
 use arrayvec::ArrayVec;
 use byteorder::{ByteOrder, LittleEndian};
 use key_schedule::DirectionKey;
@@ -62,15 +61,10 @@ fn text_part(sealed: &[u8]) -> &[u8]
 
 // Tests the tag of a record.
 #[tactic(auto, unfolding(crate::specs::Faults::is_authentic))]
-fn verify_record(
-    cipher: &RecordCipher,
-    iv: &[u8; 12],
-    number: u16,
-    sealed: &[u8],
-) -> Result<(), BadTag>
+fn verify_record(cipher: &GcmKey, iv: &[u8; 12], number: u16, sealed: &[u8]) -> Result<(), BadTag>
     requires least { MIN_RECORD_SIZE ≤ length sealed.now }
     requires most { length sealed.now ≤ MAX_RECORD_SIZE }
-    ensures { is_ok result ≡ is_authentic (cipher_key cipher.now) iv.now number sealed.now }
+    ensures { is_ok result ≡ is_authentic cipher.now iv.now number sealed.now }
 {
     let (header, rest) = sealed.split_at(8);
     let tag = rest.split_at(rest.len() - 16).1;
@@ -90,8 +84,8 @@ fn first_bytes(text: &[u8]) -> ArrayVec<u8, 16>
 }
 
 // The first 16 bytes of a text, or all where there are fewer, decrypted.
-fn first_block(cipher: &RecordCipher, iv: &[u8; 12], text: &[u8]) -> ArrayVec<u8, 16>
-    ensures value { result.items ≡ take 16 (crypt (cipher_key cipher.now) iv.now text.now) }
+fn first_block(cipher: &GcmKey, iv: &[u8; 12], text: &[u8]) -> ArrayVec<u8, 16>
+    ensures value { result.items ≡ take 16 (crypt cipher.now iv.now text.now) }
     ensures size { length result.items ≡ min 16 (length text.now) }
 {
     let mut block = first_bytes(text);
@@ -110,10 +104,10 @@ fn inner_length(text: &[u8]) -> u16
 
 // Decrypts in place what follows the first 14 bytes: the rest of a text after its first block, which has two bytes more
 // in front.
-fn decrypt_rest(cipher: &RecordCipher, iv: &[u8; 12], bytes: &mut [u8])
+fn decrypt_rest(cipher: &GcmKey, iv: &[u8; 12], bytes: &mut [u8])
     requires first { 14 ≤ length bytes.old }
     requires most { length bytes.old ≤ MAX_RECORD_SIZE }
-    ensures { bytes.new ≡ take 14 bytes.old ++ crypt_behind 1 (cipher_key cipher.now) iv.now
+    ensures { bytes.new ≡ take 14 bytes.old ++ crypt_behind 1 cipher.now iv.now
         (drop 14 bytes.old) }
 {
     let rest = bytes.split_at_mut(14).1;
@@ -142,16 +136,10 @@ fn write_encrypted(first: &[u8], rest: &[u8], out: &mut RecordFrame)
 }
 
 // Writes an inner message that goes on after a first block, with its encrypted rest.
-fn write_long(
-    cipher: &RecordCipher,
-    iv: &[u8; 12],
-    first: &[u8],
-    rest: &[u8],
-    out: &mut RecordFrame,
-)
+fn write_long(cipher: &GcmKey, iv: &[u8; 12], first: &[u8], rest: &[u8], out: &mut RecordFrame)
     requires first { length first.now ≡ 16 }
     requires most { length rest.now ≤ 4120 }
-    ensures { out.new ≡ drop 2 first.now ++ crypt_behind 1 (cipher_key cipher.now) iv.now rest.now }
+    ensures { out.new ≡ drop 2 first.now ++ crypt_behind 1 cipher.now iv.now rest.now }
 {
     write_encrypted(first, rest, out);
     decrypt_rest(cipher, iv, out.as_mut_slice());
@@ -159,18 +147,18 @@ fn write_long(
 
 // Writes the inner message of an encrypted text whose first block was decrypted.
 fn write_inner(
-    cipher: &RecordCipher,
+    cipher: &GcmKey,
     iv: &[u8; 12],
     first: &[u8],
     text: &[u8],
     size: usize,
     out: &mut RecordFrame,
 )
-    requires first { first.now ≡ take 16 (crypt (cipher_key cipher.now) iv.now text.now) }
+    requires first { first.now ≡ take 16 (crypt cipher.now iv.now text.now) }
     requires long { length first.now ≡ min 16 (length text.now) }
     requires within { size + 2 ≤ length text.now }
     requires most { length text.now ≤ 4136 }
-    ensures { out.new ≡ take size (drop 2 (crypt (cipher_key cipher.now) iv.now text.now)) }
+    ensures { out.new ≡ take size (drop 2 (crypt cipher.now iv.now text.now)) }
 {
     if size <= 14 {
         write_short(first, size, out);
@@ -182,7 +170,7 @@ fn write_inner(
 
 // Opens a text whose tag was tested.
 fn open_text(
-    cipher: &RecordCipher,
+    cipher: &GcmKey,
     iv: &[u8; 12],
     text: &[u8],
     out: &mut RecordFrame,
@@ -191,16 +179,16 @@ fn open_text(
     requires most { length text.now ≤ 4136 }
     ensures fault { MatchResult result
         (λ _. nat_lt (length text.now - 2)
-        (little_number 2 (crypt (cipher_key cipher.now) iv.now text.now)) ≡ false)
+        (little_number 2 (crypt cipher.now iv.now text.now)) ≡ false)
         (λ e. (e ≡ RecordFault.BadInnerLength)
         × (nat_lt (length text.now - 2)
-        (little_number 2 (crypt (cipher_key cipher.now) iv.now text.now)) ≡ true)) }
+        (little_number 2 (crypt cipher.now iv.now text.now)) ≡ true)) }
     ensures inner { OnOk result (out.new
-        ≡ take (little_number 2 (crypt (cipher_key cipher.now) iv.now text.now))
-        (drop 2 (crypt (cipher_key cipher.now) iv.now text.now))) }
+        ≡ take (little_number 2 (crypt cipher.now iv.now text.now))
+        (drop 2 (crypt cipher.now iv.now text.now))) }
     ensures bytes { OnOk result
-        (little_bytes 2 (little_number 2 (crypt (cipher_key cipher.now) iv.now text.now))
-        ≡ take 2 (crypt (cipher_key cipher.now) iv.now text.now)) }
+        (little_bytes 2 (little_number 2 (crypt cipher.now iv.now text.now))
+        ≡ take 2 (crypt cipher.now iv.now text.now)) }
     ensures unchanged { OnErr result (out.new ≡ out.old) }
 {
     let first = first_block(cipher, iv, text);
@@ -215,7 +203,7 @@ fn open_text(
 // Overwrites `out` with Decrypts the text of a record.
 #[tactic(auto, unfolding(crate::specs::Faults::opened_text))]
 pub fn decrypt_text(
-    cipher: &RecordCipher,
+    cipher: &GcmKey,
     iv: &[u8; 12],
     number: u16,
     sealed: &[u8],
@@ -223,7 +211,7 @@ pub fn decrypt_text(
 )
     requires least { MIN_RECORD_SIZE ≤ length sealed.now }
     requires most { length sealed.now ≤ MAX_RECORD_SIZE }
-    ensures { out.new ≡ opened_text (cipher_key cipher.now) iv.now number sealed.now }
+    ensures { out.new ≡ opened_text cipher.now iv.now number sealed.now }
 {
     let _ = out.replace(text_part(sealed));
     cipher.crypt(&nonce(iv, number), out.as_mut_slice());
@@ -232,7 +220,7 @@ pub fn decrypt_text(
 // Opens a record under a cipher.
 #[tactic(auto, unfolding(crate::specs::Faults::fault_of, crate::specs::Faults::inner_of, crate::specs::Faults::opened_text))]
 fn open_record(
-    cipher: &RecordCipher,
+    cipher: &GcmKey,
     iv: &[u8; 12],
     id: &[u8; 4],
     number: u16,
@@ -240,14 +228,14 @@ fn open_record(
     out: &mut RecordFrame,
 ) -> Result<(), RecordFault>
     ensures fault { MatchResult result
-        (λ _. fault_of (cipher_key cipher.now) iv.now id.now number sealed.now ≡ None)
-        (λ e. fault_of (cipher_key cipher.now) iv.now id.now number sealed.now ≡ Some e) }
+        (λ _. fault_of cipher.now iv.now id.now number sealed.now ≡ None)
+        (λ e. fault_of cipher.now iv.now id.now number sealed.now ≡ Some e) }
     ensures inner { OnOk result (out.new
-        ≡ inner_of (cipher_key cipher.now) iv.now number sealed.now) }
+        ≡ inner_of cipher.now iv.now number sealed.now) }
     ensures bytes { OnOk result
         (little_bytes 2 (little_number 2
-        (opened_text (cipher_key cipher.now) iv.now number sealed.now))
-        ≡ take 2 (opened_text (cipher_key cipher.now) iv.now number sealed.now)) }
+        (opened_text cipher.now iv.now number sealed.now))
+        ≡ take 2 (opened_text cipher.now iv.now number sealed.now)) }
     ensures unchanged { OnErr result (out.new ≡ out.old) }
 {
     if let Some(fault) = header_fault(id, number, sealed) {
@@ -261,7 +249,7 @@ fn open_record(
 
 // The same, with what it means for records.
 pub fn open_by(
-    cipher: &RecordCipher,
+    cipher: &GcmKey,
     iv: &[u8; 12],
     id: SessionId,
     number: u16,
@@ -269,19 +257,19 @@ pub fn open_by(
     out: &mut RecordFrame,
 ) -> Result<(), RecordFault>
     ensures fault { MatchResult result
-        (λ _. fault_of (cipher_key cipher.now) iv.now
+        (λ _. fault_of cipher.now iv.now
         (session_id_bytes id.req id.rsp) number sealed.now ≡ None)
-        (λ e. fault_of (cipher_key cipher.now) iv.now
+        (λ e. fault_of cipher.now iv.now
         (session_id_bytes id.req id.rsp) number sealed.now ≡ Some e) }
     ensures inner { OnOk result (out.new
-        ≡ inner_of (cipher_key cipher.now) iv.now number sealed.now) }
+        ≡ inner_of cipher.now iv.now number sealed.now) }
     ensures unchanged { OnErr result (out.new ≡ out.old) }
     ensures not_spent { IfErr result (λ e. e ≢ RecordFault.KeySpent) }
     ensures record { OnOk result
-        (IsRecordOf (cipher_key cipher.now) iv.now
+        (IsRecordOf cipher.now iv.now
         (session_id_bytes id.req id.rsp) number sealed.now out.new) }
     ensures opens { (inner pad : List ℕ)
-        → sealed.now ≡ record_of (cipher_key cipher.now) iv.now
+        → sealed.now ≡ record_of cipher.now iv.now
         (session_id_bytes id.req id.rsp) number inner pad
         → length sealed.now ≤ MAX_RECORD_SIZE → IsOk result × (out.new ≡ inner) }
 {
@@ -317,6 +305,6 @@ pub fn open(
         (session_id_bytes id.req id.rsp) number inner pad
         → length sealed.now ≤ MAX_RECORD_SIZE → IsOk result × (out.new ≡ inner) }
 {
-    let cipher = RecordCipher::new(key.aead(), key.key());
+    let cipher = cipher_of(key);
     open_by(&cipher, key.iv(), id, number, sealed, out)
 }

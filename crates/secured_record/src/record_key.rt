@@ -8,10 +8,11 @@ ghost use Rattle.secured_record.specs.Contents.{IsRecordOf};
 ghost use Rattle.secured_record.specs.Faults.{fault_of, inner_of, opened_text};
 ghost use Rattle.secured_record.specs.declared.TheConstants.{MAX_RECORD_SIZE, MIN_RECORD_SIZE};
 
-use crate::aead::RecordCipher;
+use crate::cipher::cipher_of;
 use crate::opening::{decrypt_text, open_by};
 use crate::sealing::seal_within;
 use crate::{RecordFault, TooLong};
+use aes_gcm::GcmKey;
 use key_schedule::DirectionKey;
 use spdm_basis::{RecordFrame, SessionId};
 use std::marker::Model;
@@ -21,20 +22,19 @@ use std::marker::Model;
 #[derive(Drop)]
 pub struct RecordKey {
     direction: DirectionKey,
-    cipher: RecordCipher,
+    cipher: GcmKey,
 }
 
 impl Model for RecordKey {
     ghost use Rattle.std.specs.Prelude.{◌≡◌};
     ghost use Rattle.key_schedule.specs.Keys.{DirectionSecret};
-    ghost use Rattle.secured_record.specs.Ciphers.{cipher_key};
     ghost use Rattle.secured_record.specs.Format.{key_of};
 
     ghost Value = { DirectionSecret };
 
     ghost view = { λ k. k.direction };
 
-    ghost invariant = { λ k. cipher_key k.cipher ≡ key_of k.direction };
+    ghost invariant = { λ k. k.cipher ≡ key_of k.direction };
 }
 
 impl RecordKey {
@@ -42,7 +42,7 @@ impl RecordKey {
     pub fn new(direction: DirectionKey) -> RecordKey
         ensures { result ≡ direction }
     {
-        let cipher = RecordCipher::new(direction.aead(), direction.key());
+        let cipher = cipher_of(&direction);
         RecordKey { direction, cipher }
     }
 
@@ -84,7 +84,7 @@ impl RecordKey {
             → IsSecretOf self.new (record p { epoch = p.epoch + 1 }) }
     {
         self.direction.update();
-        self.cipher = RecordCipher::new(self.direction.aead(), self.direction.key());
+        self.cipher = cipher_of(&self.direction);
     }
 
     /// How many key updates led to this key.

@@ -2,13 +2,13 @@ ghost use Rattle.std.specs.Prelude.{◌≡◌, ◌≤◌, ◌+◌, ◌++◌, ◌
 ghost use Rattle.spdm_basis.specs.Sizes.{key_size};
 ghost use Rattle.spdm_basis.specs.SessionIdBytes.{session_id_bytes};
 ghost use Rattle.aes_gcm.specs.Gcm.{crypt, tag_of};
-ghost use Rattle.secured_record.specs.Ciphers.{cipher_key};
 ghost use Rattle.secured_record.specs.Format.{plain_text, record_of, sealed_text, key_of, iv_of};
 ghost use Rattle.secured_record.specs.declared.TheConstants.{MAX_RECORD_SIZE, MIN_RECORD_SIZE};
 
-use crate::aead::RecordCipher;
+use crate::cipher::cipher_of;
 use crate::format::{header, nonce, two_bytes};
 use crate::{MAX_RECORD_SIZE, MIN_RECORD_SIZE};
+use aes_gcm::GcmKey;
 use key_schedule::DirectionKey;
 use spdm_basis::{RecordFrame, SessionId};
 use thiserror::Error;
@@ -35,13 +35,13 @@ fn write_plain(out: &mut RecordFrame, header: &[u8; 8], inner: &[u8], pad: &[u8]
 }
 
 // Encrypts in place what follows a header, and gives the tag of both.
-fn seal_behind_header(cipher: &RecordCipher, iv: &[u8; 12], bytes: &mut [u8]) -> [u8; 16]
+fn seal_behind_header(cipher: &GcmKey, iv: &[u8; 12], bytes: &mut [u8]) -> [u8; 16]
     requires header { 8 ≤ length bytes.old }
     requires most { length bytes.old ≤ MAX_RECORD_SIZE }
     ensures text { bytes.new
-        ≡ take 8 bytes.old ++ crypt (cipher_key cipher.now) iv.now (drop 8 bytes.old) }
-    ensures tag { result ≡ tag_of (cipher_key cipher.now) iv.now (take 8 bytes.old)
-        (crypt (cipher_key cipher.now) iv.now (drop 8 bytes.old)) }
+        ≡ take 8 bytes.old ++ crypt cipher.now iv.now (drop 8 bytes.old) }
+    ensures tag { result ≡ tag_of cipher.now iv.now (take 8 bytes.old)
+        (crypt cipher.now iv.now (drop 8 bytes.old)) }
 {
     let (header, text) = bytes.split_at_mut(8);
     cipher.seal(iv, header, text)
@@ -49,7 +49,7 @@ fn seal_behind_header(cipher: &RecordCipher, iv: &[u8; 12], bytes: &mut [u8]) ->
 
 // Writes the record of an inner message and padding under a cipher.
 fn seal_by(
-    cipher: &RecordCipher,
+    cipher: &GcmKey,
     iv: &[u8; 12],
     id: &[u8; 4],
     number: u16,
@@ -58,7 +58,7 @@ fn seal_by(
     out: &mut RecordFrame,
 )
     requires { length inner.now + length pad.now ≤ 4134 }
-    ensures { out.new ≡ sealed_text (cipher_key cipher.now) iv.now id.now number
+    ensures { out.new ≡ sealed_text cipher.now iv.now id.now number
         (plain_text inner.now pad.now) }
 {
     let header = header(id, number, (inner.len() + pad.len() + 18) as u16);
@@ -71,7 +71,7 @@ fn seal_by(
 // Writes the record of an inner message and padding under a cipher, where it has at most 4,160 bytes.
 #[tactic(auto, unfolding(crate::specs::Format::record_of))]
 pub fn seal_within(
-    cipher: &RecordCipher,
+    cipher: &GcmKey,
     iv: &[u8; 12],
     id: SessionId,
     number: u16,
@@ -81,7 +81,7 @@ pub fn seal_within(
 ) -> Result<(), TooLong>
     ensures fits { IsOk result ↔ (length inner.now + length pad.now + MIN_RECORD_SIZE ≤ MAX_RECORD_SIZE) }
     ensures record { OnOk result (out.new
-        ≡ record_of (cipher_key cipher.now) iv.now
+        ≡ record_of cipher.now iv.now
         (session_id_bytes id.req id.rsp) number inner.now pad.now) }
     ensures unchanged { OnErr result (out.new ≡ out.old) }
 {
@@ -109,6 +109,6 @@ pub fn seal(
         (session_id_bytes id.req id.rsp) number inner.now pad.now) }
     ensures unchanged { OnErr result (out.new ≡ out.old) }
 {
-    let cipher = RecordCipher::new(key.aead(), key.key());
+    let cipher = cipher_of(key);
     seal_within(&cipher, key.iv(), id, number, inner, pad, out)
 }

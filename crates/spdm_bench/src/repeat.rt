@@ -2,7 +2,7 @@ ghost use Rattle.std.specs.Prelude.{◌≡◌, ◌≤◌, ◌++◌, length, repl
 ghost use Rattle.byteorder.specs.Endian.{little_bytes};
 ghost use Rattle.spdm_bench.specs.Repeat.{iv_of, sealed, last_tag, last_code};
 
-use aes_gcm::Aes128Gcm;
+use aes_gcm::GcmKey;
 use byteorder::{ByteOrder, LittleEndian};
 use hmac_hkdf::hmac;
 
@@ -23,7 +23,7 @@ pub fn seal_all(text: &mut [u8], count: u64) -> [u8; 16]
     ensures text { text.new ≡ sealed text.old count }
     ensures tag { result ≡ last_tag text.old count }
 {
-    let cipher = Aes128Gcm::new(&[0u8; 16]);
+    let cipher = GcmKey::new(&[0u8; 16]);
     let mut tag = [0u8; 16];
     for number in 0..count {
         tag = cipher.seal(&iv_of(number), &[0u8; 8], text);

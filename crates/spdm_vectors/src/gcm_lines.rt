@@ -1,13 +1,6 @@
 use crate::words::{Words, array_of, bytes_of, hex_of};
-use aes_gcm::{Aes128Gcm, Aes256Gcm, BadTag};
+use aes_gcm::{BadTag, GcmKey};
 use std::alloc::Global;
-
-// A cipher under a key of either size.
-#[derive(Drop)]
-enum Cipher {
-    Short(Aes128Gcm),
-    Long(Aes256Gcm),
-}
 
 /// Galois/Counter Mode.
 pub fn told(alloc: Global, words: &Words<'_>) -> Option<String> {
@@ -26,11 +19,14 @@ pub fn told(alloc: Global, words: &Words<'_>) -> Option<String> {
     }
 }
 
-fn cipher_of(key: &str) -> Option<Cipher> {
+// The cipher under a key of 16 or 32 bytes.
+fn cipher_of(key: &str) -> Option<GcmKey> {
     if key.len() == 32 {
-        Some(Cipher::Short(Aes128Gcm::new(&array_of(key)?)))
+        let key: [u8; 16] = array_of(key)?;
+        Some(GcmKey::new(&key))
     } else {
-        Some(Cipher::Long(Aes256Gcm::new(&array_of(key)?)))
+        let key: [u8; 32] = array_of(key)?;
+        Some(GcmKey::new(&key))
     }
 }
 
@@ -40,10 +36,7 @@ fn seal(key: &str, iv: &str, aad: &[u8], text: &mut [u8]) -> Option<[u8; 16]> {
     if aad.len() > 65_535 || text.len() > 65_535 {
         return None;
     }
-    match cipher_of(key)? {
-        Cipher::Short(cipher) => Some(cipher.seal(&iv, aad, text)),
-        Cipher::Long(cipher) => Some(cipher.seal(&iv, aad, text)),
-    }
+    Some(cipher_of(key)?.seal(&iv, aad, text))
 }
 
 // Decrypts a text, if this is its tag.
@@ -58,10 +51,7 @@ fn open(
     if aad.len() > 65_535 || text.len() > 65_535 {
         return None;
     }
-    match cipher_of(key)? {
-        Cipher::Short(cipher) => Some(cipher.open(&iv, aad, text, tag)),
-        Cipher::Long(cipher) => Some(cipher.open(&iv, aad, text, tag)),
-    }
+    Some(cipher_of(key)?.open(&iv, aad, text, tag))
 }
 
 // The encrypted text and its tag.

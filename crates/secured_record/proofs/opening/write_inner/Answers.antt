@@ -2,19 +2,18 @@ use Rattle.std.proofs.Common.{ap, ◌∙◌, arith, ◌-◌, take, drop, ◌++�
 use Rattle.aes_gcm.specs.Gcm.{crypt}
 use Rattle.aes_gcm.specs.Behind.{crypt_behind}
 use Rattle.aes_gcm.proofs.Twice.{length-crypt}
-use Rattle.secured_record.specs.Ciphers.{cipher_key}
 use Rattle.secured_record.proofs.Pieces.{short_inner, long_inner}
 use Rattle.secured_record.proofs.opening.write_inner.Goals as goal
 
 pub returns-then-size-le14 : goal.returns-then-size-le14
 returns-then-size-le14 c =
-    let o = crypt (cipher_key c.args.cipher.now) c.args.iv.now c.args.text.now in
+    let o = crypt c.args.cipher.now c.args.iv.now c.args.text.now in
     c.write_short.ensures
-    ∙ short_inner o c.args.first.now c.args.size c.requires.first (omega arith) (omega (arith, length-crypt (cipher_key c.args.cipher.now) c.args.iv.now c.args.text.now))
+    ∙ short_inner o c.args.first.now c.args.size c.requires.first (omega arith) (omega (arith, length-crypt c.args.cipher.now c.args.iv.now c.args.text.now))
 
 pub returns-else-size-le14 : goal.returns-else-size-le14
 returns-else-size-le14 c =
-    let key = cipher_key c.args.cipher.now in
+    let key = c.args.cipher.now in
     let text = c.args.text.now in
     c.write_long.ensures
     ∙ ap (λ (x : List ℕ). drop 2 c.args.first.now ++ crypt_behind 1 key c.args.iv.now x)
