@@ -1,3 +1,3 @@
 pub mod Gcm
 pub mod Behind
-pub mod Counters
+pub mod Stream

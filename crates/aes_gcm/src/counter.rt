@@ -1,17 +1,16 @@
-ghost use Rattle.std.specs.Prelude.{◌≡◌, ◌<◌, ◌≤◌, ◌+◌, ◌-◌, ◌*◌, ◌/◌, ◌%◌, ◌^◌, ◌++◌, ℕ, length, slice_index, bit_xor};
+ghost use Rattle.std.specs.Prelude.{◌≡◌, ◌<◌, ◌≤◌, ◌+◌, ◌-◌, ◌*◌, ◌/◌, ◌^◌, ◌++◌, ℕ, length, slice_index, bit_xor};
 ghost use Rattle.byteorder.specs.Endian.{big_bytes};
 ghost use Rattle.aes.specs.Words.{block_bytes};
 ghost use Rattle.aes_gcm.specs.Gcm.{stream_block, crypt};
-ghost use Rattle.aes_gcm.specs.Counters.{counter_number, HasBegun};
+ghost use Rattle.aes_gcm.specs.Stream.{HasBlock};
 ghost use Rattle.aes_gcm.specs.Behind.{crypted_behind, crypt_behind};
 
-use aes::{Aes, Begun};
+use crate::primitives::BlockCipher;
 use byteorder::{BigEndian, ByteOrder};
 
 // The block of an IV and a counter.
 fn counter_block(iv: &[u8; 12], counter: u32) -> u128
-    ensures bytes { block_bytes result ≡ iv.now ++ big_bytes 4 counter }
-    ensures value { result ≡ counter_number iv.now counter }
+    ensures { block_bytes result ≡ iv.now ++ big_bytes 4 counter }
 {
     let (high, low) = iv.split_at(8);
     BigEndian::read_u64(high) as u128 * (1 << 64)
@@ -20,38 +19,46 @@ fn counter_block(iv: &[u8; 12], counter: u32) -> u128
 }
 
 /// The block of the key stream with this counter.
-pub fn stream_block(aes: &Aes, iv: &[u8; 12], counter: u32) -> u128
+pub fn stream_block(aes: &BlockCipher, iv: &[u8; 12], counter: u32) -> u128
     ensures { block_bytes result ≡ stream_block aes.now iv.now counter }
 {
     aes.encrypt_number(counter_block(iv, counter))
 }
 
-/// What can be enciphered once for all counters with the upper 24 bits of this one.
-pub fn begin(aes: &Aes, iv: &[u8; 12], counter: u32) -> Begun
-    ensures { HasBegun result aes.now iv.now counter }
+// The four blocks of the key stream from this counter on.
+fn four_blocks(aes: &BlockCipher, iv: &[u8; 12], counter: u32) -> [u128; 4]
+    requires { counter + 3 < 2 ^ 32 }
+    ensures { (b : ℕ) → b < 4
+        → block_bytes (slice_index result b) ≡ stream_block aes.now iv.now (counter + b) }
 {
-    aes.begin(counter_block(iv, counter))
+    aes.encrypt_four(&[
+        counter_block(iv, counter),
+        counter_block(iv, counter + 1),
+        counter_block(iv, counter + 2),
+        counter_block(iv, counter + 3),
+    ])
 }
 
-/// The block of the key stream with this counter, where what was begun serves it.
-pub fn begun_block(aes: &Aes, iv: &[u8; 12], begun: &Begun, counter: u32) -> u128
-    requires { HasBegun begun.now aes.now iv.now counter }
-    ensures { block_bytes result ≡ stream_block aes.now iv.now counter }
+/// Four blocks of the key stream, among them block `n`. Block 0 has the counter 1.
+pub fn blocks_at(aes: &BlockCipher, iv: &[u8; 12], n: usize) -> [u128; 4]
+    requires { n ≤ 65535 }
+    ensures { HasBlock result aes.now iv.now n }
 {
-    aes.encrypt_begun(begun, (counter % 256) as u8)
+    four_blocks(aes, iv, (n / 4 * 4 + 1) as u32)
 }
 
-// The block of the key stream with this counter, where what was begun serves the one before.
-fn next_block(aes: &Aes, iv: &[u8; 12], begun: &mut Begun, counter: u32) -> u128
-    requires first { 0 < counter }
-    requires begun { HasBegun begun.old aes.now iv.now (counter - 1) }
-    ensures begun { HasBegun begun.new aes.now iv.now counter }
-    ensures block { block_bytes result ≡ stream_block aes.now iv.now counter }
+// Block `n` of the key stream, where `stream` has the block before.
+fn next_block(aes: &BlockCipher, iv: &[u8; 12], stream: &mut [u128; 4], n: usize) -> u128
+    requires first { 0 < n }
+    requires small { n ≤ 65535 }
+    requires stream { HasBlock stream.old aes.now iv.now (n - 1) }
+    ensures stream { HasBlock stream.new aes.now iv.now n }
+    ensures block { block_bytes result ≡ stream_block aes.now iv.now (n + 1) }
 {
-    if counter % 256 == 0 {
-        *begun = begin(aes, iv, counter);
+    if n % 4 == 0 {
+        *stream = blocks_at(aes, iv, n);
     }
-    begun_block(aes, iv, begun, counter)
+    stream[n % 4]
 }
 
 // The sum of eight bytes and half a block of the key stream.
@@ -87,68 +94,88 @@ fn mask(text: &mut [u8], at: usize, stream: u64)
     mask_half(&mut text[at..at + 8], stream);
 }
 
-// Encrypts or decrypts in place block `n` of a text that stands behind `first` blocks, where what was begun
-// serves the counter of the block before.
-fn crypt_block(aes: &Aes, iv: &[u8; 12], begun: &mut Begun, first: usize, text: &mut [u8], n: usize)
+// Encrypts or decrypts in place block `n` of a text that stands behind `first` blocks, where `stream` has the block of
+// the key stream before its own.
+fn crypt_block(
+    aes: &BlockCipher,
+    iv: &[u8; 12],
+    stream: &mut [u128; 4],
+    first: usize,
+    text: &mut [u8],
+    n: usize,
+)
     requires whole { 16 * n + 16 ≤ length text.old }
     requires small { 16 * first + length text.old ≤ 65535 }
-    requires begun { HasBegun begun.old aes.now iv.now (first + n + 1) }
+    requires stream { HasBlock stream.old aes.now iv.now (first + n) }
     ensures block { (k : ℕ) → 16 * n ≤ k → k < 16 * n + 16
         → slice_index text.new k ≡ crypted_behind first aes.now iv.now text.old k }
     ensures before { (k : ℕ) → k < 16 * n → slice_index text.new k ≡ slice_index text.old k }
     ensures behind { (k : ℕ) → 16 * n + 16 ≤ k → slice_index text.new k ≡ slice_index text.old k }
-    ensures begun { HasBegun begun.new aes.now iv.now (first + n + 2) }
+    ensures stream { HasBlock stream.new aes.now iv.now (first + n + 1) }
 {
-    let stream = next_block(aes, iv, begun, (first + n) as u32 + 2);
-    mask(text, 16 * n, (stream >> 64) as u64);
-    mask(text, 16 * n + 8, (stream % (1 << 64)) as u64);
+    let block = next_block(aes, iv, stream, first + n + 1);
+    mask(text, 16 * n, (block >> 64) as u64);
+    mask(text, 16 * n + 8, (block % (1 << 64)) as u64);
 }
 
-// Encrypts or decrypts in place what a text that stands behind `first` blocks has behind its `n` whole
-// blocks, where what was begun serves the counter of the block before.
-fn crypt_rest(aes: &Aes, iv: &[u8; 12], begun: &mut Begun, first: usize, text: &mut [u8], n: usize)
+// Encrypts or decrypts in place what a text that stands behind `first` blocks has behind its `n` whole blocks, where
+// `stream` has the block of the key stream before its own.
+fn crypt_rest(
+    aes: &BlockCipher,
+    iv: &[u8; 12],
+    stream: &mut [u128; 4],
+    first: usize,
+    text: &mut [u8],
+    n: usize,
+)
     requires rest { length text.old / 16 ≡ n }
     requires small { 16 * first + length text.old ≤ 65535 }
-    requires begun { HasBegun begun.old aes.now iv.now (first + n + 1) }
+    requires stream { HasBlock stream.old aes.now iv.now (first + n) }
     ensures rest { (k : ℕ) → 16 * n ≤ k → k < length text.old
         → slice_index text.new k ≡ crypted_behind first aes.now iv.now text.old k }
     ensures before { (k : ℕ) → k < 16 * n → slice_index text.new k ≡ slice_index text.old k }
 {
-    let stream = next_block(aes, iv, begun, (first + n) as u32 + 2).to_be_bytes();
+    let block = next_block(aes, iv, stream, first + n + 1).to_be_bytes();
     for i in 16 * n..text.len() {
-        text[i] ^= stream[i - 16 * n];
+        text[i] ^= block[i - 16 * n];
     }
 }
 
-/// Encrypts or decrypts in place a text that stands behind `first` blocks, where what was begun serves the
-/// counter of the last of them, or 1.
-pub fn crypt_from(aes: &Aes, iv: &[u8; 12], mut begun: Begun, first: usize, text: &mut [u8])
+/// Encrypts or decrypts in place a text that stands behind `first` blocks, where `stream` has the block of the key
+/// stream before its own.
+pub fn crypt_from(
+    aes: &BlockCipher,
+    iv: &[u8; 12],
+    mut stream: [u128; 4],
+    first: usize,
+    text: &mut [u8],
+)
     requires small { 16 * first + length text.old ≤ 65535 }
-    requires begun { HasBegun begun aes.now iv.now (first + 1) }
+    requires stream { HasBlock stream aes.now iv.now first }
     ensures { text.new ≡ crypt_behind first aes.now iv.now text.old }
 {
     let whole = text.len() / 16;
     for n in 0..whole {
-        crypt_block(aes, iv, &mut begun, first, text, n);
+        crypt_block(aes, iv, &mut stream, first, text, n);
     }
     if text.len() % 16 > 0 {
-        crypt_rest(aes, iv, &mut begun, first, text, whole);
+        crypt_rest(aes, iv, &mut stream, first, text, whole);
     }
 }
 
 /// Encrypts or decrypts in place a text that stands behind `first` blocks.
-pub fn crypt_behind(aes: &Aes, iv: &[u8; 12], first: usize, text: &mut [u8])
+pub fn crypt_behind(aes: &BlockCipher, iv: &[u8; 12], first: usize, text: &mut [u8])
     requires { 16 * first + length text.old ≤ 65535 }
     ensures { text.new ≡ crypt_behind first aes.now iv.now text.old }
 {
-    crypt_from(aes, iv, begin(aes, iv, first as u32 + 1), first, text);
+    crypt_from(aes, iv, blocks_at(aes, iv, first), first, text);
 }
 
-/// Encrypts or decrypts a text in place, where what was begun serves the counter 1.
-pub fn crypt_in_place(aes: &Aes, iv: &[u8; 12], begun: Begun, text: &mut [u8])
+/// Encrypts or decrypts a text in place, where `stream` has the block of the key stream with the counter 1.
+pub fn crypt_in_place(aes: &BlockCipher, iv: &[u8; 12], stream: [u128; 4], text: &mut [u8])
     requires small { length text.old ≤ 65535 }
-    requires begun { HasBegun begun aes.now iv.now 1 }
+    requires stream { HasBlock stream aes.now iv.now 0 }
     ensures { text.new ≡ crypt aes.now iv.now text.old }
 {
-    crypt_from(aes, iv, begun, 0, text);
+    crypt_from(aes, iv, stream, 0, text);
 }

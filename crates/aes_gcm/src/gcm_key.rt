@@ -4,9 +4,9 @@ ghost use Rattle.aes_gcm.specs.Gcm.{stream_block, crypt, tag_of, lengths_block};
 ghost use Rattle.aes_gcm.specs.Behind.{crypt_behind};
 
 use crate::BadTag;
-use crate::counter::{begin, begun_block, crypt_behind, crypt_in_place, stream_block};
-use aes::Aes;
-use ghash::{HashKey, block_bytes};
+use crate::counter::{blocks_at, crypt_behind, crypt_in_place, stream_block};
+use crate::primitives::{BlockCipher, BlockHash};
+use ghash::block_bytes;
 use std::marker::Model;
 
 // The lengths of the associated data and of the text in bits, in one block.
@@ -22,8 +22,8 @@ fn lengths_block(aad: &[u8], text: &[u8]) -> u128
 /// Contracts see the key.
 #[derive(Drop)]
 pub struct GcmKey {
-    aes: Aes,
-    hash: HashKey,
+    aes: BlockCipher,
+    hash: BlockHash,
 }
 
 impl Model for GcmKey {
@@ -43,8 +43,8 @@ impl GcmKey {
         requires { (length key.now ≡ 16) ⊎ (length key.now ≡ 32) }
         ensures { result ≡ key.now }
     {
-        let aes = Aes::new(key);
-        let hash = HashKey::new(aes.encrypt_number(0));
+        let aes = BlockCipher::new(key);
+        let hash = BlockHash::new(aes.encrypt_number(0));
         GcmKey { aes, hash }
     }
 
@@ -81,10 +81,9 @@ impl GcmKey {
         ensures text { text.new ≡ crypt self.now iv.now text.old }
         ensures tag { result ≡ tag_of self.now iv.now aad.now text.new }
     {
-        let begun = begin(&self.aes, iv, 1);
-        let mask = begun_block(&self.aes, iv, &begun, 1);
-        crypt_in_place(&self.aes, iv, begun, text);
-        self.tag(mask, aad, text)
+        let stream = blocks_at(&self.aes, iv, 0);
+        crypt_in_place(&self.aes, iv, stream, text);
+        self.tag(stream[0], aad, text)
     }
 
     // Whether a tag is that of associated data and an encrypted text, where `mask` is the block of the key
@@ -140,10 +139,9 @@ impl GcmKey {
             (λ e. e.computed ≡ tag_of self.now iv.now aad.now text.old) }
         ensures unchanged { OnErr result (text.new ≡ text.old) }
     {
-        let begun = begin(&self.aes, iv, 1);
-        let mask = begun_block(&self.aes, iv, &begun, 1);
-        self.compare(mask, aad, text, tag)?;
-        crypt_in_place(&self.aes, iv, begun, text);
+        let stream = blocks_at(&self.aes, iv, 0);
+        self.compare(stream[0], aad, text, tag)?;
+        crypt_in_place(&self.aes, iv, stream, text);
         Ok(())
     }
 
@@ -153,7 +151,7 @@ impl GcmKey {
         requires { length text.old ≤ 65535 }
         ensures { text.new ≡ crypt self.now iv.now text.old }
     {
-        crypt_in_place(&self.aes, iv, begin(&self.aes, iv, 1), text);
+        crypt_in_place(&self.aes, iv, blocks_at(&self.aes, iv, 0), text);
     }
 
     /// Encrypts or decrypts in place, without a tag, what a text has behind its first `blocks` blocks of 16

@@ -9,6 +9,7 @@
 mod bad_tag;
 mod counter;
 mod gcm_key;
+mod primitives;
 
 pub use bad_tag::BadTag;
 pub use gcm_key::GcmKey;
