@@ -6,6 +6,7 @@ use crate::slices::Slices;
 
 /// SubBytes (FIPS 197, section 5.1.1) on 64 bytes at once, by the circuit of Boyar and Peralta (A depth-16
 /// circuit for the AES S-box, 2011), whose names the signals have.
+#[inline(always)]
 pub fn substituted(x: &Slices) -> Slices
     ensures { (p : ℕ) → p < 64 → byte_at result p ≡ sbox_of (byte_at x.now p) }
 {

@@ -27,6 +27,7 @@ fn combined(next: &Slices, sum: &Slices, rest: &Slices) -> Slices
 }
 
 /// MixColumns (FIPS 197, section 5.1.3) of states whose rows stand where the standard has them.
+#[inline(always)]
 pub fn mixed(s: &Slices) -> Slices
     ensures { (b : ℕ) → b < 4 → block_at 0 result b ≡ mix_columns (block_at 0 s.now b) }
 {
@@ -36,6 +37,7 @@ pub fn mixed(s: &Slices) -> Slices
 }
 
 /// MixColumns (FIPS 197, section 5.1.3) of states whose rows were shifted once without moving a byte.
+#[inline(always)]
 pub fn mixed_turned_once(s: &Slices) -> Slices
     ensures { (b : ℕ) → b < 4 → block_at 1 result b ≡ mix_columns (block_at 1 s.now b) }
 {
@@ -45,6 +47,7 @@ pub fn mixed_turned_once(s: &Slices) -> Slices
 }
 
 /// MixColumns (FIPS 197, section 5.1.3) of states whose rows were shifted twice without moving a byte.
+#[inline(always)]
 pub fn mixed_turned_twice(s: &Slices) -> Slices
     ensures { (b : ℕ) → b < 4 → block_at 2 result b ≡ mix_columns (block_at 2 s.now b) }
 {
@@ -54,6 +57,7 @@ pub fn mixed_turned_twice(s: &Slices) -> Slices
 }
 
 /// MixColumns (FIPS 197, section 5.1.3) of states whose rows were shifted thrice without moving a byte.
+#[inline(always)]
 pub fn mixed_turned_thrice(s: &Slices) -> Slices
     ensures { (b : ℕ) → b < 4 → block_at 3 result b ≡ mix_columns (block_at 3 s.now b) }
 {

@@ -68,6 +68,7 @@ fn transposed(first: u64, second: u64, third: u64, fourth: u64) -> [u64; 4]
 }
 
 /// The slices of four blocks, each the number that its 16 bytes read as, the highest first.
+#[inline(always)]
 pub fn packed(blocks: &[u128; 4]) -> Slices
     ensures { (b : ℕ) → b < 4
         → block_at 0 result b ≡ block_bytes (slice_index blocks.now b) }
@@ -91,6 +92,7 @@ pub fn packed(blocks: &[u128; 4]) -> Slices
 }
 
 /// The four blocks of slices.
+#[inline(always)]
 pub fn unpacked(s: &Slices) -> [u128; 4]
     ensures { (b : ℕ) → b < 4
         → block_bytes (slice_index result b) ≡ block_at 0 s.now b }

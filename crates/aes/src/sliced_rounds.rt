@@ -9,6 +9,7 @@ use crate::turning::shifted_twice;
 
 /// A round (FIPS 197, section 5.1) on states whose rows were shifted never without moving a byte. After
 /// it they were shifted once.
+#[inline(always)]
 pub fn first_round(s: &Slices, key: &Slices) -> Slices
     ensures { (b : ℕ) → b < 4 → block_at 1 result b
         ≡ add_round_key (mix_columns (shift_rows (sub_bytes (block_at 0 s.now b))))
@@ -19,6 +20,7 @@ pub fn first_round(s: &Slices, key: &Slices) -> Slices
 
 /// A round (FIPS 197, section 5.1) on states whose rows were shifted once without moving a byte. After
 /// it they were shifted twice.
+#[inline(always)]
 pub fn second_round(s: &Slices, key: &Slices) -> Slices
     ensures { (b : ℕ) → b < 4 → block_at 2 result b
         ≡ add_round_key (mix_columns (shift_rows (sub_bytes (block_at 1 s.now b))))
@@ -29,6 +31,7 @@ pub fn second_round(s: &Slices, key: &Slices) -> Slices
 
 /// A round (FIPS 197, section 5.1) on states whose rows were shifted twice without moving a byte. After
 /// it they were shifted thrice.
+#[inline(always)]
 pub fn third_round(s: &Slices, key: &Slices) -> Slices
     ensures { (b : ℕ) → b < 4 → block_at 3 result b
         ≡ add_round_key (mix_columns (shift_rows (sub_bytes (block_at 2 s.now b))))
@@ -39,6 +42,7 @@ pub fn third_round(s: &Slices, key: &Slices) -> Slices
 
 /// A round (FIPS 197, section 5.1) on states whose rows were shifted thrice without moving a byte. After
 /// it they were shifted four times, which is never.
+#[inline(always)]
 pub fn fourth_round(s: &Slices, key: &Slices) -> Slices
     ensures { (b : ℕ) → b < 4 → block_at 0 result b
         ≡ add_round_key (mix_columns (shift_rows (sub_bytes (block_at 3 s.now b))))
@@ -49,6 +53,7 @@ pub fn fourth_round(s: &Slices, key: &Slices) -> Slices
 
 /// The last round, which leaves MixColumns out (FIPS 197, section 5.1), on states whose rows were shifted once
 /// without moving a byte. After it each byte stands where the standard has it.
+#[inline(always)]
 pub fn last_round(s: &Slices, key: &Slices) -> Slices
     ensures { (b : ℕ) → b < 4 → block_at 0 result b
         ≡ add_round_key (shift_rows (sub_bytes (block_at 1 s.now b))) (block_at 0 key.now b) }
