@@ -1,8 +1,10 @@
 -- A text encrypted or decrypted piece by piece.
-use Rattle.std.proofs.Common.{◌≡◌, ℕ, ◌+◌, ◌-◌, ◌*◌, ◌/◌, ◌%◌, ◌<◌, ◌≤◌, List, ◌++◌, length, get_or, take, refl, ap, sym, ◌∙◌, arith, inl, inr, length-append}
-use Rattle.std.specs.Prelude.{bit_xor}
+use Rattle.std.proofs.Common.{◌≡◌, ℕ, ◌+◌, ◌-◌, ◌*◌, ◌/◌, ◌%◌, ◌<◌, ◌≤◌, List, ◌++◌, length, get_or, take, drop, refl, ap, sym, ◌∙◌, arith, inl, inr, length-append}
+use Rattle.std.specs.Prelude.{bit_xor, min}
+use Rattle.std.specs.List.{refill}
+use Rattle.std.proofs.Math.Seq.{take-append_seam}
 use Rattle.std.proofs.lemmas.Bool.{cases_lt}
-use Rattle.std.proofs.lemmas.List.{get_or_append_left, get_or-append_right, get_or-take, length-take-le}
+use Rattle.std.proofs.lemmas.List.{get_or_append_left, get_or-append_right, get_or-take, length-take-le, take_min}
 use Rattle.std.proofs.lemmas.List.FromFn.{length-map-range_with_len, get_or-map-range_with_len, take-map-range_with_len, fill_by_all}
 use Rattle.aes_gcm.specs.Gcm.{stream_block, crypted, crypt}
 use Rattle.aes_gcm.specs.Behind.{crypted_behind, crypt_behind}
@@ -62,3 +64,25 @@ crypt_behind-take blocks key iv text n h =
     (λ k lt. get_or-crypt_behind blocks key iv (take n text) k (omega arith)
     ∙ ap (λ (t : ℕ). bit_xor t (get_or (stream_block key iv (blocks + k / 16 + 2)) (k % 16) 0)) (get_or-take n text k 0 lt))
     ∙ sym (take-map-range_with_len (crypted_behind blocks key iv text) 0 (length text) n h)
+
+-- the first bytes of a text, or all where there are fewer
+pub crypt-first : (n : ℕ) (key iv text : List ℕ) → crypt key iv (take n text) ≡ take n (crypt key iv text)
+crypt-first n key iv text =
+    let o = crypt key iv text in
+    let same : min n (length text) ≡ min n (length o) = ap (min n) (sym (length-crypt key iv text)) in
+    ap (crypt key iv) (sym (take_min n text))
+    ∙ crypt-take key iv text (min n (length text)) (omega arith)
+    ∙ ap (λ (m : ℕ). take m o) same
+    ∙ take_min n o
+
+-- as many bytes as there were replace them
+pub refill-all : (n : ℕ) (xs ws : List ℕ) → n ≡ length ws → refill n xs ws ≡ ws
+refill-all n xs ws e = ap (λ k. take k (ws ++ drop (length ws) xs)) e ∙ take-append_seam ws (drop (length ws) xs)
+
+-- and encrypted or decrypted in a buffer of their own
+pub first_crypted : (n : ℕ) (key iv text b lent left : List ℕ) → b ≡ take n text → lent ≡ b → left ≡ crypt key iv lent
+    → refill (length b) b left ≡ take n (crypt key iv text)
+first_crypted n key iv text b lent left e same f =
+    let g : left ≡ crypt key iv b = f ∙ ap (crypt key iv) same in
+    refill-all (length b) b left (sym (ap length g ∙ length-crypt key iv b))
+    ∙ g ∙ ap (crypt key iv) e ∙ crypt-first n key iv text

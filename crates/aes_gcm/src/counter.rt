@@ -2,7 +2,7 @@ ghost use Rattle.std.specs.Prelude.{◌≡◌, ◌<◌, ◌≤◌, ◌+◌, ◌-
 ghost use Rattle.byteorder.specs.Endian.{big_bytes};
 ghost use Rattle.aes.specs.Words.{block_bytes};
 ghost use Rattle.aes_gcm.specs.Gcm.{stream_block, crypt};
-ghost use Rattle.aes_gcm.specs.Stream.{HasBlock};
+ghost use Rattle.aes_gcm.specs.Stream.{HasBlock, IsReady};
 ghost use Rattle.aes_gcm.specs.Behind.{crypted_behind, crypt_behind};
 
 use crate::primitives::BlockCipher;
@@ -47,11 +47,10 @@ pub fn blocks_at(aes: &BlockCipher, iv: &[u8; 12], n: usize) -> [u128; 4]
     four_blocks(aes, iv, (n / 4 * 4 + 1) as u32)
 }
 
-// Block `n` of the key stream, where `stream` has the block before.
+// Block `n` of the key stream, where `stream` has it or it begins the next four.
 fn next_block(aes: &BlockCipher, iv: &[u8; 12], stream: &mut [u128; 4], n: usize) -> u128
-    requires first { 0 < n }
     requires small { n ≤ 65535 }
-    requires stream { HasBlock stream.old aes.now iv.now (n - 1) }
+    requires stream { IsReady stream.old aes.now iv.now n }
     ensures stream { HasBlock stream.new aes.now iv.now n }
     ensures block { block_bytes result ≡ stream_block aes.now iv.now (n + 1) }
 {
@@ -94,8 +93,8 @@ fn mask(text: &mut [u8], at: usize, stream: u64)
     mask_half(&mut text[at..at + 8], stream);
 }
 
-// Encrypts or decrypts in place block `n` of a text that stands behind `first` blocks, where `stream` has the block of
-// the key stream before its own.
+// Encrypts or decrypts in place block `n` of a text that stands behind `first` blocks, where `stream` has its block of
+// the key stream or that begins the next four.
 fn crypt_block(
     aes: &BlockCipher,
     iv: &[u8; 12],
@@ -106,12 +105,12 @@ fn crypt_block(
 )
     requires whole { 16 * n + 16 ≤ length text.old }
     requires small { 16 * first + length text.old ≤ 65535 }
-    requires stream { HasBlock stream.old aes.now iv.now (first + n) }
+    requires stream { IsReady stream.old aes.now iv.now (first + n + 1) }
     ensures block { (k : ℕ) → 16 * n ≤ k → k < 16 * n + 16
         → slice_index text.new k ≡ crypted_behind first aes.now iv.now text.old k }
     ensures before { (k : ℕ) → k < 16 * n → slice_index text.new k ≡ slice_index text.old k }
     ensures behind { (k : ℕ) → 16 * n + 16 ≤ k → slice_index text.new k ≡ slice_index text.old k }
-    ensures stream { HasBlock stream.new aes.now iv.now (first + n + 1) }
+    ensures stream { IsReady stream.new aes.now iv.now (first + n + 2) }
 {
     let block = next_block(aes, iv, stream, first + n + 1);
     mask(text, 16 * n, (block >> 64) as u64);
@@ -130,7 +129,7 @@ fn crypt_rest(
 )
     requires rest { length text.old / 16 ≡ n }
     requires small { 16 * first + length text.old ≤ 65535 }
-    requires stream { HasBlock stream.old aes.now iv.now (first + n) }
+    requires stream { IsReady stream.old aes.now iv.now (first + n + 1) }
     ensures rest { (k : ℕ) → 16 * n ≤ k → k < length text.old
         → slice_index text.new k ≡ crypted_behind first aes.now iv.now text.old k }
     ensures before { (k : ℕ) → k < 16 * n → slice_index text.new k ≡ slice_index text.old k }
@@ -151,7 +150,7 @@ pub fn crypt_from(
     text: &mut [u8],
 )
     requires small { 16 * first + length text.old ≤ 65535 }
-    requires stream { HasBlock stream aes.now iv.now first }
+    requires stream { IsReady stream aes.now iv.now (first + 1) }
     ensures { text.new ≡ crypt_behind first aes.now iv.now text.old }
 {
     let whole = text.len() / 16;
@@ -168,7 +167,12 @@ pub fn crypt_behind(aes: &BlockCipher, iv: &[u8; 12], first: usize, text: &mut [
     requires { 16 * first + length text.old ≤ 65535 }
     ensures { text.new ≡ crypt_behind first aes.now iv.now text.old }
 {
-    crypt_from(aes, iv, blocks_at(aes, iv, first), first, text);
+    let stream = if first % 4 == 3 {
+        [0; 4]
+    } else {
+        blocks_at(aes, iv, first + 1)
+    };
+    crypt_from(aes, iv, stream, first, text);
 }
 
 /// Encrypts or decrypts a text in place, where `stream` has the block of the key stream with the counter 1.

@@ -1,4 +1,4 @@
-ghost use Rattle.std.specs.Prelude.{◌≡◌, ℕ, List, ◌≤◌, ◌+◌, ◌*◌, ◌++◌, ◌↔◌, ◌⊎◌, IsOk, IfErr, OnOk, OnErr, length};
+ghost use Rattle.std.specs.Prelude.{◌≡◌, ℕ, List, ◌≤◌, ◌+◌, ◌*◌, ◌++◌, ◌↔◌, ◌⊎◌, IsOk, IfOk, IfErr, OnOk, OnErr, length, take};
 ghost use Rattle.aes.specs.Words.{block_bytes};
 ghost use Rattle.aes_gcm.specs.Gcm.{stream_block, crypt, tag_of, lengths_block};
 ghost use Rattle.aes_gcm.specs.Behind.{crypt_behind};
@@ -6,6 +6,8 @@ ghost use Rattle.aes_gcm.specs.Behind.{crypt_behind};
 use crate::BadTag;
 use crate::counter::{blocks_at, crypt_behind, crypt_in_place, stream_block};
 use crate::primitives::{BlockCipher, BlockHash};
+use arrayvec::ArrayVec;
+use byte_compare::same_bytes;
 use ghash::block_bytes;
 use std::marker::Model;
 
@@ -16,6 +18,15 @@ fn lengths_block(aad: &[u8], text: &[u8]) -> u128
     ensures { result ≡ lengths_block aad.now text.now }
 {
     8 * aad.len() as u128 * (1 << 64) + 8 * text.len() as u128
+}
+
+// The first 48 bytes, or all where there are fewer.
+fn first_bytes(text: &[u8]) -> ArrayVec<u8, 48>
+    ensures { result.items ≡ take 48 text.now }
+{
+    let mut bytes = ArrayVec::<u8, 48>::new();
+    let _ = bytes.try_extend_from_slice(text.split_at(48.min(text.len())).0);
+    bytes
 }
 
 /// AES-128 or AES-256 in Galois/Counter Mode: a key of 16 or 32 bytes, with what is computed of it once.
@@ -97,7 +108,7 @@ impl GcmKey {
             → IfErr result (λ e. e.computed ≡ tag_of self.now iv aad.now text.now) }
     {
         let computed = self.tag(mask, aad, text);
-        if computed != *tag {
+        if !same_bytes(&computed, tag) {
             return Err(BadTag { computed });
         }
         Ok(())
@@ -120,6 +131,31 @@ impl GcmKey {
             (λ e. e.computed ≡ tag_of self.now iv.now aad.now text.now) }
     {
         self.compare(stream_block(&self.aes, iv, 1), aad, text, tag)
+    }
+
+    /// Tests a tag as `open` does, and gives the first 48 bytes of the text decrypted, or all where there are
+    /// fewer: what the blocks of the key stream suffice for that the test makes at once. Associated data and
+    /// text have at most 65,535 bytes. `BadTag` comes exactly where `tag` is not the tag of both.
+    pub fn open_first(
+        &self,
+        iv: &[u8; 12],
+        aad: &[u8],
+        text: &[u8],
+        tag: &[u8; 16],
+    ) -> Result<ArrayVec<u8, 48>, BadTag>
+        requires aad { length aad.now ≤ 65535 }
+        requires text { length text.now ≤ 65535 }
+        ensures opens { IsOk result ↔ (tag.now ≡ tag_of self.now iv.now aad.now text.now) }
+        ensures first { IfOk result (λ b. b.items ≡ take 48 (crypt self.now iv.now text.now)) }
+        ensures computed { IfErr result
+            (λ e. e.computed ≡ tag_of self.now iv.now aad.now text.now) }
+    {
+        let stream = blocks_at(&self.aes, iv, 0);
+        let mask = stream[0];
+        self.compare(mask, aad, text, tag)?;
+        let mut first = first_bytes(text);
+        crypt_in_place(&self.aes, iv, stream, first.as_mut_slice());
+        Ok(first)
     }
 
     /// Decrypts a text in place (SP 800-38D, section 7.2). Associated data and text have at most 65,535

@@ -6,12 +6,9 @@ use Rattle.std.proofs.Math.Seq.{take-append_seam, drop-append_seam}
 use Rattle.aes_gcm.specs.Gcm.{crypt, tag_of}
 use Rattle.aes_gcm.proofs.Tags.{length-tag_of}
 use Rattle.aes_gcm.proofs.Twice.{length-crypt}
+use Rattle.aes_gcm.proofs.Pieces.{refill-all}
 use Rattle.byteorder.specs.Endian.{little_bytes}
 use Rattle.secured_record.specs.Format.{header, nonce, plain_text, sealed_text}
-
--- As many bytes as there were replace them.
-pub refill-all : (n : ℕ) (xs ws : List ℕ) → n ≡ length ws → refill n xs ws ≡ ws
-refill-all n xs ws e = ap (λ k. take k (ws ++ drop (length ws) xs)) e ∙ take-append_seam ws (drop (length ws) xs)
 
 pub take_header : (k : ℕ) (h t : List ℕ) → length h ≡ k → take k (h ++ t) ≡ h
 take_header k h t e = ap (λ n. take n (h ++ t)) (sym e) ∙ take-append_seam h t

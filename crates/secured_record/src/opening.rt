@@ -1,10 +1,10 @@
-ghost use Rattle.std.specs.Prelude.{◌≡◌, ◌≢◌, ◌≤◌, ◌+◌, ◌-◌, ◌++◌, ℕ, List, None, Some, true, false, nat_lt, min, IsOk, OnOk, OnErr, IfErr, MatchResult, is_ok, length, bytes_eq, take, drop};
+ghost use Rattle.std.specs.Prelude.{◌≡◌, ◌≢◌, ◌≤◌, ◌+◌, ◌-◌, ◌++◌, ℕ, List, None, Some, true, false, nat_lt, min, IsOk, OnOk, OnErr, IfOk, IfErr, MatchResult, is_ok, length, bytes_eq, take, drop};
 ghost use Rattle.byteorder.specs.Endian.{little_bytes, little_number};
 ghost use Rattle.spdm_basis.specs.Sizes.{key_size};
 ghost use Rattle.aes_gcm.specs.Gcm.{crypt};
 ghost use Rattle.aes_gcm.specs.Behind.{crypt_behind};
 ghost use Rattle.spdm_basis.specs.SessionIdBytes.{session_id_bytes};
-ghost use Rattle.secured_record.specs.Format.{key_of, iv_of, record_of};
+ghost use Rattle.secured_record.specs.Format.{key_of, iv_of, nonce, record_of};
 ghost use Rattle.secured_record.specs.Contents.{IsRecordOf};
 ghost use Rattle.secured_record.specs.Faults.{header_fault, is_authentic, opened_text, text_part, fault_of, inner_of};
 ghost use Rattle.secured_record.specs.declared.TheConstants.{MAX_RECORD_SIZE, MIN_RECORD_SIZE};
@@ -14,16 +14,10 @@ use crate::format::{nonce, two_bytes};
 use crate::{MAX_RECORD_SIZE, MIN_RECORD_SIZE, RecordFault};
 use aes_gcm::{BadTag, GcmKey};
 use arrayvec::ArrayVec;
+use byte_compare::same_bytes;
 use byteorder::{ByteOrder, LittleEndian};
 use key_schedule::DirectionKey;
 use spdm_basis::{RecordFrame, SessionId};
-
-// Whether bytes are the same.
-fn same_bytes(a: &[u8], b: &[u8]) -> bool
-    ensures { result ≡ bytes_eq a.now b.now }
-{
-    a == b
-}
 
 // The fault of a record that its header shows.
 #[tactic(auto, unfolding(crate::specs::Faults::header_fault))]
@@ -59,38 +53,25 @@ fn text_part(sealed: &[u8]) -> &[u8]
     rest.split_at(rest.len() - 16).0
 }
 
-// Tests the tag of a record.
+// Tests the tag of a record, and gives the first 48 bytes of its text decrypted, or all where there are fewer.
 #[tactic(auto, unfolding(crate::specs::Faults::is_authentic))]
-fn verify_record(cipher: &GcmKey, iv: &[u8; 12], number: u16, sealed: &[u8]) -> Result<(), BadTag>
+fn open_first(
+    cipher: &GcmKey,
+    iv: &[u8; 12],
+    number: u16,
+    sealed: &[u8],
+) -> Result<ArrayVec<u8, 48>, BadTag>
     requires least { MIN_RECORD_SIZE ≤ length sealed.now }
     requires most { length sealed.now ≤ MAX_RECORD_SIZE }
-    ensures { is_ok result ≡ is_authentic cipher.now iv.now number sealed.now }
+    ensures authentic { is_ok result ≡ is_authentic cipher.now iv.now number sealed.now }
+    ensures first { IfOk result (λ b. b.items
+        ≡ take 48 (crypt cipher.now (nonce iv.now number) (text_part sealed.now))) }
 {
     let (header, rest) = sealed.split_at(8);
     let tag = rest.split_at(rest.len() - 16).1;
     let mut expected = [0u8; 16];
     expected.copy_from_slice(tag);
-    cipher.verify(&nonce(iv, number), header, text_part(sealed), &expected)
-}
-
-// The first 16 bytes, or all where there are fewer.
-#[tactic(auto, using(std::proofs::lemmas::List::take_min))]
-fn first_bytes(text: &[u8]) -> ArrayVec<u8, 16>
-    ensures { result.items ≡ take 16 text.now }
-{
-    let mut bytes = ArrayVec::<u8, 16>::new();
-    let _ = bytes.try_extend_from_slice(text.split_at(16.min(text.len())).0);
-    bytes
-}
-
-// The first 16 bytes of a text, or all where there are fewer, decrypted.
-fn first_block(cipher: &GcmKey, iv: &[u8; 12], text: &[u8]) -> ArrayVec<u8, 16>
-    ensures value { result.items ≡ take 16 (crypt cipher.now iv.now text.now) }
-    ensures size { length result.items ≡ min 16 (length text.now) }
-{
-    let mut block = first_bytes(text);
-    cipher.crypt(iv, block.as_mut_slice());
-    block
+    cipher.open_first(&nonce(iv, number), header, text_part(sealed), &expected)
 }
 
 // The length of the inner message, the first two bytes of a text.
@@ -102,50 +83,50 @@ fn inner_length(text: &[u8]) -> u16
     LittleEndian::read_u16(text)
 }
 
-// Decrypts in place what follows the first 14 bytes: the rest of a text after its first block, which has two bytes more
-// in front.
+// Decrypts in place what follows the first 46 bytes: the rest of a text after its first three blocks, which have two
+// bytes more in front.
 fn decrypt_rest(cipher: &GcmKey, iv: &[u8; 12], bytes: &mut [u8])
-    requires first { 14 ≤ length bytes.old }
+    requires first { 46 ≤ length bytes.old }
     requires most { length bytes.old ≤ MAX_RECORD_SIZE }
-    ensures { bytes.new ≡ take 14 bytes.old ++ crypt_behind 1 cipher.now iv.now
-        (drop 14 bytes.old) }
+    ensures { bytes.new ≡ take 46 bytes.old ++ crypt_behind 3 cipher.now iv.now
+        (drop 46 bytes.old) }
 {
-    let rest = bytes.split_at_mut(14).1;
-    cipher.crypt_behind(iv, 1, rest);
+    let rest = bytes.split_at_mut(46).1;
+    cipher.crypt_behind(iv, 3, rest);
 }
 
-// Writes an inner message that stands in a first block.
+// Writes an inner message that stands in the first three blocks.
 fn write_short(first: &[u8], size: usize, out: &mut RecordFrame)
     requires within { size + 2 ≤ length first.now }
-    requires most { size ≤ 14 }
+    requires most { size ≤ 46 }
     ensures { out.new ≡ take size (drop 2 first.now) }
 {
     let _ = out.replace(first.split_at(2).1.split_at(size).0);
 }
 
-// Writes what a first block has after the length of the inner message, and the encrypted rest.
+// Writes what the first three blocks have after the length of the inner message, and the encrypted rest.
 fn write_encrypted(first: &[u8], rest: &[u8], out: &mut RecordFrame)
-    requires first { length first.now ≡ 16 }
-    requires most { length rest.now ≤ 4120 }
+    requires first { length first.now ≡ 48 }
+    requires most { length rest.now ≤ 4088 }
     ensures value { out.new ≡ drop 2 first.now ++ rest.now }
-    ensures size { length out.new ≡ length rest.now + 14 }
+    ensures size { length out.new ≡ length rest.now + 46 }
 {
     out.clear();
     let _ = out.extend(first.split_at(2).1);
     let _ = out.extend(rest);
 }
 
-// Writes an inner message that goes on after a first block, with its encrypted rest.
+// Writes an inner message that goes on after the first three blocks, with its encrypted rest.
 fn write_long(cipher: &GcmKey, iv: &[u8; 12], first: &[u8], rest: &[u8], out: &mut RecordFrame)
-    requires first { length first.now ≡ 16 }
-    requires most { length rest.now ≤ 4120 }
-    ensures { out.new ≡ drop 2 first.now ++ crypt_behind 1 cipher.now iv.now rest.now }
+    requires first { length first.now ≡ 48 }
+    requires most { length rest.now ≤ 4088 }
+    ensures { out.new ≡ drop 2 first.now ++ crypt_behind 3 cipher.now iv.now rest.now }
 {
     write_encrypted(first, rest, out);
     decrypt_rest(cipher, iv, out.as_mut_slice());
 }
 
-// Writes the inner message of an encrypted text whose first block was decrypted.
+// Writes the inner message of an encrypted text whose first three blocks were decrypted.
 fn write_inner(
     cipher: &GcmKey,
     iv: &[u8; 12],
@@ -154,27 +135,29 @@ fn write_inner(
     size: usize,
     out: &mut RecordFrame,
 )
-    requires first { first.now ≡ take 16 (crypt cipher.now iv.now text.now) }
-    requires long { length first.now ≡ min 16 (length text.now) }
+    requires first { first.now ≡ take 48 (crypt cipher.now iv.now text.now) }
+    requires long { length first.now ≡ min 48 (length text.now) }
     requires within { size + 2 ≤ length text.now }
     requires most { length text.now ≤ 4136 }
     ensures { out.new ≡ take size (drop 2 (crypt cipher.now iv.now text.now)) }
 {
-    if size <= 14 {
+    if size <= 46 {
         write_short(first, size, out);
     } else {
-        let rest = text.split_at(16).1.split_at(size - 14).0;
+        let rest = text.split_at(48).1.split_at(size - 46).0;
         write_long(cipher, iv, first, rest, out);
     }
 }
 
-// Opens a text whose tag was tested.
+// Opens a text whose tag was tested, and whose first three blocks were decrypted.
 fn open_text(
     cipher: &GcmKey,
     iv: &[u8; 12],
+    first: &[u8],
     text: &[u8],
     out: &mut RecordFrame,
 ) -> Result<(), RecordFault>
+    requires first { first.now ≡ take 48 (crypt cipher.now iv.now text.now) }
     requires least { 2 ≤ length text.now }
     requires most { length text.now ≤ 4136 }
     ensures fault { MatchResult result
@@ -191,12 +174,11 @@ fn open_text(
         ≡ take 2 (crypt cipher.now iv.now text.now)) }
     ensures unchanged { OnErr result (out.new ≡ out.old) }
 {
-    let first = first_block(cipher, iv, text);
-    let size = inner_length(first.as_slice()) as usize;
+    let size = inner_length(first) as usize;
     if text.len() - 2 < size {
         return Err(RecordFault::BadInnerLength);
     }
-    write_inner(cipher, iv, first.as_slice(), text, size, out);
+    write_inner(cipher, iv, first, text, size, out);
     Ok(())
 }
 
@@ -241,10 +223,16 @@ fn open_record(
     if let Some(fault) = header_fault(id, number, sealed) {
         return Err(fault);
     }
-    if verify_record(cipher, iv, number, sealed).is_err() {
+    let Ok(first) = open_first(cipher, iv, number, sealed) else {
         return Err(RecordFault::BadTag);
-    }
-    open_text(cipher, &nonce(iv, number), text_part(sealed), out)
+    };
+    open_text(
+        cipher,
+        &nonce(iv, number),
+        first.as_slice(),
+        text_part(sealed),
+        out,
+    )
 }
 
 // The same, with what it means for records.
