@@ -40,6 +40,7 @@ fn sum_of_products(x: [u64; 4], y: [u64; 4]) -> u128
 /// without carries. A sum is at most 15, so that it stays in its places, since the four highest bits of `y`
 /// are left out, and at most 15 of every fourth bit remain. Those four are multiplied one by one, which
 /// carries nothing.
+#[inline(always)]
 pub fn carry_less(x: u64, y: u64) -> u128
     ensures { result ≡ carry_less 64 x y }
 {

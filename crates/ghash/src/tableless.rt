@@ -10,6 +10,7 @@ use crate::wide::Wide;
 use std::marker::Model;
 
 // The product of two blocks without carries, by three products of words (Karatsuba).
+#[inline(always)]
 fn multiply_words(a: u128, b: u128) -> Wide
     ensures value { number_of result ≡ carry_less 128 a b }
     ensures room { result.high < 2 ^ 127 }
@@ -63,6 +64,7 @@ impl TablelessHashKey {
     }
 
     /// The product of a block with the key.
+    #[inline(always)]
     pub fn times(&self, a: u128) -> u128
         ensures { result ≡ product a self.now }
     {
@@ -71,6 +73,7 @@ impl TablelessHashKey {
 
     /// The hash of the blocks before and of one more, where `sum` is the hash of the blocks before. The
     /// hash of no blocks is 0.
+    #[inline(always)]
     pub fn absorb_block(&self, sum: u128, block: u128) -> u128
         ensures { (before : List ℕ) → sum ≡ ghash self.now before
             → result ≡ ghash self.now (before ++ block ∷ []) }
