@@ -1,0 +1,5 @@
+pub mod Records
+pub mod Policies
+pub mod Trusted
+pub mod Answers
+pub mod Walk
