@@ -1,0 +1,7 @@
+pub mod Membership
+pub mod OneReading
+pub mod FirstFaults
+pub mod AsSets
+pub mod OneAnswer
+pub mod NoBlock
+pub mod ReadOn
