@@ -5,3 +5,4 @@ pub mod AsSets
 pub mod OneAnswer
 pub mod NoBlock
 pub mod ReadOn
+pub mod Existence

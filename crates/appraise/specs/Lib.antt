@@ -3,3 +3,4 @@ pub mod Policies
 pub mod Trusted
 pub mod Answers
 pub mod Walk
+pub mod Laws

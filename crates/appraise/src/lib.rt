@@ -8,6 +8,7 @@ mod appraisal;
 mod appraisals_tests;
 mod appraising;
 mod block;
+mod laws;
 mod policy;
 mod policy_fault;
 mod rules;
@@ -15,6 +16,7 @@ mod seen;
 
 pub use appraisal::Appraisal;
 pub use appraising::appraise;
+pub use laws::one_answer_holds;
 pub use policy::Policy;
 pub use policy_fault::PolicyFault;
 pub use script_text::Rule;

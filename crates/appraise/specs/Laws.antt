@@ -1,0 +1,11 @@
+-- What follows of answers. This project's own.
+use Rattle.std.specs.Prelude.{◌≡◌, ℕ, List, None}
+use Rattle.script_text.specs.declared.texts.rule.Rule.{Rule}
+use Rattle.appraise.specs.declared.appraisal.Appraisal.{Appraisal}
+use Rattle.appraise.specs.Policies.{policy_fault}
+use Rattle.appraise.specs.Answers.{IsTheAppraisal}
+
+-- Under the rules of a policy exactly one answer holds of any bytes.
+abbrev pub OneAnswerHolds : Type 0
+OneAnswerHolds =
+    (rules : List Rule) → policy_fault rules ≡ None → (bytes : List ℕ) → (answer : Appraisal) × IsTheAppraisal rules bytes answer
