@@ -1,23 +1,22 @@
 -- A record without a fault of which nothing is missing is a trusted one, and a trusted one is such a record.
-use Rattle.std.proofs.Common.{◌≡◌, ◌≢◌, ◌<◌, ◌≤◌, ◌⊎◌, ◌==◌, ◌&&◌, ◌++◌, ◌↔◌, ℕ, zero, suc, Bool, true, false, List, [], ◌∷◌, length, get_or, take, drop, Option, Some, None, cond, refl, sym, ap, ◌∙◌, subst, inl, inr, ⊎_elim, arith, eqb-true, eq-eqb}
+use Rattle.std.proofs.Common.{◌≡◌, ◌≢◌, ◌<◌, ◌==◌, ◌&&◌, ◌++◌, ℕ, zero, suc, Bool, true, false, List, [], ◌∷◌, length, get_or, take, drop, Some, None, cond, refl, sym, ap, ◌∙◌, subst, inl, inr, arith, eqb-true, eq-eqb}
 use Rattle.std.proofs.lemmas.Bool.{false≢true, eqb-false, ne_eqb, cases_lt}
 use Rattle.std.proofs.lemmas.List.{get_or_append_left, get_or-take, take-append-drop, length-append, length-take}
 use Rattle.std.proofs.lemmas.List.Elements.{Contains-append_right}
 use Rattle.std.proofs.lemmas.Slice.Eq.{bytes_eq-Decides}
 use Rattle.std.proofs.Math.Seq.{get_or-append_seam, drop-cons}
-use Rattle.std.specs.List.{AllPairs, Contains, list_any}
+use Rattle.std.specs.List.{AllPairs, Contains}
 use Rattle.std.specs.Prelude.{not, bytes_eq}
 use Rattle.script_text.specs.PolicyText.{index_of, has_index}
 use Rattle.script_text.specs.declared.texts.rule.Rule.{Rule}
 use Rattle.script_text.specs.declared.texts.rule.Rule.TheVariants.{Expect, Skip}
-use Rattle.appraise.specs.declared.appraisal.Appraisal.{Appraisal}
 use Rattle.appraise.specs.declared.appraisal.Appraisal.TheVariants.{Repeated, Unknown, Differs}
 use Rattle.appraise.specs.Records.{Measured, IsRecordOf, has_block}
 use Rattle.appraise.specs.Policies.{has_twice, is_expectation, expects, is_unmet, expects_other}
 use Rattle.appraise.specs.Trusted.{IsSkipped, IsExpected, HasRule, IsTrusted}
 use Rattle.appraise.specs.Answers.{fault_of, HasNoFault, is_missing}
 use Rattle.appraise.proofs.Membership.{here, any_from, any_to, none_from, none_to}
-use Rattle.appraise.proofs.NoBlock.{one_rule, expectation_index}
+use Rattle.appraise.proofs.NoBlock.{one_rule}
 use Rattle.appraise.proofs.OneReading.{same_block}
 
 abbrev apart : List Measured → Type 0
@@ -63,10 +62,10 @@ same_place blocks one other j k e h a b =
 one_block : (blocks : List Measured) (one other : Measured) → apart blocks → Contains blocks one → Contains blocks other → one.index ≡ other.index → one ≡ other
 one_block blocks one other h c d e =
     elim (cases_lt c.0 d.0) [
-      inl less ↦ absurd (apart_places blocks one other h c.0 d.0 less d.1 c.2 d.2 e)
-    | inr not_less ↦ elim (cases_lt d.0 c.0) [
-        inl less ↦ absurd (apart_places blocks other one h d.0 c.0 less c.1 d.2 c.2 (sym e))
-      | inr still_not ↦ same_place blocks one other c.0 d.0 (omega (arith, not_less, still_not)) d.1 c.2 d.2
+      | inl less ↦ absurd (apart_places blocks one other h c.0 d.0 less d.1 c.2 d.2 e)
+      | inr not_less ↦ elim (cases_lt d.0 c.0) [
+        | inl less ↦ absurd (apart_places blocks other one h d.0 c.0 less c.1 d.2 c.2 (sym e))
+        | inr still_not ↦ same_place blocks one other c.0 d.0 (omega (arith, not_less, still_not)) d.1 c.2 d.2
       ]
     ]
 
@@ -102,29 +101,29 @@ none_before earlier later block x h c =
     let within : length earlier < length (earlier ++ block ∷ later) = omega (arith, length-append earlier (block ∷ later)) in
     let ne = h c.0 (length earlier) x less within in
     ne_eqb x.index block.index (λ e. ne (ap (λ (m : Measured). m.index) (get_or_append_left earlier (block ∷ later) x c.0 c.1 ∙ c.2)
-      ∙ e ∙ ap (λ (m : Measured). m.index) (sym (get_or-append_seam earlier block later x))))
+    ∙ e ∙ ap (λ (m : Measured). m.index) (sym (get_or-append_seam earlier block later x))))
 
 trusted_unmet : (rules : List Rule) (bytes : List ℕ) (t : IsTrusted rules bytes) (block : Measured) → Contains t.blocks block
     → (rule : Rule) → Contains rules rule → is_unmet block rule ≡ false
 trusted_unmet rules bytes t block c (Skip i) d = refl
 trusted_unmet rules bytes t block c (Expect i u v) d =
     is_met block i u v (λ e.
-      let m : Measured = record { index = i; value_type = u; value = v } in
-      let among = (t.same m).1 d in
-      let same : m ≡ block = one_block t.blocks m block t.apart among.0 c e in
-      (ap (λ (b : Measured). b.value_type) same, ap (λ (b : Measured). b.value) same))
+    let m : Measured = record { index = i; value_type = u; value = v } in
+    let among = (t.same m).1 d in
+    let same : m ≡ block = one_block t.blocks m block t.apart among.0 c e in
+    (ap (λ (b : Measured). b.value_type) same, ap (λ (b : Measured). b.value) same))
 
 trusted_fault : (rules : List Rule) (bytes : List ℕ) (t : IsTrusted rules bytes) (earlier : List Measured) (block : Measured) (later : List Measured)
     → t.blocks ≡ earlier ++ block ∷ later → fault_of rules earlier block ≡ None
 trusted_fault rules bytes t earlier block later e =
     let among : Contains t.blocks block =
-      subst (λ (l : List Measured). Contains l block) (sym e) (Contains-append_right earlier (block ∷ later) block (here block later)) in
+    subst (λ (l : List Measured). Contains l block) (sym e) (Contains-append_right earlier (block ∷ later) block (here block later)) in
     let rule = t.ruled block among in
     none_whole block.index (has_block block.index earlier) (has_index block.index rules) (expects_other block rules)
-      (none_to (λ (m : Measured). m.index == block.index) earlier
-        (λ x c. none_before earlier later block x (subst apart e t.apart) c))
-      (any_to (λ (r : Rule). index_of r == block.index) rules rule.0 rule.1 (eq-eqb (index_of rule.0) block.index rule.2))
-      (none_to (λ (r : Rule). is_unmet block r) rules (λ r c. trusted_unmet rules bytes t block among r c))
+    (none_to (λ (m : Measured). m.index == block.index) earlier
+    (λ x c. none_before earlier later block x (subst apart e t.apart) c))
+    (any_to (λ (r : Rule). index_of r == block.index) rules rule.0 rule.1 (eq-eqb (index_of rule.0) block.index rule.2))
+    (none_to (λ (r : Rule). is_unmet block r) rules (λ r c. trusted_unmet rules bytes t block among r c))
 
 pub trusted_fine : (rules : List Rule) (bytes : List ℕ) (t : IsTrusted rules bytes) → HasNoFault rules t.blocks
 trusted_fine rules bytes t earlier block later e = trusted_fault rules bytes t earlier block later e
@@ -143,8 +142,8 @@ not_missing true held h = ap not (h refl)
 pub trusted_whole : (rules : List Rule) (bytes : List ℕ) (t : IsTrusted rules bytes) (index : ℕ) → is_missing rules t.blocks index ≡ false
 trusted_whole rules bytes t index =
     not_missing (expects index rules) (has_block index t.blocks) (λ h.
-      let found = any_from (λ (r : Rule). is_expectation index r) rules h in
-      trusted_has rules bytes t index found.0 found.1 found.2)
+    let found = any_from (λ (r : Rule). is_expectation index r) rules h in
+    trusted_has rules bytes t index found.0 found.1 found.2)
 
 -- ---- To a trusted record.
 
@@ -165,7 +164,7 @@ fine_apart : (rules : List Rule) (blocks : List Measured) → HasNoFault rules b
 fine_apart rules blocks fine i j d less within =
     let block : Measured = get_or blocks j d in
     let parts = fine_parts rules (take j blocks) block
-      (fine (take j blocks) block (drop (suc j) blocks) (split_at blocks block j within (any_default blocks j block d within))) in
+    (fine (take j blocks) block (drop (suc j) blocks) (split_at blocks block j within (any_default blocks j block d within))) in
     let x : Measured = get_or blocks i d in
     let among : Contains (take j blocks) x = (i, omega (arith, length-take j blocks), get_or-take j blocks i x less ∙ any_default blocks i x d (omega (arith, less, within))) in
     eqb-false x.index block.index (none_from (λ (m : Measured). m.index == block.index) (take j blocks) x parts.0 among)
@@ -188,7 +187,7 @@ fine_expected : (rules : List Rule) (blocks : List Measured) → HasNoFault rule
 fine_expected rules blocks fine block c not_skipped =
     let rule = fine_ruled rules blocks fine block c in
     expected_by rules block rule.0 rule.1 rule.2
-      (none_from (λ (r : Rule). is_unmet block r) rules rule.0 (fine_at rules blocks block fine c).1 rule.1) not_skipped
+    (none_from (λ (r : Rule). is_unmet block r) rules rule.0 (fine_at rules blocks block fine c).1 rule.1) not_skipped
 
 held : (expected has : Bool) → (expected && not has) ≡ false → expected ≡ true → has ≡ true
 held expected true h e = refl
@@ -200,8 +199,8 @@ fine_held : (rules : List Rule) (blocks : List Measured) → HasNoFault rules bl
 fine_held rules blocks fine whole block expected =
     let rule : Rule = Expect block.index block.value_type block.value in
     let found = any_from (λ (m : Measured). m.index == block.index) blocks
-      (held (expects block.index rules) (has_block block.index blocks) (whole block.index)
-        (any_to (λ (r : Rule). is_expectation block.index r) rules rule expected (eq-eqb block.index block.index refl))) in
+    (held (expects block.index rules) (has_block block.index blocks) (whole block.index)
+    (any_to (λ (r : Rule). is_expectation block.index r) rules rule expected (eq-eqb block.index block.index refl))) in
     let same_index : found.0.index ≡ block.index = eqb-true found.0.index block.index found.2 in
     let unmet = none_from (λ (r : Rule). is_unmet found.0 r) rules rule (fine_at rules blocks found.0 fine found.1).1 expected in
     let parts = met found.0 block.index block.value_type block.value unmet (sym same_index) in
@@ -210,7 +209,7 @@ fine_held rules blocks fine whole block expected =
 not_both : (rules : List Rule) (block : Measured) → has_twice rules ≡ false → IsExpected rules block → IsSkipped rules block.index → ⊥
 not_both rules block once expected skipped =
     let same : Skip block.index ≡ Expect block.index block.value_type block.value
-      = one_rule rules (Skip block.index) (Expect block.index block.value_type block.value) once skipped expected refl in
+    = one_rule rules (Skip block.index) (Expect block.index block.value_type block.value) once skipped expected refl in
     absurd cc
 
 pub fine_trusted : (rules : List Rule) (bytes : List ℕ) (blocks : List Measured) → has_twice rules ≡ false → IsRecordOf blocks bytes → HasNoFault rules blocks
@@ -220,7 +219,8 @@ fine_trusted rules bytes blocks once whole fine none = record {
   whole = whole;
   apart = fine_apart rules blocks fine;
   ruled = fine_ruled rules blocks fine;
-  same = λ block.
-    ((λ c. fine_expected rules blocks fine block c.0 c.1),
-     (λ c. (fine_held rules blocks fine none block c, not_both rules block once c)));
+  same = λ block. (
+    (λ c. fine_expected rules blocks fine block c.0 c.1),
+    (λ c. (fine_held rules blocks fine none block c, not_both rules block once c)),
+  );
 }

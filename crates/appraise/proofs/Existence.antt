@@ -1,5 +1,5 @@
 -- Some answer holds of any bytes.
-use Rattle.std.proofs.Common.{◌≡◌, ◌<◌, ◌≤◌, ◌+◌, ◌*◌, ◌^◌, ◌/◌, ◌%◌, ◌⊎◌, ◌==◌, ◌&&◌, ◌++◌, ℕ, zero, suc, Bool, true, false, List, [], ◌∷◌, length, take, drop, Option, Some, None, nat_le, refl, sym, ap, ◌∙◌, append_assoc, inl, inr, arith, eqb-true, eq-eqb}
+use Rattle.std.proofs.Common.{◌≡◌, ◌<◌, ◌≤◌, ◌+◌, ◌*◌, ◌^◌, ◌/◌, ◌%◌, ◌⊎◌, ◌==◌, ◌&&◌, ◌++◌, ℕ, zero, suc, Bool, true, false, List, [], ◌∷◌, length, take, drop, Option, Some, None, nat_le, refl, sym, ap, ◌∙◌, inl, inr, arith, eqb-true, eq-eqb}
 use Rattle.std.proofs.lemmas.Bool.{false≢true, cases_lt, and_parts}
 use Rattle.std.proofs.lemmas.Bool.Decides.{nat_tests}
 use Rattle.std.proofs.lemmas.List.{take-append-drop, length-append, length-take}
@@ -9,7 +9,7 @@ use Rattle.script_text.specs.declared.texts.rule.Rule.{Rule}
 use Rattle.measurements.specs.Blocks.{block_bytes}
 use Rattle.appraise.specs.declared.appraisal.Appraisal.{Appraisal}
 use Rattle.appraise.specs.declared.appraisal.Appraisal.TheVariants.{Trusted, Malformed, Missing}
-use Rattle.appraise.specs.Records.{Measured, spec_of, IsBlock, IsFirstBlock, BeginsWithBlock, bytes_of, has_block}
+use Rattle.appraise.specs.Records.{Measured, spec_of, IsBlock, BeginsWithBlock, bytes_of, has_block}
 use Rattle.appraise.specs.Policies.{policy_fault}
 use Rattle.appraise.specs.Answers.{is_missing, IsLeastMissing, IsTheAppraisal}
 use Rattle.appraise.specs.Walk.{first_fault}
@@ -59,21 +59,26 @@ fits_all : (s a b c d n left : ℕ) → Fits s a b c d n left → fits s a b c d
 unfolding fits
 fits_all s a b c d n left f =
     both (s == 1) _ (eq-eqb s 1 f.spec) (both (a == (3 + n) % 256) _ (eq-eqb a ((3 + n) % 256) f.size_low)
-      (both (b == (3 + n) / 256 % 256) _ (eq-eqb b ((3 + n) / 256 % 256) f.size_high) (both (c == n % 256) _ (eq-eqb c (n % 256) f.low)
-        (both (d == n / 256 % 256) _ (eq-eqb d (n / 256 % 256) f.high) (both (nat_le n left) _ (is_at_most n left f.within) (is_at_most (4 + n) 65536 (omega (arith, f.few))))))))
+    (both (b == (3 + n) / 256 % 256) _ (eq-eqb b ((3 + n) / 256 % 256) f.size_high) (both (c == n % 256) _ (eq-eqb c (n % 256) f.low)
+    (both (d == n / 256 % 256) _ (eq-eqb d (n / 256 % 256) f.high) (both (nat_le n left) _ (is_at_most n left f.within) (is_at_most (4 + n) 65536 (omega (arith, f.few))))))))
   where
     both : (x y : Bool) → x ≡ true → y ≡ true → (x && y) ≡ true
     both x y g h = cc
+
     is_at_most : (x y : ℕ) → x ≤ y → nat_le x y ≡ true
     is_at_most x y h = grind (arith, nat_tests)
 
 begin_with : (i s a b t c d : ℕ) (rest : List ℕ) → Fits s a b c d (c + 256 * d) (length rest) → BeginsWithBlock (i ∷ s ∷ a ∷ b ∷ t ∷ c ∷ d ∷ rest)
 begin_with i s a b t c d rest f =
     let n : ℕ = c + 256 * d in
-    let long : length (take n rest) ≡ n = omega (arith, length-take n rest, f.within) in
-    (record { index = i; value_type = t; value = take n rest }, drop n rest,
-      (omega (arith, long, f.few),
-       ap (λ (l : List ℕ). i ∷ s ∷ a ∷ b ∷ t ∷ c ∷ d ∷ l) (sym (take-append-drop n rest)) ∙ numbers i s a b t c d n (length (take n rest)) (take n rest ++ drop n rest) (sym long) f.spec f.size_low f.size_high f.low f.high))
+    let long : length (take n rest) ≡ n = omega (arith, length-take n rest, f.within) in (
+      record { index = i; value_type = t; value = take n rest },
+      drop n rest,
+      (
+        omega (arith, long, f.few),
+        ap (λ (l : List ℕ). i ∷ s ∷ a ∷ b ∷ t ∷ c ∷ d ∷ l) (sym (take-append-drop n rest)) ∙ numbers i s a b t c d n (length (take n rest)) (take n rest ++ drop n rest) (sym long) f.spec f.size_low f.size_high f.low f.high,
+      ),
+    )
   where
     numbers : (i s a b t c d n long : ℕ) (l : List ℕ) → n ≡ long → s ≡ 1 → a ≡ (3 + n) % 256 → b ≡ (3 + n) / 256 % 256 → c ≡ n % 256 → d ≡ n / 256 % 256
         → i ∷ s ∷ a ∷ b ∷ t ∷ c ∷ d ∷ l ≡ i ∷ 1 ∷ (3 + long) % 256 ∷ (3 + long) / 256 % 256 ∷ t ∷ long % 256 ∷ long / 256 % 256 ∷ l
@@ -115,7 +120,7 @@ by_test i s a b t c d rest true h = inl (begin_with i s a b t c d rest (fits_par
 by_test i s a b t c d rest false h =
     inr (λ found. absurd (false≢true (sym h ∙ fits_all s a b c d (c + 256 * d) (length rest) (fit_of i s a b t c d rest found))))
 
-too_short : (bytes : List ℕ) → length bytes < 7 → BeginsWithBlock bytes → ⊥
+pub too_short : (bytes : List ℕ) → length bytes < 7 → BeginsWithBlock bytes → ⊥
 too_short bytes h found = absurd (omega (arith, h, ap length found.2.1))
 
 begins_or_not : (bytes : List ℕ) → BeginsWithBlock bytes ⊎ (BeginsWithBlock bytes → ⊥)
@@ -156,18 +161,18 @@ parts_of : (most : ℕ) (bytes : List ℕ) → length bytes ≤ most → Parts b
 parts_of zero [] h = none_in_front [] nothing_begins
 parts_of zero (byte ∷ bytes) h = absurd (omega (arith, h))
 parts_of (suc most) bytes h = elim (begins_or_not bytes) [
-    inl found ↦ one_in_front bytes found (parts_of most found.1 (shorter bytes found most h))
+  | inl found ↦ one_in_front bytes found (parts_of most found.1 (shorter bytes found most h))
   | inr none ↦ none_in_front bytes none
-  ]
+]
 
 -- ---- The least index that is missing.
 
 below_next : (rules : List Rule) (blocks : List Measured) (n lower : ℕ) → ((i : ℕ) → i < n → is_missing rules blocks i ≡ false)
     → is_missing rules blocks n ≡ false → lower < suc n → is_missing rules blocks lower ≡ false
 below_next rules blocks n lower below this h = elim (cases_lt lower n) [
-    inl less ↦ below lower less
+  | inl less ↦ below lower less
   | inr not_less ↦ let e : lower ≡ n = omega (arith, h, not_less) in ap (λ (i : ℕ). is_missing rules blocks i) e ∙ this
-  ]
+]
 
 search_next : (rules : List Rule) (blocks : List Measured) (n : ℕ) (test : Bool) → is_missing rules blocks n ≡ test → ((i : ℕ) → i < n → is_missing rules blocks i ≡ false)
     → ((i : ℕ) → i < suc n → is_missing rules blocks i ≡ false) ⊎ ((i : ℕ) × IsLeastMissing rules blocks i)
@@ -178,16 +183,16 @@ search_below : (rules : List Rule) (blocks : List Measured) (n : ℕ)
     → ((i : ℕ) → i < n → is_missing rules blocks i ≡ false) ⊎ ((i : ℕ) × IsLeastMissing rules blocks i)
 search_below rules blocks zero = inl (λ i h. absurd (omega (arith, h)))
 search_below rules blocks (suc n) = elim (search_below rules blocks n) [
-    inl below ↦ search_next rules blocks n (is_missing rules blocks n) refl below
+  | inl below ↦ search_next rules blocks n (is_missing rules blocks n) refl below
   | inr found ↦ inr found
-  ]
+]
 
 none_at_all : (rules : List Rule) (blocks : List Measured) → policy_fault rules ≡ None → ((i : ℕ) → i < 255 → is_missing rules blocks i ≡ false)
     → (i : ℕ) → is_missing rules blocks i ≡ false
 none_at_all rules blocks fine below i = elim (cases_lt i 255) [
-    inl less ↦ below i less
+  | inl less ↦ below i less
   | inr more ↦ ap (λ (b : Bool). b && not (has_block i blocks)) (expects_none rules i fine (inr more))
-  ]
+]
 
 -- ---- Some answer, and so the one.
 
@@ -196,9 +201,9 @@ some_decided : (rules : List Rule) (blocks : List Measured) (rest : List ℕ) (a
 some_decided rules blocks (byte ∷ rest) at fault fine = (Malformed at, refl)
 some_decided rules blocks [] at (Some fault) fine = (fault, refl)
 some_decided rules blocks [] at None fine = elim (search_below rules blocks 255) [
-    inl below ↦ (Trusted, none_at_all rules blocks fine below)
+  | inl below ↦ (Trusted, none_at_all rules blocks fine below)
   | inr found ↦ (Missing found.0, found.1)
-  ]
+]
 
 pub one_answer : (rules : List Rule) → policy_fault rules ≡ None → (bytes : List ℕ) → (answer : Appraisal) × IsTheAppraisal rules bytes answer
 one_answer rules fine bytes =

@@ -5,7 +5,7 @@ use Rattle.std.specs.Option.{option_or}
 use Rattle.script_text.specs.declared.texts.rule.Rule.{Rule}
 use Rattle.appraise.specs.declared.appraisal.Appraisal.{Appraisal}
 use Rattle.appraise.specs.Records.{Measured}
-use Rattle.appraise.specs.Answers.{fault_of, HasNoFault}
+use Rattle.appraise.specs.Answers.{fault_of}
 use Rattle.appraise.specs.Walk.{first_fault_behind}
 
 -- none of the blocks has a fault behind the earlier ones and those before it
@@ -27,7 +27,7 @@ pub fault_append : (rules : List Rule) (earlier xs ys : List Measured)
 fault_append rules earlier [] ys = ap (λ (l : List Measured). first_fault_behind rules l ys) (sym (append-nil earlier))
 fault_append rules earlier (x ∷ xs) ys =
     ap (option_or (fault_of rules earlier x)) (fault_append rules (earlier ++ x ∷ []) xs ys
-      ∙ ap (λ (l : List Measured). option_or (first_fault_behind rules (earlier ++ x ∷ []) xs) (first_fault_behind rules l ys)) (append_assoc earlier (x ∷ []) xs))
+    ∙ ap (λ (l : List Measured). option_or (first_fault_behind rules (earlier ++ x ∷ []) xs) (first_fault_behind rules l ys)) (append_assoc earlier (x ∷ []) xs))
     ∙ sym (or_assoc (fault_of rules earlier x) (first_fault_behind rules (earlier ++ x ∷ []) xs) (first_fault_behind rules (earlier ++ x ∷ xs) ys))
 
 pub none_found : (rules : List Rule) (earlier blocks : List Measured) → first_fault_behind rules earlier blocks ≡ None → HasNone rules earlier blocks
@@ -52,7 +52,7 @@ pub found_none : (rules : List Rule) (earlier blocks : List Measured) → HasNon
 found_none rules earlier [] none = refl
 found_none rules earlier (x ∷ xs) none =
     ap (λ (o : Option Appraisal). option_or o (first_fault_behind rules (earlier ++ x ∷ []) xs))
-      (ap (λ (l : List Measured). fault_of rules l x) (sym (append-nil earlier)) ∙ none [] x xs refl)
+    (ap (λ (l : List Measured). fault_of rules l x) (sym (append-nil earlier)) ∙ none [] x xs refl)
     ∙ found_none rules (earlier ++ x ∷ []) xs (none_behind rules earlier x xs none)
 
 -- a block with a fault behind blocks without one

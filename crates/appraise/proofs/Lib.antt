@@ -6,3 +6,4 @@ pub mod OneAnswer
 pub mod NoBlock
 pub mod ReadOn
 pub mod Existence
+pub mod Rows

@@ -1,12 +1,11 @@
 -- What the rules of a policy are not: of an index that names no block, or two of one index.
-use Rattle.std.proofs.Common.{◌≡◌, ◌≢◌, ◌<◌, ◌≤◌, ◌⊎◌, ◌==◌, ◌||◌, ℕ, Bool, true, false, List, [], ◌∷◌, Option, Some, None, cond, refl, sym, ap, ◌∙◌, inl, inr, ⊎_elim, arith, eqb-true, eq-eqb}
+use Rattle.std.proofs.Common.{◌≡◌, ◌<◌, ◌≤◌, ◌⊎◌, ◌==◌, ◌||◌, ℕ, Bool, true, false, List, [], ◌∷◌, Some, None, cond, refl, sym, ap, ◌∙◌, inl, inr, arith, eqb-true, eq-eqb}
 use Rattle.std.proofs.lemmas.Bool.{false≢true, or_parts, eqb-false}
-use Rattle.std.specs.List.{Contains, list_any}
+use Rattle.std.specs.List.{Contains}
 use Rattle.std.specs.Prelude.{nat_le}
 use Rattle.script_text.specs.PolicyText.{index_of, has_index}
 use Rattle.script_text.specs.declared.texts.rule.Rule.{Rule}
 use Rattle.script_text.specs.declared.texts.rule.Rule.TheVariants.{Expect, Skip}
-use Rattle.appraise.specs.declared.policy_fault.PolicyFault.{PolicyFault}
 use Rattle.appraise.specs.declared.policy_fault.PolicyFault.TheVariants.{IndexOutOfRange, IndexTaken}
 use Rattle.appraise.specs.Policies.{has_bad_index, has_twice, policy_fault, is_expectation, expects}
 use Rattle.appraise.proofs.Membership.{any_from, any_to, none_from, here_or_later}
@@ -44,8 +43,8 @@ expects_in_range rules index fine h =
 pub expects_none : (rules : List Rule) (index : ℕ) → policy_fault rules ≡ None → (index ≡ 0) ⊎ (255 ≤ index) → expects index rules ≡ false
 expects_none rules index fine out =
     none_by (expects index rules) (λ h.
-      let range = expects_in_range rules index fine h in
-      elim out [ inl e ↦ absurd (omega (arith, e, range.0)) | inr e ↦ absurd (omega (arith, e, range.1)) ])
+    let range = expects_in_range rules index fine h in
+    elim out [ inl e ↦ absurd (omega (arith, e, range.0)) | inr e ↦ absurd (omega (arith, e, range.1)) ])
 
 -- Two rules of one index are one rule.
 pub one_rule : (rules : List Rule) (one other : Rule) → has_twice rules ≡ false → Contains rules one → Contains rules other
@@ -54,12 +53,12 @@ one_rule [] one other h c d e = absurd (omega (arith, c.1))
 one_rule (rule ∷ rules) one other h c d e =
     let parts = or_parts (has_index (index_of rule) rules) (has_twice rules) h in
     elim (here_or_later rule one rules c) [
-      inl is_one ↦ elim (here_or_later rule other rules d) [
-        inl is_other ↦ sym is_one ∙ is_other
-      | inr d' ↦ absurd (false≢true (sym parts.0 ∙ any_to (λ (r : Rule). index_of r == index_of rule) rules other d' (eq-eqb (index_of other) (index_of rule) (sym e ∙ ap index_of (sym is_one)))))
+      | inl is_one ↦ elim (here_or_later rule other rules d) [
+        | inl is_other ↦ sym is_one ∙ is_other
+        | inr d' ↦ absurd (false≢true (sym parts.0 ∙ any_to (λ (r : Rule). index_of r == index_of rule) rules other d' (eq-eqb (index_of other) (index_of rule) (sym e ∙ ap index_of (sym is_one)))))
       ]
-    | inr c' ↦ elim (here_or_later rule other rules d) [
-        inl is_other ↦ absurd (false≢true (sym parts.0 ∙ any_to (λ (r : Rule). index_of r == index_of rule) rules one c' (eq-eqb (index_of one) (index_of rule) (e ∙ ap index_of (sym is_other)))))
-      | inr d' ↦ one_rule rules one other parts.1 c' d' e
+      | inr c' ↦ elim (here_or_later rule other rules d) [
+        | inl is_other ↦ absurd (false≢true (sym parts.0 ∙ any_to (λ (r : Rule). index_of r == index_of rule) rules one c' (eq-eqb (index_of one) (index_of rule) (e ∙ ap index_of (sym is_other)))))
+        | inr d' ↦ one_rule rules one other parts.1 c' d' e
       ]
     ]

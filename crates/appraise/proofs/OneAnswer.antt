@@ -1,5 +1,5 @@
 -- One answer holds of any bytes under a policy, and which one it is once its blocks were read.
-use Rattle.std.proofs.Common.{◌≡◌, ◌≢◌, ◌<◌, ◌≤◌, ◌+◌, ◌-◌, ◌⊎◌, ◌++◌, ℕ, Bool, true, false, List, [], ◌∷◌, length, take, drop, Option, Some, None, cond, refl, sym, ap, ◌∙◌, subst, inl, inr, arith, ◌==◌, eqb-true}
+use Rattle.std.proofs.Common.{◌≡◌, ◌<◌, ◌-◌, ◌++◌, ℕ, Bool, true, false, List, [], ◌∷◌, length, take, drop, Option, Some, None, cond, refl, sym, ap, ◌∙◌, subst, inl, inr, arith, ◌==◌, eqb-true}
 use Rattle.std.proofs.lemmas.Bool.{false≢true, cases_lt, eqb-false}
 use Rattle.std.proofs.lemmas.List.{append-nil, take-append-drop, length-append, length-drop, length-take}
 use Rattle.std.proofs.Math.Seq.{drop-append_seam, take-append_seam}
@@ -9,10 +9,9 @@ use Rattle.script_text.specs.PolicyText.{has_index}
 use Rattle.script_text.specs.declared.texts.rule.Rule.{Rule}
 use Rattle.appraise.specs.declared.appraisal.Appraisal.{Appraisal}
 use Rattle.appraise.specs.declared.appraisal.Appraisal.TheVariants.{Trusted, Malformed, Repeated, Unknown, Differs, Missing}
-use Rattle.appraise.specs.Records.{Measured, IsBlock, IsRecordOf, IsMalformedAt, BeginsWithBlock, bytes_of, has_block}
+use Rattle.appraise.specs.Records.{Measured, IsBlock, IsRecordOf, BeginsWithBlock, bytes_of, has_block}
 use Rattle.appraise.specs.Policies.{policy_fault, expects_other}
-use Rattle.appraise.specs.Trusted.{IsTrusted}
-use Rattle.appraise.specs.Answers.{fault_of, HasNoFault, IsFirstFault, is_missing, IsLeastMissing, IsFirstMissing, IsAppraisal, IsTheAppraisal}
+use Rattle.appraise.specs.Answers.{HasNoFault, IsFirstFault, is_missing, IsLeastMissing, IsAppraisal, IsTheAppraisal}
 use Rattle.appraise.specs.Walk.{StandsFor, first_fault, IsRead, IsMissingOrNone}
 use Rattle.appraise.proofs.AsSets.{trusted_fine, trusted_whole, fine_trusted}
 use Rattle.appraise.proofs.FirstFaults.{found, found_here, found_none, none_found}
@@ -44,10 +43,10 @@ answer_of (Some index) = Missing index
 least_same : (rules : List Rule) (blocks : List Measured) (i j : ℕ) → IsLeastMissing rules blocks i → IsLeastMissing rules blocks j → i ≡ j
 least_same rules blocks i j one other =
     elim (cases_lt i j) [
-      inl less ↦ absurd (false≢true (sym (other.1 i less) ∙ one.0))
-    | inr not_less ↦ elim (cases_lt j i) [
-        inl less ↦ absurd (false≢true (sym (one.1 j less) ∙ other.0))
-      | inr still_not ↦ omega (arith, not_less, still_not)
+      | inl less ↦ absurd (false≢true (sym (other.1 i less) ∙ one.0))
+      | inr not_less ↦ elim (cases_lt j i) [
+        | inl less ↦ absurd (false≢true (sym (one.1 j less) ∙ other.0))
+        | inr still_not ↦ omega (arith, not_less, still_not)
       ]
     ]
 
@@ -86,13 +85,13 @@ by_fault : (rules : List Rule) (blocks : List Measured) (rest : List ℕ) (at : 
     → [] ≡ rest → fault ≡ Some answer → IsDecided rules blocks rest at fault answer
 by_fault rules blocks rest at fault answer e f =
     subst (λ (l : List ℕ). IsDecided rules blocks l at fault answer) e
-      (subst (λ (o : Option Appraisal). IsDecided rules blocks [] at o answer) (sym f) refl)
+    (subst (λ (o : Option Appraisal). IsDecided rules blocks [] at o answer) (sym f) refl)
 
 by_rest : (rules : List Rule) (blocks : List Measured) (rest : List ℕ) (at : ℕ) (fault : Option Appraisal) (answer : Appraisal)
     → [] ≡ rest → fault ≡ None → IsLeft rules blocks answer → IsDecided rules blocks rest at fault answer
 by_rest rules blocks rest at fault answer e f h =
     subst (λ (l : List ℕ). IsDecided rules blocks l at fault answer) e
-      (subst (λ (o : Option Appraisal). IsDecided rules blocks [] at o answer) (sym f) h)
+    (subst (λ (o : Option Appraisal). IsDecided rules blocks [] at o answer) (sym f) h)
 
 fault_decided : (rules : List Rule) (blocks : List Measured) (bytes rest : List ℕ) (answer : Appraisal) → AllByRecursion IsBlock blocks
     → bytes ≡ bytes_of blocks ++ rest → (BeginsWithBlock rest → ⊥) → IsFirstFault rules bytes answer
@@ -100,7 +99,7 @@ fault_decided : (rules : List Rule) (blocks : List Measured) (bytes rest : List 
 fault_decided rules blocks bytes rest answer are e last h =
     let parts = whole_parts blocks (h.earlier ++ h.block ∷ h.later) bytes rest are e last h.whole in
     by_fault rules blocks rest (length (bytes_of blocks)) (first_fault rules blocks) answer parts.1
-      (ap (first_fault rules) (sym parts.0) ∙ found_here rules [] h.earlier h.block h.later answer h.before h.here)
+    (ap (first_fault rules) (sym parts.0) ∙ found_here rules [] h.earlier h.block h.later answer h.before h.here)
 
 malformed_by : (rules : List Rule) (blocks : List Measured) (rest : List ℕ) (at place : ℕ) (fault : Option Appraisal) → 0 < length rest → place ≡ at
     → IsDecided rules blocks rest at fault (Malformed place)
@@ -116,20 +115,20 @@ decided rules blocks bytes rest (Differs index) are e last h = fault_decided rul
 decided rules blocks bytes rest (Missing index) are e last h =
     let parts = whole_parts blocks h.blocks bytes rest are e last h.whole in
     by_rest rules blocks rest (length (bytes_of blocks)) (first_fault rules blocks) (Missing index) parts.1
-      (ap (first_fault rules) (sym parts.0) ∙ found_none rules [] h.blocks h.fine)
-      (subst (λ (l : List Measured). IsLeastMissing rules l index) parts.0 h.least)
+    (ap (first_fault rules) (sym parts.0) ∙ found_none rules [] h.blocks h.fine)
+    (subst (λ (l : List Measured). IsLeastMissing rules l index) parts.0 h.least)
 decided rules blocks bytes rest Trusted are e last h =
     let parts = whole_parts blocks h.blocks bytes rest are e last h.whole in
     by_rest rules blocks rest (length (bytes_of blocks)) (first_fault rules blocks) Trusted parts.1
-      (ap (first_fault rules) (sym parts.0) ∙ found_none rules [] h.blocks (trusted_fine rules bytes h))
-      (λ index. ap (λ (l : List Measured). is_missing rules l index) (sym parts.0) ∙ trusted_whole rules bytes h index)
+    (ap (first_fault rules) (sym parts.0) ∙ found_none rules [] h.blocks (trusted_fine rules bytes h))
+    (λ index. ap (λ (l : List Measured). is_missing rules l index) (sym parts.0) ∙ trusted_whole rules bytes h index)
 decided rules blocks bytes rest (Malformed place) are e last h =
     let others : List Measured = h.2.0 in
     let parts = one_reading others blocks (drop place bytes) rest h.2.1.0 are
-      (ap (λ (l : List ℕ). l ++ drop place bytes) (sym h.2.1.1) ∙ take-append-drop place bytes ∙ e) h.1 last in
+    (ap (λ (l : List ℕ). l ++ drop place bytes) (sym h.2.1.1) ∙ take-append-drop place bytes ∙ e) h.1 last in
     malformed_by rules blocks rest (length (bytes_of blocks)) place (first_fault rules blocks)
-      (omega (arith, h.0, length-drop place bytes, ap length parts.1))
-      (omega (arith, h.0, length-take place bytes, ap length h.2.1.1, ap (λ (l : List Measured). length (bytes_of l)) parts.0))
+    (omega (arith, h.0, length-drop place bytes, ap length parts.1))
+    (omega (arith, h.0, length-take place bytes, ap length h.2.1.1, ap (λ (l : List Measured). length (bytes_of l)) parts.0))
 
 -- ---- An answer that is decided holds.
 
@@ -199,10 +198,11 @@ holds_by rules blocks bytes [] None answer fine are e last is h =
 pub the_appraisal : (rules : List Rule) (blocks : List Measured) (bytes rest : List ℕ) (answer : Appraisal) → policy_fault rules ≡ None
     → AllByRecursion IsBlock blocks → bytes ≡ bytes_of blocks ++ rest → (BeginsWithBlock rest → ⊥)
     → IsDecided rules blocks rest (length (bytes_of blocks)) (first_fault rules blocks) answer → IsTheAppraisal rules bytes answer
-the_appraisal rules blocks bytes rest answer fine are e last h =
-    (holds_by rules blocks bytes rest (first_fault rules blocks) answer fine are e last refl h,
-     λ other k. decided_same rules blocks rest (length (bytes_of blocks)) (first_fault rules blocks) other answer
-       (decided rules blocks bytes rest other are e last k) h)
+the_appraisal rules blocks bytes rest answer fine are e last h = (
+  holds_by rules blocks bytes rest (first_fault rules blocks) answer fine are e last refl h,
+  λ other k. decided_same rules blocks rest (length (bytes_of blocks)) (first_fault rules blocks) other answer
+      (decided rules blocks bytes rest other are e last k) h,
+)
 
 -- ---- The four ways in which a record that was read comes to its answer.
 
@@ -215,24 +215,24 @@ decides : (rules own : List Rule) (bytes : List ℕ) (table : List Bool) (fault 
     → IsDecided rules r.blocks rest (length (bytes_of r.blocks)) fault answer → IsTheAppraisal own bytes answer
 decides rules own bytes table fault rest answer same fine r last h =
     subst (λ (l : List Rule). IsTheAppraisal l bytes answer) same
-      (the_appraisal rules r.blocks bytes rest answer fine r.are_blocks r.bytes_are last
-        (subst (λ (o : Option Appraisal). IsDecided rules r.blocks rest (length (bytes_of r.blocks)) o answer) r.fault_is h))
+    (the_appraisal rules r.blocks bytes rest answer fine r.are_blocks r.bytes_are last
+    (subst (λ (o : Option Appraisal). IsDecided rules r.blocks rest (length (bytes_of r.blocks)) o answer) r.fault_is h))
 
 pub as_malformed : (rules own : List Rule) (bytes : List ℕ) (table : List Bool) (fault : Option Appraisal) (rest : List ℕ) → rules ≡ own
     → policy_fault rules ≡ None → IsRead rules bytes table fault rest → (BeginsWithBlock rest → ⊥)
     → (length rest == 0) ≡ false → IsTheAppraisal own bytes (Malformed (length bytes - length rest))
 as_malformed rules own bytes table fault rest same fine r last h =
     decides rules own bytes table fault rest (Malformed (length bytes - length rest)) same fine r last
-      (malformed_by rules r.blocks rest (length (bytes_of r.blocks)) (length bytes - length rest) fault
-        (omega (arith, eqb-false (length rest) 0 h))
-        (omega (arith, ap length r.bytes_are, length-append (bytes_of r.blocks) rest)))
+    (malformed_by rules r.blocks rest (length (bytes_of r.blocks)) (length bytes - length rest) fault
+    (omega (arith, eqb-false (length rest) 0 h))
+    (omega (arith, ap length r.bytes_are, length-append (bytes_of r.blocks) rest)))
 
 pub as_fault : (rules own : List Rule) (bytes : List ℕ) (table : List Bool) (fault : Option Appraisal) (rest : List ℕ) (answer : Appraisal) → rules ≡ own
     → policy_fault rules ≡ None → IsRead rules bytes table fault rest → (BeginsWithBlock rest → ⊥)
     → (length rest == 0) ≡ true → fault ≡ Some answer → IsTheAppraisal own bytes answer
 as_fault rules own bytes table fault rest answer same fine r last h is =
     decides rules own bytes table fault rest answer same fine r last
-      (by_fault rules r.blocks rest (length (bytes_of r.blocks)) fault answer (nothing_left rest h) is)
+    (by_fault rules r.blocks rest (length (bytes_of r.blocks)) fault answer (nothing_left rest h) is)
 
 left_by : (rules : List Rule) (blocks : List Measured) (missing : Option ℕ) → IsMissingOrNone rules blocks missing → IsLeft rules blocks (answer_of missing)
 left_by rules blocks None h = h
@@ -244,5 +244,5 @@ pub as_left : (rules own : List Rule) (bytes : List ℕ) (table : List Bool) (fa
     → IsTheAppraisal own bytes (answer_of missing)
 as_left rules own bytes table fault rest missing same fine r last h is left =
     decides rules own bytes table fault rest (answer_of missing) same fine r last
-      (by_rest rules r.blocks rest (length (bytes_of r.blocks)) fault (answer_of missing) (nothing_left rest h) is
-        (left_by rules r.blocks missing (left r.blocks r.seen)))
+    (by_rest rules r.blocks rest (length (bytes_of r.blocks)) fault (answer_of missing) (nothing_left rest h) is
+    (left_by rules r.blocks missing (left r.blocks r.seen)))

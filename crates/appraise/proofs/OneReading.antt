@@ -1,5 +1,5 @@
 -- Bytes are whole blocks and a rest that begins with none in one way only.
-use Rattle.std.proofs.Common.{◌≡◌, ◌<◌, ◌+◌, ◌^◌, ◌/◌, ◌%◌, ◌++◌, ℕ, zero, suc, List, [], ◌∷◌, map, length, drop, take, refl, sym, ap, ◌∙◌, append_assoc, arith}
+use Rattle.std.proofs.Common.{◌≡◌, ◌<◌, ◌^◌, ◌/◌, ◌%◌, ◌++◌, ℕ, List, [], ◌∷◌, map, length, drop, take, refl, sym, ap, ◌∙◌, append_assoc, arith}
 use Rattle.std.proofs.Math.Seq.{drop-append_seam, take-append_seam}
 use Rattle.std.specs.List.{AllByRecursion}
 use Rattle.measurements.specs.Blocks.{block_bytes, record_of}
@@ -8,9 +8,10 @@ use Rattle.appraise.specs.Records.{Measured, spec_of, IsBlock, bytes_of, BeginsW
 
 -- lists of one length in front of others
 front_same : (xs ys : List ℕ) (us vs : List ℕ) → length xs ≡ length ys → xs ++ us ≡ ys ++ vs → (xs ≡ ys) × (us ≡ vs)
-front_same xs ys us vs long e =
-    (sym (take-append_seam xs us) ∙ ap (λ (l : List ℕ). take (length xs) l) e ∙ ap (λ (n : ℕ). take n (ys ++ vs)) long ∙ take-append_seam ys vs,
-     sym (drop-append_seam xs us) ∙ ap (λ (l : List ℕ). drop (length xs) l) e ∙ ap (λ (n : ℕ). drop n (ys ++ vs)) long ∙ drop-append_seam ys vs)
+front_same xs ys us vs long e = (
+  sym (take-append_seam xs us) ∙ ap (λ (l : List ℕ). take (length xs) l) e ∙ ap (λ (n : ℕ). take n (ys ++ vs)) long ∙ take-append_seam ys vs,
+  sym (drop-append_seam xs us) ∙ ap (λ (l : List ℕ). drop (length xs) l) e ∙ ap (λ (n : ℕ). drop n (ys ++ vs)) long ∙ drop-append_seam ys vs,
+)
 
 two_bytes_same : (m n : ℕ) → m < 2 ^ 16 → n < 2 ^ 16 → m % 256 ≡ n % 256 → m / 256 % 256 ≡ n / 256 % 256 → m ≡ n
 two_bytes_same m n p q low high = omega (arith, p, q, low, high)
@@ -51,7 +52,7 @@ one_reading (block ∷ blocks) [] rest behind p q e f g =
     absurd (g (block, bytes_of blocks ++ rest, (p.0, sym e ∙ front_block block blocks rest)))
 one_reading (block ∷ blocks) (other ∷ others) rest behind p q e f g =
     let first = first_same block other (bytes_of blocks ++ rest) (bytes_of others ++ behind) p.0 q.0
-        (sym (front_block block blocks rest) ∙ e ∙ front_block other others behind) in
+    (sym (front_block block blocks rest) ∙ e ∙ front_block other others behind) in
     let more = one_reading blocks others rest behind p.1 q.1 first.1 f g in
     (cons_same block other blocks others first.0 more.0, more.1)
   where

@@ -1,5 +1,5 @@
 -- One block more is read.
-use Rattle.std.proofs.Common.{◌≡◌, ◌<◌, ◌+◌, ◌++◌, ◌==◌, ◌||◌, ℕ, Bool, true, false, List, [], ◌∷◌, length, get_or, set, Option, Some, None, refl, sym, ap, ◌∙◌, append_assoc, arith}
+use Rattle.std.proofs.Common.{◌≡◌, ◌++◌, ℕ, Bool, List, [], ◌∷◌, Option, Some, None, refl, sym, ap, ◌∙◌, append_assoc}
 use Rattle.std.specs.List.{AllByRecursion}
 use Rattle.std.specs.Option.{option_or}
 use Rattle.script_text.specs.declared.texts.rule.Rule.{Rule}
@@ -7,7 +7,7 @@ use Rattle.measurements.specs.Blocks.{block_bytes}
 use Rattle.appraise.specs.declared.appraisal.Appraisal.{Appraisal}
 use Rattle.appraise.specs.Records.{Measured, spec_of, IsBlock, IsFirstBlock, bytes_of}
 use Rattle.appraise.specs.Answers.{fault_of}
-use Rattle.appraise.specs.Walk.{StandsFor, IsRead, first_fault, first_fault_behind}
+use Rattle.appraise.specs.Walk.{StandsFor, IsRead, first_fault}
 use Rattle.appraise.proofs.FirstFaults.{fault_append}
 use Rattle.appraise.proofs.OneReading.{bytes_append}
 use Rattle.std.proofs.lemmas.List.{append-nil}
@@ -38,6 +38,6 @@ read_on rules bytes table table' fault fault' rest behind block r first seen is 
   bytes_are = bytes_push r.blocks block bytes rest behind r.bytes_are first.1;
   seen = seen r.blocks r.seen;
   fault_is = is r.blocks r.seen ∙ ap (λ (o : Option Appraisal). option_or o (fault_of rules r.blocks block)) r.fault_is
-    ∙ ap (option_or (first_fault rules r.blocks)) (sym (or_nothing (fault_of rules r.blocks block)))
-    ∙ sym (fault_append rules [] r.blocks (block ∷ []));
+      ∙ ap (option_or (first_fault rules r.blocks)) (sym (or_nothing (fault_of rules r.blocks block)))
+      ∙ sym (fault_append rules [] r.blocks (block ∷ []));
 }

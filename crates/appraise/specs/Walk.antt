@@ -1,10 +1,10 @@
 -- What is kept while a record is read from its front.
-use Rattle.std.specs.Prelude.{◌≡◌, ◌<◌, ◌^◌, ◌++◌, ℕ, Bool, false, List, [], ◌∷◌, Option, Some, None, MatchOption, slice_index_or}
+use Rattle.std.specs.Prelude.{◌≡◌, ◌<◌, ◌++◌, ℕ, Bool, false, List, [], ◌∷◌, Option, None, MatchOption, slice_index_or}
 use Rattle.std.specs.List.{AllByRecursion}
 use Rattle.std.specs.Option.{option_or}
 use Rattle.script_text.specs.declared.texts.rule.Rule.{Rule}
 use Rattle.appraise.specs.declared.appraisal.Appraisal.{Appraisal}
-use Rattle.appraise.specs.Records.{Measured, IsBlock, BeginsWithBlock, bytes_of, has_block}
+use Rattle.appraise.specs.Records.{Measured, IsBlock, bytes_of, has_block}
 use Rattle.appraise.specs.Answers.{fault_of, is_missing, IsLeastMissing}
 
 -- The table has, for each index, whether one of these blocks has it.

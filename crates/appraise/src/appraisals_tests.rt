@@ -26,7 +26,15 @@ fn appraisals(rt: HostRuntime) {
     assert_eq!(rt; appraise(&policy, &zeros(1)), Appraisal::Trusted);
     assert_eq!(rt; appraise(&policy, &[]), Appraisal::Missing { index: 1 });
     assert_eq!(rt; appraise(&policy, &[1, 1]), Appraisal::Malformed { at: 0 });
-    assert_eq!(rt; appraise(&policy, &zeros(2)), Appraisal::Unknown { index: 2 });
+    assert_eq!(rt;
+        appraise(&policy, &zeros(2)),
+        Appraisal::Unknown { index: 2 }
+    );
     let rules = [Rule::Skip { index: 0 }];
-    assert!(rt; matches!(Policy::new(rt.alloc(), &rules), Err(PolicyFault::IndexOutOfRange)));
+    assert!(rt;
+        matches!(
+            Policy::new(rt.alloc(), &rules),
+            Err(PolicyFault::IndexOutOfRange)
+        )
+    );
 }

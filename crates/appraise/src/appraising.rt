@@ -1,9 +1,8 @@
 ghost use Rattle.std.specs.Prelude.{◌≡◌, List, None};
-ghost use Rattle.appraise.specs.Records.{Measured};
+ghost use Rattle.appraise.specs.Records.{Measured, BeginsWithBlock};
 ghost use Rattle.appraise.specs.Policies.{policy_fault};
 ghost use Rattle.appraise.specs.Answers.{fault_of, IsAppraisal};
 ghost use Rattle.appraise.specs.Walk.{StandsFor, IsRead, IsMissingOrNone};
-ghost use Rattle.appraise.specs.Records.{BeginsWithBlock};
 ghost use Rattle.appraise.specs.declared.appraisal.Appraisal.{Appraisal};
 
 use crate::block::{Block, first_block};

@@ -40,7 +40,9 @@ pub fn first_block(bytes: &[u8]) -> Option<(Block<'_>, &[u8])>
     let (head, behind) = bytes.split_at(HEAD_LEN);
     let size = usize::from(LittleEndian::read_u16(&[head[2], head[3]]));
     let value_size = usize::from(LittleEndian::read_u16(&[head[5], head[6]]));
-    if head[1] != MEASUREMENT_DMTF || size != VALUE_HEAD_LEN + value_size || behind.len() < value_size
+    if head[1] != MEASUREMENT_DMTF
+        || size != VALUE_HEAD_LEN + value_size
+        || behind.len() < value_size
     {
         return None;
     }

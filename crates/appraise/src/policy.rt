@@ -1,5 +1,4 @@
 ghost use Rattle.std.specs.Prelude.{◌≡◌, IfOk};
-ghost use Rattle.script_text.specs.declared.texts.rule.Rule.{Rule};
 
 use crate::PolicyFault;
 use crate::rules::{has_bad_index, has_twice};

@@ -52,7 +52,8 @@ fn is_expectation(index: u8, rule: &Rule) -> bool
 {
     match rule {
         Rule::Expect {
-            index: expected, ..
+            index: expected,
+            ..
         } => *expected == index,
         Rule::Skip { .. } => false,
     }

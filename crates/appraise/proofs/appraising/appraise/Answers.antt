@@ -1,8 +1,4 @@
-use Rattle.std.proofs.Common.{◌≡◌, ◌-◌, ◌∙◌, ℕ, List, Some, None, length, sym, subst}
-use Rattle.appraise.specs.Records.{Measured}
-use Rattle.appraise.specs.Answers.{IsTheAppraisal}
-use Rattle.appraise.specs.Walk.{StandsFor, IsMissingOrNone}
-use Rattle.appraise.specs.declared.appraisal.Appraisal.TheVariants.{Trusted, Malformed, Missing}
+use Rattle.std.proofs.Common.{◌∙◌, Some, None, sym}
 use Rattle.appraise.proofs.OneAnswer.{as_malformed, as_fault, as_left}
 use Rattle.appraise.proofs.appraising.appraise.Goals as goal
 
@@ -11,8 +7,8 @@ returns-then-not-is_empty c =
     let r = c.read-reading.result in
     let e = c.rules-rules.ensures in
     let answer = as_malformed c.rules-rules.result.now c.args.policy.now c.args.blocks.now r.seen.table r.fault r.rest.now
-      e.value e.sound c.read-reading.ensures.read c.read-reading.ensures.last
-      (sym c.is_empty.ensures ∙ c.if-not-is_empty.true) in
+    e.value e.sound c.read-reading.ensures.read c.read-reading.ensures.last
+    (sym c.is_empty.ensures ∙ c.if-not-is_empty.true) in
     record { holds = answer.0; only = answer.1 }
 
 pub returns-in-Some : goal.returns-in-Some
@@ -20,8 +16,8 @@ returns-in-Some c =
     let r = c.read-reading.result in
     let e = c.rules-rules.ensures in
     let answer = as_fault c.rules-rules.result.now c.args.policy.now c.args.blocks.now r.seen.table r.fault r.rest.now c.in-Some.fault
-      e.value e.sound c.read-reading.ensures.read c.read-reading.ensures.last
-      (sym c.is_empty.ensures ∙ c.if-not-is_empty.false) c.in-Some.is in
+    e.value e.sound c.read-reading.ensures.read c.read-reading.ensures.last
+    (sym c.is_empty.ensures ∙ c.if-not-is_empty.false) c.in-Some.is in
     record { holds = answer.0; only = answer.1 }
 
 pub returns-in-Some-first_missing : goal.returns-in-Some-first_missing
@@ -29,8 +25,8 @@ returns-in-Some-first_missing c =
     let r = c.read-reading.result in
     let e = c.rules-rules.ensures in
     let answer = as_left c.rules-rules.result.now c.args.policy.now c.args.blocks.now r.seen.table r.fault r.rest.now (Some c.in-Some-first_missing.index)
-      e.value e.sound c.read-reading.ensures.read c.read-reading.ensures.last
-      (sym c.is_empty.ensures ∙ c.if-not-is_empty.false) c.in_default.is c.in-Some-first_missing.ensures in
+    e.value e.sound c.read-reading.ensures.read c.read-reading.ensures.last
+    (sym c.is_empty.ensures ∙ c.if-not-is_empty.false) c.in_default.is c.in-Some-first_missing.ensures in
     record { holds = answer.0; only = answer.1 }
 
 pub returns-in-None : goal.returns-in-None
@@ -38,6 +34,6 @@ returns-in-None c =
     let r = c.read-reading.result in
     let e = c.rules-rules.ensures in
     let answer = as_left c.rules-rules.result.now c.args.policy.now c.args.blocks.now r.seen.table r.fault r.rest.now None
-      e.value e.sound c.read-reading.ensures.read c.read-reading.ensures.last
-      (sym c.is_empty.ensures ∙ c.if-not-is_empty.false) c.in_default.is c.in-None.ensures in
+    e.value e.sound c.read-reading.ensures.read c.read-reading.ensures.last
+    (sym c.is_empty.ensures ∙ c.if-not-is_empty.false) c.in_default.is c.in-None.ensures in
     record { holds = answer.0; only = answer.1 }

@@ -1,4 +1,4 @@
-use Rattle.std.proofs.Common.{◌≡◌, ◌<◌, ◌≤◌, ◌&&◌, ℕ, Bool, false, ap, ◌∙◌, inl, inr, arith}
+use Rattle.std.proofs.Common.{◌&&◌, Bool, ap, inl, inr, arith}
 use Rattle.std.proofs.lemmas.Bool.{cases_lt}
 use Rattle.std.specs.Prelude.{not}
 use Rattle.appraise.specs.Records.{has_block}
@@ -12,6 +12,6 @@ loop-index-init c blocks seen lower less =
 pub returns : goal.returns
 returns c blocks seen index =
     elim (cases_lt index 255) [
-      inl less ↦ c.loop-index.invariant blocks seen index (omega (arith, less, c.loop-index-test.false))
-    | inr more ↦ ap (λ (b : Bool). b && not (has_block index blocks)) (expects_none c.args.rules.now index c.requires (inr more))
+      | inl less ↦ c.loop-index.invariant blocks seen index (omega (arith, less, c.loop-index-test.false))
+      | inr more ↦ ap (λ (b : Bool). b && not (has_block index blocks)) (expects_none c.args.rules.now index c.requires (inr more))
     ]

@@ -1,4 +1,4 @@
-use Rattle.std.proofs.Common.{◌≡◌, ◌∙◌, List, Option, Some, None, Bool, true, false, refl, sym, ap}
+use Rattle.std.proofs.Common.{◌≡◌, ◌∙◌, Option, Some, None, true, false, refl, sym, ap}
 use Rattle.std.proofs.lemmas.Bool.{false≢true}
 use Rattle.std.specs.Option.{option_or, is_some}
 use Rattle.std.specs.Prelude.{not}
@@ -19,9 +19,9 @@ some_or (Some f) b h = refl
 pub loop-block-preserved : goal.loop-block-preserved
 loop-block-preserved c =
     read_on c.args.rules.now c.args.bytes.now c.loop-block.seen.table c.add.new.self.table c.loop-block.fault c.if-is_none.fault
-      c.loop-block.rest.now c.in-Some.behind.now c.in-Some.block c.loop-block.invariant c.in-Some.ensures
-      (λ blocks stands. c.add.ensures blocks c.in-Some.block (ap (λ (m : Measured). m.index) (sym c.block-in-Some.view_is)) stands)
-      (λ earlier stands. elim c.if-is_none.branch [
-        then-is_none w ↦ w.fault-is ∙ w.fault_of-fault.ensures earlier stands ∙ none_or c.loop-block.fault _ (c.is_none.ensures ∙ ap not w.if-is_none.true)
+    c.loop-block.rest.now c.in-Some.behind.now c.in-Some.block c.loop-block.invariant c.in-Some.ensures
+    (λ blocks stands. c.add.ensures blocks c.in-Some.block (ap (λ (m : Measured). m.index) (sym c.block-in-Some.view_is)) stands)
+    (λ earlier stands. elim c.if-is_none.branch [
+      | then-is_none w ↦ w.fault-is ∙ w.fault_of-fault.ensures earlier stands ∙ none_or c.loop-block.fault _ (c.is_none.ensures ∙ ap not w.if-is_none.true)
       | else-is_none w ↦ w.fault-is ∙ some_or c.loop-block.fault _ (c.is_none.ensures ∙ ap not w.if-is_none.false)
-      ])
+    ])
