@@ -1,8 +1,6 @@
-/// What a record comes to under a policy: the first of these that holds, `Trusted` where none of the others does.
+/// What a record comes to under a policy: the first of these that holds.
 #[derive(Clone, Copy, Debug, PartialEq, Eq)]
 pub enum Appraisal {
-    /// The blocks are those that the rules expect, and any that they skip.
-    Trusted,
     /// Whole blocks alone stand before this place, in bytes from the front, and what stands there begins none.
     Malformed { at: usize },
     /// A block has the index of an earlier one.
@@ -13,4 +11,6 @@ pub enum Appraisal {
     Differs { index: u8 },
     /// A rule expects a block of this index, the least of which there is none.
     Missing { index: u8 },
+    /// The blocks are those that the rules expect, and any that they skip.
+    Trusted,
 }

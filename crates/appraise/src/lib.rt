@@ -4,8 +4,6 @@
 #![tactic(auto)]
 
 mod appraisal;
-#[cfg(test)]
-mod appraisals_tests;
 mod appraising;
 mod block;
 mod laws;
