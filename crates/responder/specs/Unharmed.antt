@@ -1,6 +1,9 @@
--- What a packet leaves as it was whose request is refused, comes again, does not open or brings no body.
-use Rattle.std.specs.Prelude.{◌≡◌, ℕ, List, Some}
-use Rattle.responder_machine.specs.EndLaws.{source_of}
+-- What a packet leaves as it was: whatever comes of it, the connections of other endpoints; where its request is refused,
+-- comes again, does not open or brings no body, more than these.
+use Rattle.std.specs.Prelude.{◌≡◌, ◌≢◌, ℕ, List, Some}
+use Rattle.responder.specs.Standing.{StandsFor}
+use Rattle.responder.specs.declared.serving.Responder.{Responder}
+use Rattle.responder_machine.specs.EndLaws.{AreAlike, source_of}
 use Rattle.responder_machine.specs.History.{History}
 use Rattle.responder_machine.specs.Responder.{Outcome, after}
 use Rattle.responder_machine.specs.Responding.{Connection, Responding, connection_of, responder_hears, with_history}
@@ -39,3 +42,10 @@ IsHarmlessBy r packet next _ = Unit {0}
 
 abbrev pub IsHarmless : Responding → List ℕ → Heard → Type 0
 IsHarmless r packet told = IsHarmlessBy r packet (responder_hears r packet).after.connections told
+
+-- A packet leaves the program's responder standing for one that is, towards each endpoint but the packet's source, what
+-- it was: the same connection with it, and the same packets from which its bodies are gathered.
+pub record AreOthersKept (r : Responding) (packet : List ℕ) (new : Responder) : Type 0 where
+  pub next : Responding
+  pub stands : StandsFor new next
+  pub others : (eid : ℕ) → source_of packet ≢ eid → AreAlike eid next r

@@ -52,7 +52,7 @@ impl Responder {
     ghost use Rattle.responder.specs.Config.{IsCause, config_fault};
     ghost use Rattle.responder.specs.SetUp.{end_of};
     ghost use Rattle.responder.specs.Standing.{IsStep, StandsFor, has_eid};
-    ghost use Rattle.responder.specs.Unharmed.{IsHarmless};
+    ghost use Rattle.responder.specs.Unharmed.{AreOthersKept, IsHarmless};
     ghost use Rattle.std.specs.List.{position_from};
     ghost use Rattle.responder_machine.specs.Responding.{Responding, hears_packet, is_worn, new_responding, next_draw, responder_hears};
 
@@ -103,12 +103,15 @@ impl Responder {
 
     /// Handles a received packet. The response packets overwrite `out`. Never allocates. A refused request changes
     /// nothing in the sessions but the record numbers, the stored response and the clock of the session that its record
-    /// names, and nothing in other connections. If nothing is taken no connection changes.
+    /// names. If nothing is taken no connection changes. Whatever is reported, the connections with other endpoints than
+    /// the source of the packet stay as they were, and so do their unfinished messages.
     pub fn on_packet(&mut self, packet: &[u8], out: &mut PacketList) -> Heard
         ensures step { (r : Responding) → StandsFor self.old r
             → IsStep (responder_hears r packet.now) result out.new self.new }
         ensures harmless { (r : Responding) → StandsFor self.old r
             → IsHarmless r packet.now result }
+        ensures others { (r : Responding) → StandsFor self.old r
+            → AreOthersKept r packet.now self.new }
     {
         out.clear();
         if self.given >= WEAR_LIMIT {

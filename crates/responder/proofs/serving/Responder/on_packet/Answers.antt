@@ -4,6 +4,7 @@ use Rattle.responder.proofs.Steps.{broken_step, fresh_is, fresh_step, worn_is, w
 use Rattle.responder.proofs.serving.Responder.on_packet.Goals as goal
 use Rattle.responder.specs.Standing.{IsStep}
 use Rattle.responder.specs.Unharmed.{IsHarmless}
+use Rattle.responder_machine.proofs.Others.{others}
 use Rattle.responder.specs.declared.serving.Responder.{Responder}
 use Rattle.responder_machine.specs.Responding.{RspStep}
 use Rattle.spdm_grammar.specs.declared.told.heard.Heard.TheVariants as heard
@@ -41,3 +42,15 @@ returns-in-Ok-clause-harmless c = λ r stands.
 pub returns-in-Err-clause-harmless : goal.returns-in-Err-clause-harmless
 returns-in-Err-clause-harmless c = λ r stands.
     subst (IsHarmless r c.args.packet.now) (sym (returns-in-Err-clause-step c r stands).told) (harmless r c.args.packet.now)
+
+pub returns-then-self-ge-WEAR_LIMIT-clause-others : goal.returns-then-self-ge-WEAR_LIMIT-clause-others
+returns-then-self-ge-WEAR_LIMIT-clause-others c = λ r stands.
+    record { next = _; stands = (returns-then-self-ge-WEAR_LIMIT-clause-step c r stands).stands; others = others r c.args.packet.now }
+
+pub returns-in-Ok-clause-others : goal.returns-in-Ok-clause-others
+returns-in-Ok-clause-others c = λ r stands.
+    record { next = _; stands = (returns-in-Ok-clause-step c r stands).stands; others = others r c.args.packet.now }
+
+pub returns-in-Err-clause-others : goal.returns-in-Err-clause-others
+returns-in-Err-clause-others c = λ r stands.
+    record { next = _; stands = (returns-in-Err-clause-step c r stands).stands; others = others r c.args.packet.now }
