@@ -1,4 +1,4 @@
-ghost use Rattle.std.specs.Prelude.{◌≡◌, ◌≤◌, ◌<◌, true, ◌&&◌, ◌^◌};
+ghost use Rattle.std.specs.Prelude.{◌≡◌, ◌≤◌, ◌<◌, true, ◌&&◌, ◌^◌, length};
 ghost use Rattle.responder_core.specs.Connected.{StandsFor};
 ghost use Rattle.responder_core.specs.Free.{IsFree};
 ghost use Rattle.responder_core.specs.Sessions.{IsViewOf};
@@ -8,6 +8,7 @@ ghost use Rattle.responder_machine.specs.History.{History};
 ghost use Rattle.responder_machine.specs.Place.{Place, place_terms};
 ghost use Rattle.responder_machine.specs.Session.{Events, is_live, stage_of};
 ghost use Rattle.responder_machine.specs.Setup.{RspSetup};
+ghost use Rattle.spdm_basis.specs.Sizes.{hash_size};
 ghost use Rattle.spdm_machine.specs.Sessions.{is_past_handshake};
 ghost use Rattle.check_responder.specs.Answerer.{are_allowed, are_few, is_id, is_unused};
 ghost use Rattle.spdm_grammar.specs.declared.names.TheConstants.{MAX_SESSIONS};
@@ -57,6 +58,7 @@ fn are_few(reply: &[u8], pad: &[u8]) -> bool
 pub(crate) fn are_allowed(connection: &Connection, hash: HashAlg, values: &FreeValues<'_>) -> bool
     ensures least { result ≡ true → 1 ≤ values.now.id }
     ensures most { result ≡ true → values.now.id ≤ MAX_SESSIONS }
+    ensures context { result ≡ true → hash_size hash ≤ length values.now.context.now }
     ensures value { (r : RspSetup) (h : History) (p : Place) (f : Free) → StandsFor connection.now r h
         → messages_of h < 2 ^ 64 → (place_terms p).choice.hash ≡ hash → IsFree values.now f
         → result ≡ are_allowed h p f }

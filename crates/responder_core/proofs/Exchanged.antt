@@ -116,19 +116,18 @@ exchange_fits r p m f asked clear settled form is taken =
 abbrev pub Starts : RspSetup → History → (bytes : List ℕ) → Free → RspSession → (answer : List ℕ) → Type 0
 Starts r h bytes f session answer =
     (at : Where) (asked : ExchangeMessage) → request_at (place_at at (clear_turns h) (held_of h)) bytes ≡ Some (PskExchange asked)
-    → hash_len (place_terms (place_at at (clear_turns h) (held_of h))) ≤ length f.context
     → length (answer_bytes r (place_at at (clear_turns h) (held_of h)) bytes f) ≤ MAX_MESSAGE_SIZE
     → IsStarted r (negotiation_of (clear_turns h)) bytes (answer_bytes r (place_at at (clear_turns h) (held_of h)) bytes f) session answer
 
-pub started_at : (r : RspSetup) (h : History) (m : List ℕ) (f : Free) (begun : Begun) (seen : coming.Seen) (session : RspSession) (answer : List ℕ) → hash_len (place_terms (clear_place h)) ≤ length f.context
+pub started_at : (r : RspSetup) (h : History) (m : List ℕ) (f : Free) (begun : Begun) (seen : coming.Seen) (session : RspSession) (answer : List ℕ)
     → IsBegun r (clear_place h) m f begun seen → Starts r h (exchange_bytes begun m seen) f session answer → IsStartedAt r h m f begun seen session answer
-started_at r h m f begins.InClear seen session answer long b starts =
+started_at r h m f begins.InClear seen session answer b starts =
     let shown = exchange_shown r (clear_place h) m f begins.InClear seen tt b in
-    starts InClear shown.asked shown.asked_is long
+    starts InClear shown.asked shown.asked_is
     (exchange_fits r (clear_place h) m f shown.asked shown.clear (settled_at seen.standing InClear (clear_turns h) (held_of h) shown.standing) shown.form shown.asked_is shown.refused)
-started_at r h m f (begins.InChunks handle number) seen session answer long b starts =
+started_at r h m f (begins.InChunks handle number) seen session answer b starts =
     let shown = exchange_shown r (clear_place h) m f (begins.InChunks handle number) seen tt b in
-    starts InChunks shown.asked shown.asked_is long
+    starts InChunks shown.asked shown.asked_is
     (exchange_fits r (inside (clear_place h)) seen.whole f shown.asked shown.clear (settled_at seen.standing InChunks (clear_turns h) (held_of h) shown.standing) shown.form shown.asked_is shown.refused)
 
 -- ---- The parts of its answer.
@@ -177,27 +176,21 @@ beginning_at r h m f begun seen session answer few b started sizes =
 
 pub started : (r : RspSetup) (p : Place) (turns : List Turn) (exchange : List ℕ) (f : Free) (asked : ExchangeMessage) (terms : SessionTerms) (parts : ExchangeParts) (session : RspSession) (psk answer : List ℕ)
     → p.negotiation ≡ negotiation_of turns → request_at p exchange ≡ Some (PskExchange asked) → ArePartsOf r p f asked parts → AreTermsOf terms (negotiation_of turns) exchange → r.psk ≡ psk
-    → hash_len (place_terms p) ≤ length f.context → length (answer_bytes r p exchange f) ≤ MAX_MESSAGE_SIZE
+    → length (answer_bytes r p exchange f) ≤ MAX_MESSAGE_SIZE
     → (AreAnswered terms parts → answer ≡ answer_for psk (negotiation_of turns) exchange parts)
     → (AreAnswered terms parts → sessions.StandsFor session psk (begun_by (negotiation_of turns) exchange answer))
     → IsStarted r (negotiation_of turns) exchange (answer_bytes r p exchange f) session answer
-started r p turns exchange f asked terms parts session psk answer here is are terms_is key long fits answered stands =
+started r p turns exchange f asked terms parts session psk answer here is are terms_is key fits answered stands =
     let n = negotiation_of turns in
     let whole : answer_for r.psk n exchange parts ≡ answer_bytes r p exchange f =
     ap (λ (x : Negotiation). answer_for r.psk x exchange parts) (sym here) ∙ start_is_answer r p exchange f asked parts are ∙ sym (answer_is r p exchange f (PskExchange asked) is) in
-    let choice : terms.choice ≡ (place_terms p).choice = terms_is.choice ∙ ap (λ (x : Negotiation). (terms_of x).choice) (sym here) in
-    let hash : hash_size terms.choice.hash ≡ hash_len (place_terms p) = ap (λ (x : Choice). hash_size x.hash) choice in
     let own : List ℕ = verify_data (terms_of n).choice r.psk (t1_with n exchange parts) direction.Response (t1_with n exchange parts) in
     let own_long : length own ≡ hash_size terms.choice.hash =
     length_verify (terms_of n).choice r.psk (t1_with n exchange parts) direction.Response (t1_with n exchange parts) ∙ ap (λ (x : Choice). hash_size x.hash) (sym terms_is.choice) in
-    let context : length parts.context.now ≡ length f.context = ap (λ (x : List ℕ). length x) are.context in
-    let made : AreAnswered terms parts = record {
-      context = omega (arith, hash, context, long);
-      most = λ verify size.
-          let alike = alike_long parts verify own (size ∙ sym own_long) in
-          let total = ap (λ (x : List ℕ). length x) whole in
-          omega (arith, alike, total, fits);
-    } in
+    let made : AreAnswered terms parts = λ verify size.
+        let alike = alike_long parts verify own (size ∙ sym own_long) in
+        let total = ap (λ (x : List ℕ). length x) whole in
+        omega (arith, alike, total, fits) in
     record {
       answer_is = answered made ∙ ap (λ (k : List ℕ). answer_for k n exchange parts) (sym key) ∙ whole;
       session_is = subst (λ (k : List ℕ). sessions.StandsFor session k (begun_by n exchange answer)) (sym key) (stands made);

@@ -57,3 +57,8 @@ BeginsNone _ = Unit {0}
 abbrev pub IsTold : RspSetup → History → (tag : ℕ) → List ℕ → Free → Draw → Told → (new : Seen) → (out : List ℕ) → Type 0
 IsTold r h tag m f d (told.Heard heard drawn) new out = IsAnswered r h tag m f d heard new out × BeginsNone (on_clear r h tag m f d) × (drawn ≡ is_drawn (on_clear r h tag m f d))
 IsTold r h tag m f d (told.Begins begun) new out = IsBeginning r h tag m f begun new
+
+-- Where a session begins the negotiation and the large response stay.
+abbrev pub StaysToBegin : Told → (old new : Seen) → Type 0
+StaysToBegin (told.Begins begun) old new = new.requests.standing ≡ old.requests.standing
+StaysToBegin _ old new = Unit {0}

@@ -91,3 +91,8 @@ exchange_bytes (begun.InChunks handle number) m seen = seen.whole
 abbrev pub exchange_place : Begun → Place → Place
 exchange_place begun.InClear p = p
 exchange_place (begun.InChunks handle number) p = inside p
+
+-- Where a session begins the negotiation and the large response stay.
+abbrev pub StaysToBegin : Came → (old new : Seen) → Type 0
+StaysToBegin (came.Begins begun) old new = new.standing ≡ old.standing
+StaysToBegin _ old new = Unit {0}

@@ -2,6 +2,7 @@
 use Rattle.std.specs.Prelude.{◌≡◌, ◌==◌, ℕ, List, drop, Bool, true, false}
 use Rattle.responder_core.specs.ClearPart as clear_parts
 use Rattle.responder_core.specs.Sessions as sessions
+use Rattle.responder_core.specs.Standing.{chosen_len}
 use Rattle.responder_core.specs.declared.connected.Connection.{Connection}
 use Rattle.responder_machine.specs.Heard.{heard_of}
 use Rattle.responder_machine.specs.History.{History, clear_turns, negotiation_of, phase_of, queue_of}
@@ -25,6 +26,10 @@ pub record StandsFor (seen : Connection) (r : RspSetup) (h : History) : Type 0 w
   pub sessions : sessions.StandsFor seen.sessions r h
   pub queue : seen.queue ≡ queue_of h
   pub sizes : HasSizesAt r (clear_turns h)
+
+-- The length of the hash that was chosen: the least length of a context.
+abbrev pub context_len : Connection → ℕ
+context_len seen = chosen_len seen.clear.requests.standing
 
 -- The same of all beside the clear part.
 pub record StandsBeside (seen : Connection) (r : RspSetup) (h : History) : Type 0 where

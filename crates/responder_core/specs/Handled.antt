@@ -14,6 +14,12 @@ use Rattle.spdm_grammar.specs.Message.{chunk_message, exchange_message}
 use Rattle.spdm_grammar.specs.Message.RequestMessage.{ChunkSend, PskExchange}
 use Rattle.spdm_grammar.specs.declared.names.request_code.TheConstants.{PSK_EXCHANGE}
 
+-- Nothing has changed where a chunk or PSK_EXCHANGE is told.
+abbrev pub IsUntouched : Handled → (old new : Seen) → Type 0
+IsUntouched (came.Chunk chunk) old new = new ≡ old
+IsUntouched (came.Exchange exchange) old new = new ≡ old
+IsUntouched _ old new = Unit {0}
+
 -- By what it is told, with what is kept before it and after it, and what is written: it is refused, nothing changes,
 -- and its ERROR is written; or it is neither a chunk nor PSK_EXCHANGE and is answered, what is kept is that of every
 -- turn that takes it with its effect, and what is sent for it is written; or it is a chunk, which is refused for no

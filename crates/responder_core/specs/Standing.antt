@@ -5,6 +5,7 @@ use Rattle.responder_rules.specs.LargeAnswer as large_answer
 use Rattle.responder_machine.specs.History.{negotiation_of, phase_of}
 use Rattle.responder_machine.specs.Place.{Place, Where, place_terms}
 use Rattle.responder_machine.specs.Turn.{Turn}
+use Rattle.spdm_basis.specs.Sizes.{hash_size}
 
 -- A place in the clear of these turns, the newest first, with so many established sessions.
 abbrev pub place_at : Where → List Turn → (held : ℕ) → Place
@@ -26,6 +27,10 @@ pub record Seen : Type 0 where
 pub record StandsFor (seen : Seen) (turns : List Turn) : Type 0 where
   pub negotiating : negotiating.StandsFor seen.negotiating turns
   pub large : large_answer.StandsFor seen.large seen.negotiating.common.to_requester.transfer turns
+
+-- The length of the hash that was chosen: the least length of a context.
+abbrev pub chosen_len : Seen → ℕ
+chosen_len seen = hash_size seen.negotiating.choice.hash
 
 -- What both ends can do is settled at a place, as far as its phase says.
 pub record IsSettledAt (p : Place) : Type 0 where

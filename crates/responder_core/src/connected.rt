@@ -54,7 +54,7 @@ impl Connection {
     ghost use Rattle.spdm_machine.specs.Bodies.{clear_body};
     ghost use Rattle.spdm_machine.specs.Keys.{Draw};
     ghost use Rattle.responder_core.specs.ClearPart.{IsBeginning, is_drawn};
-    ghost use Rattle.responder_core.specs.Connected.{IsDone, StandsBeside, StandsFor};
+    ghost use Rattle.responder_core.specs.Connected.{IsDone, StandsBeside, StandsFor, context_len};
     ghost use Rattle.responder_core.specs.Free.{IsFree};
     ghost use Rattle.responder_core.specs.Harmless.{IsClearHarmless, IsRecordHarmless};
     ghost use Rattle.responder_core.specs.Sessions.{body_by};
@@ -85,6 +85,7 @@ impl Connection {
     ) -> Heard
         requires least { 1 ≤ free.now.id }
         requires most { free.now.id ≤ MAX_SESSIONS }
+        requires context { context_len self.old ≤ length free.now.context.now }
         ensures done { (r : RspSetup) (h : History) (f : Free) (d : Draw) → IsSetUp setup.now r
             → IsFree free.now f → IsAllowed h (clear_place h) f → StandsFor self.old r h
             → IsDone r h (on_clear r h tag message.now f d) result (clear_body out.new) self.new }
@@ -119,6 +120,7 @@ impl Connection {
     ) -> Heard
         requires least { 1 ≤ free.now.id }
         requires most { free.now.id ≤ MAX_SESSIONS }
+        requires context { context_len self.old ≤ length free.now.context.now }
         ensures done { (r : RspSetup) (h : History) (f : Free) (d : Draw) → IsSetUp setup.now r
             → IsFree free.now f → IsAllowed h (clear_place h) f
             → IsBeginning r h tag message.now f begun self.old.clear → StandsBeside self.old r h

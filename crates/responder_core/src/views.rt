@@ -7,7 +7,7 @@ use spdm_grammar::{Choice, Phase, SessionList, SessionView};
 impl Connection {
     ghost use Rattle.std.specs.Prelude.{◌≡◌, ◌≤◌, ◌<◌, ◌^◌, length};
     ghost use Rattle.chunking.specs.Collecting.{joined, under_way};
-    ghost use Rattle.responder_core.specs.Connected.{StandsFor};
+    ghost use Rattle.responder_core.specs.Connected.{StandsFor, context_len};
     ghost use Rattle.responder_core.specs.Sessions.{IsViewOf};
     ghost use Rattle.responder_machine.specs.BoundLaws.{messages_of};
     ghost use Rattle.responder_machine.specs.Does.{first_queued};
@@ -20,6 +20,7 @@ impl Connection {
     ghost use Rattle.responder_machine.specs.Session.{session_of, turns_of};
     ghost use Rattle.responder_machine.specs.Setup.{RspSetup};
     ghost use Rattle.responder_session.specs.Data.{data_of};
+    ghost use Rattle.spdm_basis.specs.Sizes.{hash_size};
     ghost use Rattle.spdm_machine.specs.Terms.{terms_of};
 
     /// The phase of the negotiation.
@@ -48,8 +49,9 @@ impl Connection {
 
     /// The negotiated algorithms.
     pub fn choice(&self) -> Choice
-        ensures { (r : RspSetup) (h : History) → StandsFor self.now r h
+        ensures value { (r : RspSetup) (h : History) → StandsFor self.now r h
             → result ≡ (terms_of (negotiation_of (clear_turns h))).choice }
+        ensures context { hash_size result.hash ≡ context_len self.now }
     {
         self.clear.standing().choice()
     }

@@ -10,10 +10,12 @@ use Rattle.responder_machine.specs.Answer.{Free, request_at}
 use Rattle.responder_machine.specs.Handling.{turn_of, refused_turn}
 use Rattle.responder_machine.specs.Place.{session_place}
 use Rattle.responder_machine.specs.Refusal.{refused_form, tests_of_form, stage_allows, has_pending, is_answer_too_long}
-use Rattle.responder_machine.specs.Session.{Events, stage_of, session_terms, session_vca, exchange_of, exchange_answer, request_epoch, response_epoch}
+use Rattle.responder_machine.specs.Session.{Events, stage_of, session_negotiation, session_terms, session_vca, exchange_of, exchange_answer, request_epoch, response_epoch}
 use Rattle.responder_machine.specs.Session.Event.{Heard}
 use Rattle.running_hash.specs.Hash.{hash_of}
 use Rattle.session_keys.specs.Keys.{IsKeyOf}
+use Rattle.session_keys.specs.Terms.{AreTermsOf}
+use Rattle.session_keys.specs.declared.terms.SessionTerms.{SessionTerms}
 use Rattle.responder_machine.specs.Setup.{RspSetup}
 use Rattle.responder_machine.specs.SizeLaws.{HasSizes}
 use Rattle.spdm_grammar.specs.Codes.{code_for}
@@ -78,8 +80,7 @@ kept_finished old mid new request_key response_key psk s sealed message verify r
     let choice = (session_terms s).choice in
     record {
       live = refl;
-      choice = ap (λ (x : Kept). x.terms.choice) second ∙ ap (λ (x : Kept). x.terms.choice) first ∙ keeps.choice;
-      common = ap (λ (x : Kept). x.terms.common) second ∙ ap (λ (x : Kept). x.terms.common) first ∙ keeps.common;
+      terms = subst (λ (x : SessionTerms). AreTermsOf x (session_negotiation s) (exchange_of s)) (sym (ap (λ (x : Kept). x.terms) second ∙ ap (λ (x : Kept). x.terms) first)) keeps.terms;
       id = ap (λ (x : Kept). x.id) second ∙ ap (λ (x : Kept). x.id) first ∙ keeps.id;
       request = subst (λ (k : DirectionSecret). IsKeyOf k choice (application_record psk t2 Request (request_epoch s))) (sym (ap (λ (x : Kept). x.request) second))
           (subst (λ (n : ℕ). IsKeyOf request_key choice (application_record psk t2 Request n)) (sym no_request) request);

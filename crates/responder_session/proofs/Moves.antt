@@ -77,8 +77,7 @@ kept_by old new psk s m t reply taken is count last k keeps =
     let choice = (session_terms s).choice in
     subst (λ (x : Kept). Keeps x psk (Heard m t reply ∷ s)) (sym is) (record {
       live = refl;
-      choice = keeps.choice;
-      common = keeps.common;
+      terms = keeps.terms;
       id = keeps.id;
       request = subst (λ (p : Purpose). IsKeyOf old.request choice p) (λ i. purpose_in (sym stage i) psk (t1_of s) (sym t2 i) Request (sym requests i)) keeps.request;
       response = subst (λ (p : Purpose). IsKeyOf old.response choice p) (λ i. purpose_in (sym stage i) psk (t1_of s) (sym t2 i) Response (sym responses i)) keeps.response;

@@ -14,6 +14,7 @@ use Rattle.responder_machine.specs.Turn.Effect.{NoEffect, Took, TookData}
 use Rattle.running_hash.specs.Hash.{hash_of}
 use Rattle.session_keys.specs.Handshake.{IsHandshakeOf}
 use Rattle.session_keys.specs.Keys.{IsKeyOf}
+use Rattle.session_keys.specs.Terms.{AreTermsOf}
 use Rattle.spdm_grammar.specs.Codes.{code_for}
 use Rattle.spdm_grammar.specs.Message.{RequestMessage}
 use Rattle.spdm_grammar.specs.declared.messages.choice.Choice.{Choice}
@@ -212,8 +213,7 @@ module _ (s e : Events) (a : IsAlike s e) where
   pub keeps_alike : (kept : Kept) (psk : List ℕ) → Keeps kept psk s → Keeps kept psk e
   keeps_alike kept psk k = record {
     live = sym a.live ∙ k.live;
-    choice = k.choice ∙ (λ i. (terms_same i).choice);
-    common = k.common ∙ (λ i. (terms_same i).common);
+    terms = subst (AreTermsOf kept.terms (session_negotiation e)) a.exchange (subst (λ (n : Negotiation). AreTermsOf kept.terms n (exchange_of s)) a.negotiation k.terms);
     id = k.id ∙ (λ i. record { req = id_in_exchange (a.exchange i); rsp = id_in_exchange (a.answer i) });
     request = subst (λ (p : Purpose). IsKeyOf kept.request (session_terms e).choice p) (λ i. purpose_in (a.stage i) psk (t1_same i) (t2_same i) Request (a.request_epoch i))
         (subst (λ (c : Choice). IsKeyOf kept.request c (request_purpose psk s)) (λ i. (terms_same i).choice) k.request);

@@ -7,10 +7,12 @@ use Rattle.key_schedule.specs.declared.direction.Direction.TheVariants.{Request,
 use Rattle.responder_machine.specs.Answer.{Free}
 use Rattle.responder_machine.specs.Records.{reply_record}
 use Rattle.responder_machine.specs.Responder.{inner_reply, data_turn}
-use Rattle.responder_machine.specs.Session.{Events, stage_of, session_hash, session_terms, t2_of, request_epoch, response_epoch, taken_of}
+use Rattle.responder_machine.specs.Session.{Events, stage_of, session_hash, exchange_of, session_negotiation, session_terms, t2_of, request_epoch, response_epoch, taken_of}
 use Rattle.responder_machine.specs.Session.Event.{Heard}
 use Rattle.responder_machine.specs.Turn.{takes}
 use Rattle.session_keys.specs.Keys.{IsKeyOf}
+use Rattle.session_keys.specs.Terms.{AreTermsOf}
+use Rattle.session_keys.specs.declared.terms.SessionTerms.{SessionTerms}
 use Rattle.spdm_basis.specs.SessionIdBytes.{session_id_bytes}
 use Rattle.spdm_grammar.specs.Message.{RequestMessage}
 use Rattle.spdm_grammar.specs.Message.RequestMessage.{GetMeasurements, Heartbeat}
@@ -70,8 +72,7 @@ kept_key old mid new psk s sealed message reply tag at first second key last kee
     let response : new.response ≡ old.response = ap (λ (x : Kept). x.response) second ∙ ap (λ (x : Kept). x.response) first in
     record {
       live = refl;
-      choice = ap (λ (x : Kept). x.terms.choice) second ∙ ap (λ (x : Kept). x.terms.choice) first ∙ keeps.choice;
-      common = ap (λ (x : Kept). x.terms.common) second ∙ ap (λ (x : Kept). x.terms.common) first ∙ keeps.common;
+      terms = subst (λ (x : SessionTerms). AreTermsOf x (session_negotiation s) (exchange_of s)) (sym (ap (λ (x : Kept). x.terms) second ∙ ap (λ (x : Kept). x.terms) first)) keeps.terms;
       id = ap (λ (x : Kept). x.id) second ∙ ap (λ (x : Kept). x.id) first ∙ keeps.id;
       request = key;
       response = subst (λ (k : DirectionSecret). IsKeyOf k choice (application_record psk (t2_of s) Response (response_epoch s))) (sym response) (open_response old psk s at keeps);
@@ -104,8 +105,7 @@ kept_all old one mid new psk s sealed message reply tag at zeroth first second k
     let response : new.response ≡ one.response = ap (λ (x : Kept). x.response) second ∙ ap (λ (x : Kept). x.response) first in
     record {
       live = refl;
-      choice = ap (λ (x : Kept). x.terms.choice) second ∙ ap (λ (x : Kept). x.terms.choice) first ∙ ap (λ (x : Kept). x.terms.choice) zeroth ∙ keeps.choice;
-      common = ap (λ (x : Kept). x.terms.common) second ∙ ap (λ (x : Kept). x.terms.common) first ∙ ap (λ (x : Kept). x.terms.common) zeroth ∙ keeps.common;
+      terms = subst (λ (x : SessionTerms). AreTermsOf x (session_negotiation s) (exchange_of s)) (sym (ap (λ (x : Kept). x.terms) second ∙ ap (λ (x : Kept). x.terms) first ∙ ap (λ (x : Kept). x.terms) zeroth)) keeps.terms;
       id = ap (λ (x : Kept). x.id) second ∙ ap (λ (x : Kept). x.id) first ∙ ap (λ (x : Kept). x.id) zeroth ∙ keeps.id;
       request = key;
       response = subst (λ (k : DirectionSecret). IsKeyOf k choice (application_record psk (t2_of s) Response (response_epoch s + 1))) (sym response) other;

@@ -5,9 +5,10 @@ use Rattle.responder_machine.specs.Answer.{Free}
 use Rattle.responder_machine.specs.History.{KeptRecord}
 use Rattle.responder_machine.specs.Records.{opening_fault, opened, reply_record}
 use Rattle.responder_machine.specs.Responder.{session_turn, inner_reply, repeats}
-use Rattle.responder_machine.specs.Session.{Events, id_bytes, last_of}
+use Rattle.responder_machine.specs.Session.{Events, id_bytes, last_of, session_terms}
 use Rattle.responder_machine.specs.Session.Event.{Heard}
 use Rattle.responder_machine.specs.Setup.{RspSetup}
+use Rattle.responder_machine.specs.SizeLaws.{HasSizes}
 use Rattle.responder_machine.specs.Turn.{Turn, takes}
 use Rattle.spdm_grammar.specs.declared.names.request_code.TheConstants.{END_SESSION}
 use Rattle.responder_session.specs.Deeds.{is_whole, turn_for}
@@ -48,26 +49,27 @@ moved_by r s f message answer sealed pad d x after act is h = subst (λ (y : Dee
 
 -- ---- A session as a state.
 
-pub live_after : (state : RspState) (psk : List ℕ) (s : Events) (sealed : List ℕ) (t : Turn) (reply : List ℕ) → takes END_SESSION t ≡ false
-    → IsStateOf state psk (Heard sealed t reply ∷ s) → IsAfter state psk s sealed t reply
-live_after (state.Handshake h) psk s sealed t reply other x = (other, x)
-live_after (state.Open o) psk s sealed t reply other x = (other, x)
-live_after (state.Verifying v) psk s sealed t reply other x = (other, x)
-live_after (state.Ended e) psk s sealed t reply other x = absurd x
+pub live_after : (state : RspState) (r : RspSetup) (s : Events) (sealed : List ℕ) (t : Turn) (reply : List ℕ) → takes END_SESSION t ≡ false
+    → IsStateOf state r (Heard sealed t reply ∷ s) → IsAfter state r s sealed t reply
+live_after (state.Handshake h) r s sealed t reply other x = (other, x)
+live_after (state.Open o) r s sealed t reply other x = (other, x)
+live_after (state.Verifying v) r s sealed t reply other x = (other, x)
+live_after (state.Ended e) r s sealed t reply other x = absurd x
 
-pub ended_after : (state : RspState) (psk : List ℕ) (s : Events) (sealed : List ℕ) (t : Turn) (reply : List ℕ) → takes END_SESSION t ≡ true
-    → IsEndedStill (id_bytes s) sealed reply state → IsAfter state psk s sealed t reply
-ended_after (state.Handshake h) psk s sealed t reply ends x = absurd x
-ended_after (state.Open o) psk s sealed t reply ends x = absurd x
-ended_after (state.Verifying v) psk s sealed t reply ends x = absurd x
-ended_after (state.Ended e) psk s sealed t reply ends x = (ends, x)
+pub ended_after : (state : RspState) (r : RspSetup) (s : Events) (sealed : List ℕ) (t : Turn) (reply : List ℕ) → takes END_SESSION t ≡ true
+    → IsEndedStill (id_bytes s) sealed reply state → IsAfter state r s sealed t reply
+ended_after (state.Handshake h) r s sealed t reply ends x = absurd x
+ended_after (state.Open o) r s sealed t reply ends x = absurd x
+ended_after (state.Verifying v) r s sealed t reply ends x = absurd x
+ended_after (state.Ended e) r s sealed t reply ends x = (ends, x)
 
-pub state_after : (session : RspSession) (state : RspState) (psk : List ℕ) (s : Events) (sealed : List ℕ) (t : Turn) (reply : List ℕ)
-    → ((psk : List ℕ) (s : Events) → StandsFor session psk s → IsStateOf state psk s)
+pub state_after : (session : RspSession) (state : RspState) (r : RspSetup) (s : Events) (sealed : List ℕ) (t : Turn) (reply : List ℕ)
+    → HasSizes r (session_terms s).common
+    → ((r : RspSetup) (s : Events) → HasSizes r (session_terms s).common → StandsFor session r.psk s → IsStateOf state r s)
     → ((id old answer : List ℕ) → IsEnded session id old answer → IsEndedStill id old answer state)
-    → IsSessionAfter session psk s sealed t reply → IsAfter state psk s sealed t reply
-state_after session state psk s sealed t reply live ends (inl (other, x)) = live_after state psk s sealed t reply other (live psk (Heard sealed t reply ∷ s) x)
-state_after session state psk s sealed t reply live ends (inr (is, x)) = ended_after state psk s sealed t reply is (ends (id_bytes s) sealed reply x)
+    → IsSessionAfter session r.psk s sealed t reply → IsAfter state r s sealed t reply
+state_after session state r s sealed t reply sizes live ends (inl (other, x)) = live_after state r s sealed t reply other (live r (Heard sealed t reply ∷ s) sizes x)
+state_after session state r s sealed t reply sizes live ends (inr (is, x)) = ended_after state r s sealed t reply is (ends (id_bytes s) sealed reply x)
 
 -- ---- Deeds but one.
 

@@ -95,8 +95,7 @@ kept_verified old new psk s sealed message reply tag at is last keeps =
     let choice = (session_terms s).choice in
     subst (λ (x : Kept). Keeps x psk (Heard sealed (update_turn message 3 tag) reply ∷ s)) (sym is) (record {
       live = refl;
-      choice = keeps.choice;
-      common = keeps.common;
+      terms = keeps.terms;
       id = keeps.id;
       request = subst (λ (p : Purpose). IsKeyOf old.request choice p) (past_purpose s Verifying psk Request (request_epoch s) at refl) keeps.request;
       response = subst (λ (p : Purpose). IsKeyOf old.response choice p) (past_purpose s Verifying psk Response (response_epoch s) at refl) keeps.response;

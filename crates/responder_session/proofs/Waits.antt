@@ -37,8 +37,7 @@ start_is_answer r p m f e parts a =
 kept_waits : (kept : Kept) (psk : List ℕ) (s : Events) (seconds : ℕ) → Keeps kept psk s → Keeps kept psk (Waited seconds ∷ s)
 kept_waits kept psk s seconds k = record {
   live = refl;
-  choice = k.choice;
-  common = k.common;
+  terms = k.terms;
   id = k.id;
   request = k.request;
   response = k.response;
@@ -63,7 +62,7 @@ session_waits session psk s seconds x = record {
 }
 
 pub waiting_stands : WaitingStands
-waiting_stands (state.Handshake h) psk s seconds x = record { session = session_waits h.session psk s seconds x.session; stage = x.stage }
-waiting_stands (state.Open o) psk s seconds x = record { session = session_waits o.session psk s seconds x.session; stage = x.stage }
-waiting_stands (state.Verifying v) psk s seconds x = record { session = session_waits v.session psk s seconds x.session; stage = x.stage }
-waiting_stands (state.Ended e) psk s seconds x = absurd x
+waiting_stands (state.Handshake h) r s seconds x = record { session = session_waits h.session r.psk s seconds x.session; stage = x.stage; sizes = x.sizes }
+waiting_stands (state.Open o) r s seconds x = record { session = session_waits o.session r.psk s seconds x.session; stage = x.stage; sizes = x.sizes }
+waiting_stands (state.Verifying v) r s seconds x = record { session = session_waits v.session r.psk s seconds x.session; stage = x.stage; sizes = x.sizes }
+waiting_stands (state.Ended e) r s seconds x = absurd x

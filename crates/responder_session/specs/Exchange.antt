@@ -13,10 +13,11 @@ use Rattle.spdm_machine.specs.Terms.{terms_of}
 use Rattle.transcript.specs.Transcripts.{Negotiation, vca_of}
 use Rattle.responder_session.specs.declared.parts.ExchangeParts.{ExchangeParts}
 
--- The parts fit their fields: a summary stands exactly when one was asked for, the context has below 65,536 bytes, and
--- the opaque data have at most 1,024.
+-- The parts fit their fields: a summary stands exactly when one was asked for, the context is at least as long as the
+-- hash and has below 65,536 bytes, and the opaque data have at most 1,024.
 pub record AreParts (terms : SessionTerms) (parts : ExchangeParts) : Type 0 where
   pub summary : length parts.summary.now ≡ (if terms.summary then hash_size terms.choice.hash else 0)
+  pub least : hash_size terms.choice.hash ≤ length parts.context.now
   pub context : length parts.context.now < 2 ^ 16
   pub opaque : length parts.opaque.now ≤ MAX_OPAQUE_LEN
 
@@ -31,11 +32,9 @@ answer_with parts verify = canonical_response (PskExchangeRsp (record {
   verify = verify;
 }))
 
--- They make an answer: the context is at least as long as the hash, and with verify data as long as the hash the whole
--- answer has at most 4,096 bytes.
-pub record AreAnswered (terms : SessionTerms) (parts : ExchangeParts) : Type 0 where
-  pub context : hash_size terms.choice.hash ≤ length parts.context.now
-  pub most : (verify : List ℕ) → length verify ≡ hash_size terms.choice.hash → length (answer_with parts verify) ≤ MAX_MESSAGE_SIZE
+-- They make an answer: with verify data as long as the hash it has at most 4,096 bytes.
+abbrev pub AreAnswered : SessionTerms → ExchangeParts → Type 0
+AreAnswered terms parts = (verify : List ℕ) → length verify ≡ hash_size terms.choice.hash → length (answer_with parts verify) ≤ MAX_MESSAGE_SIZE
 
 -- T1: VCA, PSK_EXCHANGE, and the answer without verify data.
 abbrev pub t1_with : Negotiation → List ℕ → ExchangeParts → List ℕ

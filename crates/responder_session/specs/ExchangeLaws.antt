@@ -38,5 +38,5 @@ SessionWaits =
 -- A state that stands for a session stands for it when seconds have passed.
 abbrev pub WaitingStands : Type 0
 WaitingStands =
-    (state : RspState) (psk : List ℕ) (s : Events) (seconds : ℕ) → IsStateOf state psk s
-    → IsStateOf state psk (Waited seconds ∷ s)
+    (state : RspState) (r : RspSetup) (s : Events) (seconds : ℕ) → IsStateOf state r s
+    → IsStateOf state r (Waited seconds ∷ s)

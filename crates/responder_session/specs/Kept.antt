@@ -3,8 +3,9 @@ use Rattle.std.specs.Prelude.{◌≡◌, ◌%◌, ◌^◌, if◌then◌else◌, 
 use Rattle.responder_machine.specs.Heard.{session_id}
 use Rattle.responder_machine.specs.History.{KeptRecord}
 use Rattle.responder_machine.specs.Records.{request_purpose, response_purpose}
-use Rattle.responder_machine.specs.Session.{Events, is_live, stage_of, session_hash, session_terms, t1_of, t2_of, request_epoch, response_epoch, request_next, response_next, taken_of, last_of}
+use Rattle.responder_machine.specs.Session.{Events, is_live, stage_of, session_hash, session_negotiation, session_terms, exchange_of, t1_of, t2_of, request_epoch, response_epoch, request_next, response_next, taken_of, last_of}
 use Rattle.session_keys.specs.Keys.{IsKeyOf}
+use Rattle.session_keys.specs.Terms.{AreTermsOf}
 use Rattle.spdm_machine.specs.Sessions.{transcript_in}
 use Rattle.responder_session.specs.declared.kept.Kept.{Kept}
 use Rattle.responder_session.specs.declared.last.LastRecord.{LastRecord}
@@ -18,8 +19,7 @@ kept_record last =
 -- 64.
 pub record Keeps (kept : Kept) (psk : List ℕ) (s : Events) : Type 0 where
   pub live : is_live s ≡ true
-  pub choice : kept.terms.choice ≡ (session_terms s).choice
-  pub common : kept.terms.common ≡ (session_terms s).common
+  pub terms : AreTermsOf kept.terms (session_negotiation s) (exchange_of s)
   pub id : kept.id ≡ session_id s
   pub request : IsKeyOf kept.request (session_terms s).choice (request_purpose psk s)
   pub response : IsKeyOf kept.response (session_terms s).choice (response_purpose psk s)

@@ -75,31 +75,31 @@ IsTold r s f sealed after (told.Unopened fault) =
 -- ---- States that are taken and given back.
 
 -- A state of a live session stands for its events.
-abbrev pub IsStateOf : RspState → (psk : List ℕ) → Events → Type 0
-IsStateOf (state.Handshake h) psk s = handshake.StandsFor h psk s
-IsStateOf (state.Open o) psk s = opens.StandsFor o psk s
-IsStateOf (state.Verifying v) psk s = verifying.StandsFor v psk s
-IsStateOf (state.Ended e) psk s = ⊥
+abbrev pub IsStateOf : RspState → RspSetup → Events → Type 0
+IsStateOf (state.Handshake h) r s = handshake.StandsFor h r s
+IsStateOf (state.Open o) r s = opens.StandsFor o r s
+IsStateOf (state.Verifying v) r s = verifying.StandsFor v r s
+IsStateOf (state.Ended e) r s = ⊥
 
 -- The session with a record, its turn and its reply; where END_SESSION took effect, it is ended.
-abbrev pub IsAfter : RspState → (psk : List ℕ) → Events → (sealed : List ℕ) → Turn
+abbrev pub IsAfter : RspState → RspSetup → Events → (sealed : List ℕ) → Turn
     → (reply : List ℕ) → Type 0
-IsAfter (state.Handshake h) psk s sealed t reply =
-    (takes END_SESSION t ≡ false) × handshake.StandsFor h psk (Heard sealed t reply ∷ s)
-IsAfter (state.Open o) psk s sealed t reply =
-    (takes END_SESSION t ≡ false) × opens.StandsFor o psk (Heard sealed t reply ∷ s)
-IsAfter (state.Verifying v) psk s sealed t reply =
-    (takes END_SESSION t ≡ false) × verifying.StandsFor v psk (Heard sealed t reply ∷ s)
-IsAfter (state.Ended e) psk s sealed t reply =
+IsAfter (state.Handshake h) r s sealed t reply =
+    (takes END_SESSION t ≡ false) × handshake.StandsFor h r (Heard sealed t reply ∷ s)
+IsAfter (state.Open o) r s sealed t reply =
+    (takes END_SESSION t ≡ false) × opens.StandsFor o r (Heard sealed t reply ∷ s)
+IsAfter (state.Verifying v) r s sealed t reply =
+    (takes END_SESSION t ≡ false) × verifying.StandsFor v r (Heard sealed t reply ∷ s)
+IsAfter (state.Ended e) r s sealed t reply =
     (takes END_SESSION t ≡ true) × ended.StandsFor e (id_bytes s) sealed reply
 
 -- The outcome of a record, by the state that is given back.
 abbrev pub IsTook : RspSetup → Events → Free → (sealed : List ℕ) → RspTook → Type 0
 IsTook r s f sealed (Moved after act) =
     (repeats (last_of s) sealed ≡ false) × (opening_fault r.psk s sealed ≡ None)
-    × IsAfter after r.psk s sealed (turn_in r s f sealed) (reply_in r s f sealed)
+    × IsAfter after r s sealed (turn_in r s f sealed) (reply_in r s f sealed)
     × (act ≡ act_of (turn_in r s f sealed))
-IsTook r s f sealed (Same same) = (repeats (last_of s) sealed ≡ true) × IsStateOf same r.psk s
+IsTook r s f sealed (Same same) = (repeats (last_of s) sealed ≡ true) × IsStateOf same r s
 IsTook r s f sealed (Unopened same fault) =
     (repeats (last_of s) sealed ≡ false) × (opening_fault r.psk s sealed ≡ Some fault)
-    × IsStateOf same r.psk s
+    × IsStateOf same r s

@@ -15,8 +15,7 @@ use spdm_codec::write_response;
 use spdm_grammar::{ExchangeRsp, Response};
 use transcript::Lane;
 
-// Overwrites `out` with PSK_EXCHANGE_RSP with these verify data: none where the context is shorter than the hash, and
-// one that passes 4,096 bytes is not whole.
+// Overwrites `out` with PSK_EXCHANGE_RSP with these verify data; one that passes 4,096 bytes is not whole.
 pub fn write_answer(
     parts: &ExchangeParts<'_>,
     terms: SessionTerms,
@@ -29,9 +28,6 @@ pub fn write_answer(
 {
     out.clear();
     let hash_len = terms.choice.hash.size();
-    if parts.context.len() < hash_len {
-        return;
-    }
     let answer = ExchangeRsp {
         heartbeat: parts.heartbeat,
         rsp_id: parts.rsp_id,

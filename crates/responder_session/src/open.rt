@@ -15,9 +15,8 @@ impl RspOpen {
     ghost use Rattle.std.specs.Prelude.{◌≡◌, ◌≤◌, ◌<◌, ◌-◌, ◌^◌, ℕ, List, length};
     ghost use Rattle.responder_machine.specs.Answer.{Free};
     ghost use Rattle.responder_machine.specs.Heard.{view_of};
-    ghost use Rattle.responder_machine.specs.Session.{Events, session_terms, taken_of};
+    ghost use Rattle.responder_machine.specs.Session.{Events, taken_of};
     ghost use Rattle.responder_machine.specs.Setup.{RspSetup, inventory_of};
-    ghost use Rattle.responder_machine.specs.SizeLaws.{HasSizes};
     ghost use Rattle.responder_session.specs.Deeds.{AreFree};
     ghost use Rattle.responder_session.specs.Open.{StandsFor};
     ghost use Rattle.responder_session.specs.Queue.{IsChosen, queue_after};
@@ -27,7 +26,7 @@ impl RspOpen {
     pub fn view(&self) -> SessionView
         ensures request_epoch { result.request_epoch ≡ self.now.session.kept.request.epoch }
         ensures response_epoch { result.response_epoch ≡ self.now.session.kept.response.epoch }
-        ensures shown { (psk : List ℕ) (s : Events) → StandsFor self.now psk s
+        ensures shown { (r : RspSetup) (s : Events) → StandsFor self.now r s
             → taken_of s < 2 ^ 64 → result ≡ view_of s }
     {
         self.session.kept.view(Stage::Open)
@@ -47,9 +46,8 @@ impl RspOpen {
         requires opaque { length free.now.opaque.now ≤ MAX_OPAQUE_LEN }
         requires reply { length free.now.reply.now ≤ MAX_APP_DATA_LEN }
         requires pad { length free.now.pad.now ≤ MAX_PADDING }
-        ensures { (r : RspSetup) (s : Events) (f : Free) → HasSizes r (session_terms s).common
-            → inventory_of r ≡ inventory.now → AreFree free.now f
-            → StandsFor self r.psk s → IsTook r s f sealed.now result }
+        ensures { (r : RspSetup) (s : Events) (f : Free) → inventory_of r ≡ inventory.now
+            → AreFree free.now f → StandsFor self r s → IsTook r s f sealed.now result }
     {
         let told = self
             .session
@@ -69,9 +67,8 @@ impl RspOpen {
     ) -> RspTook
         requires request_epoch { self.session.kept.request.epoch < 2 ^ 64 - 1 }
         requires response_epoch { self.session.kept.response.epoch < 2 ^ 64 - 1 }
-        ensures took { (r : RspSetup) (s : Events) (f : Free) → HasSizes r (session_terms s).common
-            → inventory_of r ≡ inventory.now → IsChosen draw.now app.old s f
-            → StandsFor self r.psk s → IsTook r s f sealed.now result }
+        ensures took { (r : RspSetup) (s : Events) (f : Free) → inventory_of r ≡ inventory.now
+            → IsChosen draw.now app.old s f → StandsFor self r s → IsTook r s f sealed.now result }
         ensures app { app.new ≡ queue_after result app.old }
     {
         let free = RecordFree {

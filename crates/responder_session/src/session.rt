@@ -57,7 +57,7 @@ impl RspSession {
     ghost use Rattle.responder_machine.specs.Heard.{view_of};
     ghost use Rattle.responder_machine.specs.Place.{session_place};
     ghost use Rattle.responder_machine.specs.LargeMessages.{next_handle};
-    ghost use Rattle.responder_machine.specs.Session.{Events, last_of, session_terms, stage_of, taken_of, turns_of};
+    ghost use Rattle.responder_machine.specs.Session.{Events, exchange_of, last_of, session_negotiation, session_terms, stage_of, taken_of, turns_of};
     ghost use Rattle.responder_machine.specs.Setup.{RspSetup, inventory_of};
     ghost use Rattle.responder_machine.specs.SizeLaws.{HasSizes};
     ghost use Rattle.session_keys.specs.Terms.{AreTermsOf};
@@ -125,12 +125,10 @@ impl RspSession {
         }
     }
 
-    /// The terms of the session.
+    /// The terms of the session: those of the negotiation and of the PSK_EXCHANGE that it began with.
     pub fn terms(&self) -> SessionTerms
-        ensures choice { (psk : List ℕ) (s : Events) → StandsFor self.now psk s
-            → result.choice ≡ (session_terms s).choice }
-        ensures common { (psk : List ℕ) (s : Events) → StandsFor self.now psk s
-            → result.common ≡ (session_terms s).common }
+        ensures { (psk : List ℕ) (s : Events) → StandsFor self.now psk s
+            → AreTermsOf result (session_negotiation s) (exchange_of s) }
     {
         self.kept.terms
     }

@@ -29,8 +29,9 @@ pub enum RspTook {
 impl RspTook {
     ghost use Rattle.std.specs.Prelude.{◌≡◌, ℕ, List};
     ghost use Rattle.responder_machine.specs.Answer.{Free};
-    ghost use Rattle.responder_machine.specs.Session.{Events};
+    ghost use Rattle.responder_machine.specs.Session.{Events, session_terms};
     ghost use Rattle.responder_machine.specs.Setup.{RspSetup};
+    ghost use Rattle.responder_machine.specs.SizeLaws.{HasSizes};
     ghost use Rattle.responder_session.specs.EndedTook.{IsEndedTold, IsEndedTook};
     ghost use Rattle.responder_session.specs.Queue.{took_data};
     ghost use Rattle.responder_session.specs.Took.{IsTold, IsTook};
@@ -38,7 +39,8 @@ impl RspTook {
     // What a session told, with the session as a state.
     pub(crate) fn of(session: RspSession, told: RspTold) -> RspTook
         ensures live { (r : RspSetup) (s : Events) (f : Free) (sealed : List ℕ)
-            → IsTold r s f sealed session told → IsTook r s f sealed result }
+            → HasSizes r (session_terms s).common → IsTold r s f sealed session told
+            → IsTook r s f sealed result }
         ensures ended { (id old answer sealed : List ℕ)
             → IsEndedTold id old answer sealed session told
             → IsEndedTook id old answer sealed result }
@@ -61,7 +63,9 @@ impl RspTook {
 
 impl RspState {
     ghost use Rattle.std.specs.Prelude.{◌≡◌, ℕ, List, None, Some, MatchOption};
-    ghost use Rattle.responder_machine.specs.Session.{Events, last_of};
+    ghost use Rattle.responder_machine.specs.Session.{Events, last_of, session_terms};
+    ghost use Rattle.responder_machine.specs.Setup.{RspSetup};
+    ghost use Rattle.responder_machine.specs.SizeLaws.{HasSizes};
     ghost use Rattle.responder_session.specs.EndedTook.{IsEndedStill};
     ghost use Rattle.responder_session.specs.Reply.{last_reply, reply_of};
     ghost use Rattle.responder_session.specs.Session.{IsEnded, StandsFor};
@@ -69,8 +73,8 @@ impl RspState {
 
     // A session as the state that it is in.
     pub(crate) fn of(session: RspSession) -> RspState
-        ensures live { (psk : List ℕ) (s : Events) → StandsFor session psk s
-            → IsStateOf result psk s }
+        ensures live { (r : RspSetup) (s : Events) → HasSizes r (session_terms s).common
+            → StandsFor session r.psk s → IsStateOf result r s }
         ensures ended { (id old answer : List ℕ) → IsEnded session id old answer
             → IsEndedStill id old answer result }
     {
@@ -86,7 +90,7 @@ impl RspState {
     pub fn reply(&self) -> Option<&[u8]>
         ensures kept { MatchOption result (reply_of self.now ≡ None)
             (λ reply. reply_of self.now ≡ Some reply.now) }
-        ensures last { (psk : List ℕ) (s : Events) → IsStateOf self.now psk s
+        ensures last { (r : RspSetup) (s : Events) → IsStateOf self.now r s
             → MatchOption result (last_reply (last_of s) ≡ None)
             (λ reply. last_reply (last_of s) ≡ Some reply.now) }
     {

@@ -1,5 +1,6 @@
-ghost use Rattle.std.specs.Prelude.{◌≡◌};
+ghost use Rattle.std.specs.Prelude.{◌≡◌, length};
 ghost use Rattle.session_keys.specs.Drawing.{draw_as};
+ghost use Rattle.spdm_basis.specs.Sizes.{hash_size};
 ghost use Rattle.spdm_machine.specs.Keys.{context_of};
 
 use byteorder::{ByteOrder, LittleEndian};
@@ -11,7 +12,8 @@ pub type Context = Buffer<48>;
 
 /// The context of a draw, as long as the hash: it holds the number of the draw, so that no two are equal.
 pub fn context_of(hash: HashAlg, drawn: &Drawn) -> Context
-    ensures { result ≡ context_of hash (draw_as drawn.now) }
+    ensures value { result ≡ context_of hash (draw_as drawn.now) }
+    ensures long { length result ≡ hash_size hash }
 {
     let mut number = [0; 8];
     LittleEndian::write_u64(&mut number, drawn.number);

@@ -3,7 +3,7 @@ ghost use Rattle.check_laws.specs.AnswersShown.{least_values};
 ghost use Rattle.check_laws.specs.Order.{answered_why};
 ghost use Rattle.check_laws.specs.RepliesShown.{responder_for};
 ghost use Rattle.check_laws.specs.Rows.{StandsForRows};
-ghost use Rattle.responder_core.specs.Connected.{StandsFor};
+ghost use Rattle.responder_core.specs.Connected.{StandsFor, context_len};
 ghost use Rattle.responder_core.specs.Free.{IsFree};
 ghost use Rattle.responder_core.specs.Setup.{IsSetUp};
 ghost use Rattle.check_fetched_laws.specs.StandsAlike.{IsAnew, version_entry};
@@ -52,6 +52,7 @@ fn gives_version(answer: &[u8]) -> bool
 pub(crate) fn least_values(connection: &Connection) -> FreeValues<'static>
     ensures least { 1 ≤ result.id }
     ensures most { result.id ≤ MAX_SESSIONS }
+    ensures context { context_len connection.now ≤ length result.context.now }
     ensures free { (r : RspSetup) (h : History) → StandsFor connection.now r h
         → IsFree result (least_values h (clear_place h)) }
 {

@@ -73,8 +73,9 @@ impl Standing {
 
     /// The algorithms that were chosen.
     pub fn choice(&self) -> Choice
-        ensures { (turns : List Turn) → StandsFor self.now turns
+        ensures value { (turns : List Turn) → StandsFor self.now turns
             → result ≡ (terms_of (negotiation_of turns)).choice }
+        ensures own { result ≡ self.now.negotiating.choice }
     {
         self.negotiating.choice()
     }

@@ -8,7 +8,7 @@ ghost use Rattle.responder_machine.specs.Setup.{RspSetup};
 ghost use Rattle.spdm_grammar.specs.declared.told.heard.Heard.TheVariants as hearing;
 ghost use Rattle.spdm_grammar.specs.declared.names.TheConstants.{MAX_MESSAGE_SIZE};
 ghost use Rattle.spdm_machine.specs.Keys.{Draw};
-ghost use Rattle.responder_core.specs.ClearPart.{IsAnswered, IsBeginning, IsTold, StandsFor};
+ghost use Rattle.responder_core.specs.ClearPart.{IsAnswered, IsBeginning, IsTold, StandsFor, StaysToBegin};
 ghost use Rattle.responder_core.specs.Coming.{exchange_bytes, exchange_place};
 ghost use Rattle.responder_core.specs.Free.{IsFree};
 ghost use Rattle.responder_core.specs.Setup.{IsSetUp};
@@ -95,9 +95,10 @@ impl ClearPart {
         free: &FreeValues<'_>,
         out: &mut Frame,
     ) -> Told
-        ensures { (r : RspSetup) (h : History) (f : Free) (d : Draw) → IsSetUp setup.now r
+        ensures told { (r : RspSetup) (h : History) (f : Free) (d : Draw) → IsSetUp setup.now r
             → IsFree free.now f → StandsFor self.old r h → held_of h ≡ held
             → IsTold r h tag message.now f d result self.new out.new }
+        ensures stays { StaysToBegin result self.old self.new }
     {
         if self.kept.is_repeat(tag, message) {
             replace(out, self.kept.reply());

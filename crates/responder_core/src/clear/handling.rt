@@ -9,7 +9,7 @@ ghost use Rattle.spdm_grammar.specs.Message.{ExchangeMessage, request_message};
 ghost use Rattle.spdm_grammar.specs.Message.RequestMessage.{PskExchange};
 ghost use Rattle.spdm_grammar.specs.declared.names.TheConstants.{MAX_MESSAGE_SIZE};
 ghost use Rattle.responder_core.specs.Free.{IsFree};
-ghost use Rattle.responder_core.specs.Handled.{IsHandled};
+ghost use Rattle.responder_core.specs.Handled.{IsHandled, IsUntouched};
 ghost use Rattle.responder_core.specs.Refused.{IsClear, IsPassed};
 ghost use Rattle.responder_core.specs.Setup.{IsSetUp};
 ghost use Rattle.responder_core.specs.Standing.{StandsFor, place_at};
@@ -74,10 +74,11 @@ impl Standing {
         free: &FreeValues<'_>,
         out: &mut Frame,
     ) -> Handled<'a>
-        ensures { (r : RspSetup) (turns : List Turn) (f : Free) → IsSetUp setup.now r
+        ensures handled { (r : RspSetup) (turns : List Turn) (f : Free) → IsSetUp setup.now r
             → IsFree free.now f → StandsFor self.old turns → IsClear (where_of at)
             → IsHandled r (place_at (where_of at) turns held) message.now f result self.old
             self.new out.new }
+        ensures untouched { IsUntouched result self.old self.new }
     {
         let place = self.place(at);
         let request = match self.tested(&place, setup, held, message, free, out) {

@@ -12,7 +12,7 @@ ghost use Rattle.responder_machine.specs.Turn.{Turn};
 ghost use Rattle.spdm_grammar.specs.Message.{chunk_message};
 ghost use Rattle.spdm_grammar.specs.Message.RequestMessage.{ChunkSend};
 ghost use Rattle.spdm_grammar.specs.declared.names.TheConstants.{MAX_MESSAGE_SIZE};
-ghost use Rattle.responder_core.specs.Coming.{Completes, IsBegun, IsCome, IsTakenTurn, IsTurned, StandsFor, exchange_bytes, exchange_place};
+ghost use Rattle.responder_core.specs.Coming.{Completes, IsBegun, IsCome, IsTakenTurn, IsTurned, StandsFor, StaysToBegin, exchange_bytes, exchange_place};
 ghost use Rattle.responder_core.specs.Free.{IsFree};
 ghost use Rattle.responder_core.specs.Refused.{chunk_refusal};
 ghost use Rattle.responder_core.specs.Setup.{IsSetUp};
@@ -130,10 +130,11 @@ impl Requests {
         free: &FreeValues<'_>,
         out: &mut Frame,
     ) -> Came
-        ensures { (r : RspSetup) (turns : List Turn) (m : List ℕ) (f : Free) → IsSetUp setup.now r
-            → IsFree free.now f
+        ensures come { (r : RspSetup) (turns : List Turn) (m : List ℕ) (f : Free)
+            → IsSetUp setup.now r → IsFree free.now f
             → Completes r (place_at InClear turns held) m f (chunk_message chunk.entry) self.old
             → IsCome r (place_at InClear turns held) m f result self.new out.new }
+        ensures stays { StaysToBegin result self.old self.new }
     {
         let mut response = Frame::new();
         let whole = self.whole.as_slice();
@@ -170,7 +171,7 @@ impl Requests {
         free: &FreeValues<'_>,
         out: &mut Frame,
     ) -> Came
-        ensures { (r : RspSetup) (turns : List Turn) (f : Free) → IsSetUp setup.now r
+        ensures come { (r : RspSetup) (turns : List Turn) (f : Free) → IsSetUp setup.now r
             → IsFree free.now f → StandsFor self.old r turns
             → refused_form r (place_at InClear turns held) message.now ≡ None
             → request_at (place_at InClear turns held) message.now
@@ -178,6 +179,7 @@ impl Requests {
             → refusal r (place_at InClear turns held) message.now f ≡ chunk_refusal (chunk_fault r
             (place_at InClear turns held) (Some (ChunkSend (chunk_message chunk.entry))))
             → IsCome r (place_at InClear turns held) message.now f result self.new out.new }
+        ensures stays { StaysToBegin result self.old self.new }
     {
         match gather(&mut self.collector, chunk, &mut self.whole) {
             Gathered::Refused(fault) => {
@@ -205,9 +207,10 @@ impl Requests {
         free: &FreeValues<'_>,
         out: &mut Frame,
     ) -> Came
-        ensures { (r : RspSetup) (turns : List Turn) (f : Free) → IsSetUp setup.now r
+        ensures come { (r : RspSetup) (turns : List Turn) (f : Free) → IsSetUp setup.now r
             → IsFree free.now f → StandsFor self.old r turns
             → IsCome r (place_at InClear turns held) message.now f result self.new out.new }
+        ensures stays { StaysToBegin result self.old self.new }
     {
         match self
             .standing

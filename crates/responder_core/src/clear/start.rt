@@ -2,7 +2,7 @@ ghost use Rattle.std.specs.Prelude.{◌≡◌, ◌==◌, ◌||◌, ◌≤◌, []
 ghost use Rattle.responder_machine.specs.Answer.{Free, answer_bytes, request_at};
 ghost use Rattle.responder_machine.specs.History.{History, negotiation_of};
 ghost use Rattle.responder_machine.specs.May.{IsAllowed};
-ghost use Rattle.responder_machine.specs.Place.{Where, clear_place, place_terms};
+ghost use Rattle.responder_machine.specs.Place.{Where, clear_place};
 ghost use Rattle.responder_machine.specs.Setup.{RspSetup};
 ghost use Rattle.responder_machine.specs.Turn.{Turn};
 ghost use Rattle.session_keys.specs.Terms.{AreTermsOf, asks_summary};
@@ -10,11 +10,10 @@ ghost use Rattle.spdm_grammar.specs.Message.{ExchangeMessage};
 ghost use Rattle.spdm_grammar.specs.Message.RequestMessage.{PskExchange};
 ghost use Rattle.spdm_grammar.specs.declared.names.TheConstants.{MAX_MESSAGE_SIZE};
 ghost use Rattle.spdm_machine.specs.Sessions.{id_in_exchange};
-ghost use Rattle.spdm_machine.specs.Terms.{hash_len};
 ghost use Rattle.responder_core.specs.ClearPart.{IsBeginning};
 ghost use Rattle.responder_core.specs.Free.{IsFree};
 ghost use Rattle.responder_core.specs.Setup.{IsSetUp};
-ghost use Rattle.responder_core.specs.Standing.{StandsFor, place_at};
+ghost use Rattle.responder_core.specs.Standing.{StandsFor, chosen_len, place_at};
 ghost use Rattle.responder_core.specs.Starting.{IsStarted, IsStartedAt};
 
 use crate::{Begun, ClearPart, FreeValues, Setup, Standing};
@@ -67,11 +66,11 @@ impl Standing {
         free: &FreeValues<'_>,
         out: &mut Frame,
     ) -> RspSession
+        requires context { chosen_len self.now ≤ length free.now.context.now }
         ensures { (r : RspSetup) (at : Where) (turns : List Turn) (held : ℕ) (f : Free)
             (asked : ExchangeMessage) → IsSetUp setup.now r → IsFree free.now f
             → StandsFor self.now turns
             → request_at (place_at at turns held) exchange.now ≡ Some (PskExchange asked)
-            → hash_len (place_terms (place_at at turns held)) ≤ length f.context
             → length (answer_bytes r (place_at at turns held) exchange.now f) ≤ MAX_MESSAGE_SIZE
             → IsStarted r (negotiation_of turns) exchange.now
             (answer_bytes r (place_at at turns held) exchange.now f) result out.new }
@@ -107,6 +106,7 @@ impl ClearPart {
         free: &FreeValues<'_>,
         out: &mut Frame,
     ) -> RspSession
+        requires context { chosen_len self.now.requests.standing ≤ length free.now.context.now }
         ensures { (r : RspSetup) (h : History) (tag : ℕ) (f : Free) → IsSetUp setup.now r
             → IsFree free.now f → IsAllowed h (clear_place h) f
             → IsBeginning r h tag message.now f begun self.now

@@ -4,7 +4,7 @@ use spdm_basis::Frame;
 use spdm_grammar::Heard;
 
 impl ClearPart {
-    ghost use Rattle.std.specs.Prelude.{◌≡◌, ℕ};
+    ghost use Rattle.std.specs.Prelude.{◌≡◌, ◌≤◌, ℕ, length};
     ghost use Rattle.responder_machine.specs.Answer.{Free};
     ghost use Rattle.responder_machine.specs.History.{History};
     ghost use Rattle.responder_machine.specs.May.{IsAllowed};
@@ -14,6 +14,7 @@ impl ClearPart {
     ghost use Rattle.responder_core.specs.ClearPart.{IsAnswered, StandsFor};
     ghost use Rattle.responder_core.specs.Free.{IsFree};
     ghost use Rattle.responder_core.specs.Setup.{IsSetUp};
+    ghost use Rattle.responder_core.specs.Standing.{chosen_len};
 
     // Handles a clear message with its tag; `held` counts established sessions. The response overwrites `out`. A
     // session that the message begins is not kept.
@@ -26,6 +27,7 @@ impl ClearPart {
         free: &FreeValues<'_>,
         out: &mut Frame,
     ) -> Heard
+        requires { chosen_len self.old.requests.standing ≤ length free.now.context.now }
         ensures { (r : RspSetup) (h : History) (f : Free) (d : Draw) → IsSetUp setup.now r
             → IsFree free.now f → IsAllowed h (clear_place h) f → StandsFor self.old r h
             → held_of h ≡ held → IsAnswered r h tag message.now f d result self.new out.new }
@@ -44,7 +46,7 @@ impl ClearPart {
 
 // What would come of a message; used only by the checker.
 impl Connection {
-    ghost use Rattle.std.specs.Prelude.{◌≡◌, true, false, IfSome, is_some};
+    ghost use Rattle.std.specs.Prelude.{◌≡◌, ◌≤◌, true, false, IfSome, is_some, length};
     ghost use Rattle.responder_machine.specs.Answer.{Free};
     ghost use Rattle.responder_machine.specs.History.{History};
     ghost use Rattle.responder_machine.specs.May.{IsAllowed};
@@ -54,13 +56,14 @@ impl Connection {
     ghost use Rattle.responder_machine.specs.Setup.{RspSetup};
     ghost use Rattle.spdm_machine.specs.Bodies.{clear_body};
     ghost use Rattle.spdm_machine.specs.Keys.{Draw};
-    ghost use Rattle.responder_core.specs.Connected.{StandsFor};
+    ghost use Rattle.responder_core.specs.Connected.{StandsFor, context_len};
     ghost use Rattle.responder_core.specs.Free.{IsFree};
     ghost use Rattle.responder_core.specs.Setup.{IsSetUp};
     ghost use Rattle.responder_core.specs.Trying.{IsTried};
 
     /// The outcome that a clear message with this tag would have, with these free values for its response. The response
-    /// that would be sent overwrites `out`. Nothing changes. `None` while a large response is pending.
+    /// that would be sent overwrites `out`. Nothing changes. `None` while a large response is pending. The context is at least
+    /// as long as the chosen hash.
     pub fn would_answer(
         &self,
         setup: &Setup<'_>,
@@ -69,6 +72,7 @@ impl Connection {
         free: &FreeValues<'_>,
         out: &mut Frame,
     ) -> Option<Tried>
+        requires { context_len self.now ≤ length free.now.context.now }
         ensures tried { (r : RspSetup) (h : History) (f : Free) (d : Draw) → IsSetUp setup.now r
             → IsFree free.now f → IsAllowed h (clear_place h) f → StandsFor self.now r h
             → IfSome result (λ tried. IsTried h (on_clear r h tag message.now f d) tried

@@ -15,7 +15,7 @@ pub returns-in-Some : goal.returns-in-Some
 returns-in-Some c = λ r h set stands transfer so_far few.
     let p = clear_place h in
     let m = c.args.message.now in
-    let chosen = ap (λ (x : Choice). x.hash) (sym (c.choice-hash.ensures r h stands)) in
+    let chosen = ap (λ (x : Choice). x.hash) (sym (c.choice-hash.ensures.value r h stands)) in
     let len : c.size.result ≡ hash_len (place_terms p) = c.size.ensures ∙ ap hash_size (sym chosen) in
     let some : chunk_in (request_at p m) ≡ Some (chunk_message c.in-Some.chunk) = sym (c.in-Some.ensures ∙ ap (λ (n : ℕ). chunk_in (request_in n m)) len) in
     subst (λ (o : Option ChunkMessage). AreReadClear r h m c.args.reply.now (values_in_reply r p m (least_values h p) c.args.reply.now o) c.chunk_values.result) (sym some)
@@ -25,7 +25,7 @@ pub returns-in-None : goal.returns-in-None
 returns-in-None c = λ r h set stands transfer so_far few.
     let p = clear_place h in
     let m = c.args.message.now in
-    let chosen = ap (λ (x : Choice). x.hash) (sym (c.choice-hash.ensures r h stands)) in
+    let chosen = ap (λ (x : Choice). x.hash) (sym (c.choice-hash.ensures.value r h stands)) in
     let len : c.size.result ≡ hash_len (place_terms p) = c.size.ensures ∙ ap hash_size (sym chosen) in
     let none : chunk_in (request_at p m) ≡ None = sym (c.in-None.ensures ∙ ap (λ (n : ℕ). chunk_in (request_in n m)) len) in
     subst (λ (o : Option ChunkMessage). AreReadClear r h m c.args.reply.now (values_in_reply r p m (least_values h p) c.args.reply.now o) c.plain_values.result) (sym none)

@@ -11,6 +11,6 @@ pub returns : goal.returns
 returns c = λ q h part few stands.
     let d : Draw = draw_as c.args.drawn.now in
     let bytes : length c.args.drawn.now.bytes ≡ 32 = search rules in
-    let free = free_is q h d _ (c.free_id.ensures.value q h stands) (c.as_slice.ensures.value ∙ c.context_of-context.ensures ∙ ap (λ (x : Choice). context_of x.hash d) (c.choice.ensures q h stands)) (part.opaque ∙ sym c.as_slice-2.ensures) in
+    let free = free_is q h d _ (c.free_id.ensures.value q h stands) (c.as_slice.ensures.value ∙ c.context_of-context.ensures.value ∙ ap (λ (x : Choice). context_of x.hash d) (c.choice.ensures q h stands)) (part.opaque ∙ sym c.as_slice-2.ensures) in
     c.command.ensures q h (command_chosen q h d) d (c.setup.ensures q part) part.psk free (command_pad q h d ∙ ap (λ (n : ℕ). take n c.args.drawn.now.bytes) (part.pad ∙ sym c.from.ensures))
     (command_allowed q h d part.limits bytes) few stands

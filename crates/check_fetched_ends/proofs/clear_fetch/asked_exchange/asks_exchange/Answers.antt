@@ -34,7 +34,7 @@ pub returns-then-not-completes : goal.returns-then-not-completes
 returns-then-not-completes c = λ r h stands.
     let m : List ℕ = c.args.message.now in
     let turns = clear_turns h in
-    let len : c.size.result ≡ hash_len (terms_of (negotiation_of turns)) = c.size.ensures ∙ ap (λ (x : Choice). hash_size x.hash) (c.choice.ensures r h stands) in
+    let len : c.size.result ≡ hash_len (terms_of (negotiation_of turns)) = c.size.ensures ∙ ap (λ (x : Choice). hash_size x.hash) (c.choice.ensures.value r h stands) in
     let is : chunk_at turns m ≡ Some (chunk_message c.in-Some.chunk) = sym (c.in-Some.ensures ∙ ap (λ (n : ℕ). chunk_in (request_in n m)) len) in
     subst (λ (o : Option ChunkMessage). IsExchangeBy r turns m o false) (sym is) (λ whole completes. absurd (false≢true (not_whole (collected r.max (chunks_of turns) (chunk_message c.in-Some.chunk)) whole (c.if-not-completes.ensures r h stands) completes)))
 
@@ -42,7 +42,7 @@ pub returns-else-not-completes : goal.returns-else-not-completes
 returns-else-not-completes c = λ r h stands.
     let m : List ℕ = c.args.message.now in
     let turns = clear_turns h in
-    let len : c.size.result ≡ hash_len (terms_of (negotiation_of turns)) = c.size.ensures ∙ ap (λ (x : Choice). hash_size x.hash) (c.choice.ensures r h stands) in
+    let len : c.size.result ≡ hash_len (terms_of (negotiation_of turns)) = c.size.ensures ∙ ap (λ (x : Choice). hash_size x.hash) (c.choice.ensures.value r h stands) in
     let is : chunk_at turns m ≡ Some (chunk_message c.in-Some.chunk) = sym (c.in-Some.ensures ∙ ap (λ (n : ℕ). chunk_in (request_in n m)) len) in
     let byte : c.byte_at.result ≡ slice_index c.completes.new.whole 1 = c.byte_at.ensures ∙ ap (λ (l : List ℕ). slice_index l 1) c.as_slice.ensures.value in
     subst (λ (o : Option ChunkMessage). IsExchangeBy r turns m o (c.byte_at.result == PSK_EXCHANGE)) (sym is)
@@ -52,6 +52,6 @@ pub returns-in-None : goal.returns-in-None
 returns-in-None c = λ r h stands.
     let m : List ℕ = c.args.message.now in
     let turns = clear_turns h in
-    let len : c.size.result ≡ hash_len (terms_of (negotiation_of turns)) = c.size.ensures ∙ ap (λ (x : Choice). hash_size x.hash) (c.choice.ensures r h stands) in
+    let len : c.size.result ≡ hash_len (terms_of (negotiation_of turns)) = c.size.ensures ∙ ap (λ (x : Choice). hash_size x.hash) (c.choice.ensures.value r h stands) in
     let is : chunk_at turns m ≡ None = sym (c.in-None.ensures ∙ ap (λ (n : ℕ). chunk_in (request_in n m)) len) in
     subst (λ (o : Option ChunkMessage). IsExchangeBy r turns m o (c.byte_at-in-None.result == PSK_EXCHANGE)) (sym is) (ap (λ (n : ℕ). n == PSK_EXCHANGE) c.byte_at-in-None.ensures)

@@ -74,7 +74,7 @@ returns-clause-told c = λ r h keys b exchange set_up less byte at.
     let first = subst (λ (l : List ℕ). AreAsked conn l r (Clear held.tag b.turn no_draw ∷ gl) v c.args.tag c.args.handle 0) (sym c.new-given.ensures) (begun c.args.answerer.now keys held r h b byte c.args.tag c.args.handle whole at large conn on) in
     let can = at.give v (short c.args.answerer.now keys held r h b byte c.args.tag c.args.handle whole at large) in
     let all = c.give_all.ensures.all r (Clear held.tag b.turn no_draw ∷ gl) v set_up can first c.if-not-give_all.false in
-    let size = c.size-size.ensures ∙ ap (λ (x : Choice). hash_size x.hash) (c.choice.ensures r b.left b.stands) in
+    let size = c.size-size.ensures ∙ ap (λ (x : Choice). hash_size x.hash) (c.choice.ensures.value r b.left b.stands) in
     let is = c.led_by.ensures ∙ ap (λ (l : List ℕ). led_by c.size-size.result l whole) c.as_slice-2.ensures.value in
     told c.args.answerer.now keys held r h b byte c.args.tag c.args.handle whole at large c.give_all.new.connection c.give_all.new.bytes all c.size-size.result c.led_by.result size is
 
@@ -100,6 +100,6 @@ returns-clause-stands c = λ r h keys b exchange set_up less byte at so.
     let first = subst (λ (l : List ℕ). AreAsked conn l r (Clear held.tag b.turn no_draw ∷ gl) v c.args.tag c.args.handle 0) (sym c.new-given.ensures) (begun c.args.answerer.now keys held r h b byte c.args.tag c.args.handle whole at large conn on) in
     let can = at.give v (short c.args.answerer.now keys held r h b byte c.args.tag c.args.handle whole at large) in
     let all = c.give_all.ensures.all r (Clear held.tag b.turn no_draw ∷ gl) v set_up can first c.if-not-give_all.false in
-    let size = c.size-size.ensures ∙ ap (λ (x : Choice). hash_size x.hash) (c.choice.ensures r b.left b.stands) in
+    let size = c.size-size.ensures ∙ ap (λ (x : Choice). hash_size x.hash) (c.choice.ensures.value r b.left b.stands) in
     let is = c.led_by.ensures ∙ ap (λ (l : List ℕ). led_by c.size-size.result l whole) c.as_slice-2.ensures.value in
     stands_all c.args.answerer.now keys held r h b byte c.args.tag c.args.handle whole at large c.give_all.new.connection c.give_all.new.bytes all c.size-size.result c.led_by.result is so

@@ -51,10 +51,10 @@ returns-then-not-terms-clause-kept c = λ r h set stands op asks.
     let id = c.args.id in
     let terms = c.in_ok-terms.terms in
     let are = subst (λ (o : Option SessionTerms). AreTermsIn o (session_of id h)) c.in_ok-terms.was (c.session_terms.ensures r h stands) in
-    let transfer = ap (λ x. x.to_requester.transfer) are.2 in
+    let transfer = ap (λ x. x.to_requester.transfer) are.1.common in
     let room = asks.wide in
     elim c.then-not-terms.either [
-      | inl none ↦ false≢true (sym (not-true _ none) ∙ ap (λ x. x.chunk) are.2 ∙ asks.chunk)
+      | inl none ↦ false≢true (sym (not-true _ none) ∙ ap (λ x. x.chunk) are.1.common ∙ asks.chunk)
       | inr narrow ↦ (let less = narrow.1 in omega (arith, room, less, transfer))
     ]
 
@@ -63,8 +63,8 @@ returns-then-least-most-clause-kept c = λ r h set stands op asks.
     let s : Events = session_of c.args.id h in
     let terms = c.in_ok-terms.terms in
     let are = subst (λ (o : Option SessionTerms). AreTermsIn o s) c.in_ok-terms.was (c.session_terms.ensures r h stands) in
-    let transfer = ap (λ x. x.to_requester.transfer) are.2 in
-    let max = ap (λ x. x.to_requester.max) are.2 in
+    let transfer = ap (λ x. x.to_requester.transfer) are.1.common in
+    let max = ap (λ x. x.to_requester.max) are.1.common in
     let most = c.if-max-gt-MOST_BYTES.most in
     let range : (most ≤ terms.common.to_requester.max) × (most ≤ 4096) × ((n : ℕ) → n ≤ terms.common.to_requester.max → n ≤ 4096 → n ≤ most) =
     elim c.if-max-gt-MOST_BYTES.branch [
@@ -84,14 +84,14 @@ returns-in_err-op-clause-kept c = λ r h set stands.
     let are = subst (λ (o : Option SessionTerms). AreTermsIn o s) c.in_ok-terms.was (c.session_terms.ensures r h stands) in
     subst (IsKeptFor r s c.args.id c.args.message.now) (sym c.from_residual-in_err-op.ensures)
     (λ op asks.
-    none-some op (sym c.in_err-op.was ∙ c.asked_operation.ensures ∙ ap (λ (n : ℕ). operation_in (request_in n c.args.message.now)) (c.size.ensures ∙ ap (λ (x : Choice). hash_size x.hash) are.1) ∙ ap operation_in asks.asks))
+    none-some op (sym c.in_err-op.was ∙ c.asked_operation.ensures ∙ ap (λ (n : ℕ). operation_in (request_in n c.args.message.now)) (c.size.ensures ∙ ap (λ (x : Choice). hash_size x.hash) are.1.choice) ∙ ap operation_in asks.asks))
 
 pub returns-then-is_err-clause-kept : goal.returns-then-is_err-clause-kept
 returns-then-is_err-clause-kept c = λ r h set stands op asks.
     let s : Events = session_of c.args.id h in
     let are = subst (λ (o : Option SessionTerms). AreTermsIn o s) c.in_ok-terms.was (c.session_terms.ensures r h stands) in
     let asked : request_at (session_place s) c.args.message.now ≡ Some (GetMeasurements c.in_ok-op.op) =
-    asked_by _ c.in_ok-op.op (sym (sym c.in_ok-op.was ∙ c.asked_operation.ensures ∙ ap (λ (n : ℕ). operation_in (request_in n c.args.message.now)) (c.size.ensures ∙ ap (λ (x : Choice). hash_size x.hash) are.1))) in
+    asked_by _ c.in_ok-op.op (sym (sym c.in_ok-op.was ∙ c.asked_operation.ensures ∙ ap (λ (n : ℕ). operation_in (request_in n c.args.message.now)) (c.size.ensures ∙ ap (λ (x : Choice). hash_size x.hash) are.1.choice))) in
     let missing = ap (is_missing c.in_ok-op.op) set.inventory ∙ sym c.record.ensures.missing ∙ sym c.is_err.ensures.value ∙ c.if-is_err.true in
     false≢true (sym asks.found ∙ ap (λ (n : ℕ). is_missing n (inventory_of r)) (same_op op c.in_ok-op.op (sym asks.asks ∙ asked)) ∙ missing)
 
@@ -100,10 +100,10 @@ returns-clause-kept c = λ r h set stands.
     let s : Events = session_of c.args.id h in
     let terms = c.in_ok-terms.terms in
     let are = subst (λ (o : Option SessionTerms). AreTermsIn o s) c.in_ok-terms.was (c.session_terms.ensures r h stands) in
-    let transfer = ap (λ x. x.to_requester.transfer) are.2 in
-    let max = ap (λ x. x.to_requester.max) are.2 in
+    let transfer = ap (λ x. x.to_requester.transfer) are.1.common in
+    let max = ap (λ x. x.to_requester.max) are.1.common in
     let most = c.if-max-gt-MOST_BYTES.most in
-    let chunk = sym (ap (λ x. x.chunk) are.2) ∙ not-false _ c.if-not-terms.false in
+    let chunk = sym (ap (λ x. x.chunk) are.1.common) ∙ not-false _ c.if-not-terms.false in
     let room = c.if-transfer-le-CHUNK_FIELDS.false in
     let range : (most ≤ terms.common.to_requester.max) × (most ≤ 4096) × ((n : ℕ) → n ≤ terms.common.to_requester.max → n ≤ 4096 → n ≤ most) =
     elim c.if-max-gt-MOST_BYTES.branch [
@@ -115,7 +115,7 @@ returns-clause-kept c = λ r h set stands.
     let long : length (zeros (terms.common.to_requester.transfer + 1)) ≡ terms.common.to_requester.transfer + 1 = length-replicate {A = ℕ} (terms.common.to_requester.transfer + 1) 0 in record {
       asked = record {
         live = are.0;
-        asks = asked_by _ c.in_ok-op.op (sym (sym c.in_ok-op.was ∙ c.asked_operation.ensures ∙ ap (λ (n : ℕ). operation_in (request_in n c.args.message.now)) (c.size.ensures ∙ ap (λ (x : Choice). hash_size x.hash) are.1)));
+        asks = asked_by _ c.in_ok-op.op (sym (sym c.in_ok-op.was ∙ c.asked_operation.ensures ∙ ap (λ (n : ℕ). operation_in (request_in n c.args.message.now)) (c.size.ensures ∙ ap (λ (x : Choice). hash_size x.hash) are.1.choice)));
         found = ap (is_missing c.in_ok-op.op) set.inventory ∙ sym c.record.ensures.missing ∙ sym c.is_err.ensures.value ∙ c.if-is_err.false;
         chunk = chunk;
         wide = omega (arith, room, transfer);

@@ -60,7 +60,7 @@ returns-in_err-op c = λ r h set stands. subst (IsPreparedFor r h c.args.request
     let inner = c.reads_request.ensures.inner r h stands c.if-not-reads_request.false in
     let message = c.behind_type-message.ensures ∙ ap (λ (l : List ℕ). drop 1 l) (c.as_slice.ensures.value ∙ inner) in
     let turn = is_large_turn r s (opened r.psk s request) f large in
-    let read = c.operation_in.ensures ∙ ap (λ (n : ℕ). operation_in (request_in n c.behind_type-message.result.now)) (c.size.ensures ∙ ap (λ (x : Choice). hash_size x.hash) are.1) ∙ ap (λ (l : List ℕ). operation_in (request_in (hash_len (session_terms s)) l)) message ∙ ap operation_in turn.asks in
+    let read = c.operation_in.ensures ∙ ap (λ (n : ℕ). operation_in (request_in n c.behind_type-message.result.now)) (c.size.ensures ∙ ap (λ (x : Choice). hash_size x.hash) are.1.choice) ∙ ap (λ (l : List ℕ). operation_in (request_in (hash_len (session_terms s)) l)) message ∙ ap operation_in turn.asks in
     none-some turn.op (sym c.in_err-op.was ∙ read))
 
 pub returns-then-not-terms : goal.returns-then-not-terms
@@ -71,11 +71,11 @@ returns-then-not-terms c = λ r h set stands opens f large.
     let terms = c.in_ok-terms.terms in
     let found = subst (λ (o : Option SessionTerms). AreTermsIn o (session_of c.record_id-id.result.rsp h)) c.in_ok-terms.was (c.session_terms.ensures r h stands) in
     let are = subst (λ (n : ℕ). AreTermsIn (Some terms) (session_of n h)) id found in
-    let transfer = ap (λ x. x.to_requester.transfer) are.2 in
+    let transfer = ap (λ x. x.to_requester.transfer) are.1.common in
     let turn = is_large_turn r s (opened r.psk s request) f large in
     let room = large_room r s (opened r.psk s request) f turn in
     elim c.then-not-terms.either [
-      | inl none ↦ false≢true (sym none ∙ ap (λ x. x.chunk) are.2 ∙ turn.chunk)
+      | inl none ↦ false≢true (sym none ∙ ap (λ x. x.chunk) are.1.common ∙ turn.chunk)
       | inr narrow ↦ (let less = narrow.1 in omega (arith, room, less, transfer))
     ]
 
@@ -90,7 +90,7 @@ returns-then-is_err c = λ r h set stands opens f large.
     let inner = c.reads_request.ensures.inner r h stands c.if-not-reads_request.false in
     let message = c.behind_type-message.ensures ∙ ap (λ (l : List ℕ). drop 1 l) (c.as_slice.ensures.value ∙ inner) in
     let asks : request_at (session_place s) (drop 1 (opened r.psk s request)) ≡ Some (GetMeasurements c.in_ok-op.op) =
-    asked_by _ c.in_ok-op.op (sym (sym c.in_ok-op.was ∙ c.operation_in.ensures ∙ ap (λ (n : ℕ). operation_in (request_in n c.behind_type-message.result.now)) (c.size.ensures ∙ ap (λ (x : Choice). hash_size x.hash) are.1) ∙ ap (λ (l : List ℕ). operation_in (request_in (hash_len (session_terms s)) l)) message)) in
+    asked_by _ c.in_ok-op.op (sym (sym c.in_ok-op.was ∙ c.operation_in.ensures ∙ ap (λ (n : ℕ). operation_in (request_in n c.behind_type-message.result.now)) (c.size.ensures ∙ ap (λ (x : Choice). hash_size x.hash) are.1.choice) ∙ ap (λ (l : List ℕ). operation_in (request_in (hash_len (session_terms s)) l)) message)) in
     let missing = ap (is_missing c.in_ok-op.op) set.inventory ∙ sym c.record.ensures.missing ∙ sym c.is_err.ensures.value ∙ c.if-is_err.true in
     let turn = is_large_turn r s (opened r.psk s request) f large in
     false≢true (sym (large_blocks r s (opened r.psk s request) f turn) ∙ ap (has_no_block r) asks ∙ missing)
@@ -105,9 +105,9 @@ returns c = λ r h set stands.
     let are = subst (λ (n : ℕ). AreTermsIn (Some terms) (session_of n h)) id found in
     let inner = c.reads_request.ensures.inner r h stands c.if-not-reads_request.false in
     let message = c.behind_type-message.ensures ∙ ap (λ (l : List ℕ). drop 1 l) (c.as_slice.ensures.value ∙ inner) in
-    let chunk = sym (ap (λ x. x.chunk) are.2) ∙ c.if-not-terms.false in
-    let transfer = ap (λ x. x.to_requester.transfer) are.2 in
-    let max = ap (λ x. x.to_requester.max) are.2 in
+    let chunk = sym (ap (λ x. x.chunk) are.1.common) ∙ c.if-not-terms.false in
+    let transfer = ap (λ x. x.to_requester.transfer) are.1.common in
+    let max = ap (λ x. x.to_requester.max) are.1.common in
     let wide = c.if-terms-le-CHUNK_FIELDS.false in
     let most = c.if-max-gt-MOST_BYTES.result in
     let range : (most ≤ terms.common.to_requester.max) × (most ≤ 4096) × ((n : ℕ) → n ≤ terms.common.to_requester.max → n ≤ 4096 → n ≤ most) =
@@ -117,7 +117,7 @@ returns c = λ r h set stands.
     ] in
     record {
       id = id;
-      asks = asked_by _ c.in_ok-op.op (sym (sym c.in_ok-op.was ∙ c.operation_in.ensures ∙ ap (λ (n : ℕ). operation_in (request_in n c.behind_type-message.result.now)) (c.size.ensures ∙ ap (λ (x : Choice). hash_size x.hash) are.1) ∙ ap (λ (l : List ℕ). operation_in (request_in (hash_len (session_terms s)) l)) message));
+      asks = asked_by _ c.in_ok-op.op (sym (sym c.in_ok-op.was ∙ c.operation_in.ensures ∙ ap (λ (n : ℕ). operation_in (request_in n c.behind_type-message.result.now)) (c.size.ensures ∙ ap (λ (x : Choice). hash_size x.hash) are.1.choice) ∙ ap (λ (l : List ℕ). operation_in (request_in (hash_len (session_terms s)) l)) message));
       found = ap (is_missing c.in_ok-op.op) set.inventory ∙ sym c.record.ensures.missing ∙ sym c.is_err.ensures.value ∙ c.if-is_err.false;
       lengths = lengths_are s chunk (terms.common.to_requester.transfer + 1) most (ap (λ (n : ℕ). n + 1) transfer) (subst (λ (n : ℕ). most ≤ n) max range.0) range.1 (λ n one two. range.2 n (subst (λ (x : ℕ). n ≤ x) (sym max) one) two);
       wide = omega (arith, wide, transfer);

@@ -17,7 +17,7 @@ use Rattle.capture_machine.specs.Rounds.{no_draw}
 pub returns-clause-told : goal.returns-clause-told
 returns-clause-told c = λ r h set stands few.
     let least : Free = least_values h (clear_place h) in
-    let chosen = ap (λ (x : Choice). x.hash) (sym (c.choice-hash.ensures r h stands)) in
+    let chosen = ap (λ (x : Choice). x.hash) (sym (c.choice-hash.ensures.value r h stands)) in
     let free = c.least_values-values.ensures r h (clear_place h) stands chosen in
     let blocks = λ (op : ℕ). subst (λ (b : List BlockSpec). length (record_of (asked op b)) ≤ 4054) (sym set.inventory) (c.blocks_are_few.ensures op) in
     c.answers_at.ensures.told r h least set stands few free (c.values_are_bounded.ensures least free) (long_least r h c.args.message.now blocks)
@@ -25,7 +25,7 @@ returns-clause-told c = λ r h set stands few.
 pub returns-clause-stands : goal.returns-clause-stands
 returns-clause-stands c = λ r h set stands few.
     let least : Free = least_values h (clear_place h) in
-    let chosen = ap (λ (x : Choice). x.hash) (sym (c.choice-hash.ensures r h stands)) in
+    let chosen = ap (λ (x : Choice). x.hash) (sym (c.choice-hash.ensures.value r h stands)) in
     let free = c.least_values-values.ensures r h (clear_place h) stands chosen in
     some_then (IsAnswerer c.answers_at.new.self r (after h (on_clear r h c.args.tag c.args.message.now least no_draw))) (given_in c.answers_at.result)
     (c.answers_at.ensures.stands r h least set stands few free (c.values_are_bounded.ensures least free))

@@ -15,13 +15,13 @@ use Rattle.check_responder.proofs.answerer.Answerer.answers_at.Goals as goal
 
 pub returns-then-not-are_allowed-clause-told : goal.returns-then-not-are_allowed-clause-told
 returns-then-not-are_allowed-clause-told c = λ r h f set stands few free bounded long.
-    let chosen = ap (λ (x : Choice). x.hash) (sym (c.choice-hash.ensures r h stands)) in
+    let chosen = ap (λ (x : Choice). x.hash) (sym (c.choice-hash.ensures.value r h stands)) in
     let test = c.are_allowed.ensures.value r h (clear_place h) f stands (omega (arith, few)) chosen free in
     refused_at r h c.args.tag c.args.message.now f c.args.reply.now (λ fits short. false≢true (sym c.if-not-are_allowed.true ∙ test ∙ allowed_to h (clear_place h) f fits))
 
 pub returns-then-is_too_long-clause-told : goal.returns-then-is_too_long-clause-told
 returns-then-is_too_long-clause-told c = λ r h f set stands few free bounded long.
-    let chosen = ap (λ (x : Choice). x.hash) (sym (c.choice-hash.ensures r h stands)) in
+    let chosen = ap (λ (x : Choice). x.hash) (sym (c.choice-hash.ensures.value r h stands)) in
     let test = c.is_too_long.ensures r (clear_place h) f set chosen free bounded.nonce in
     refused_at r h c.args.tag c.args.message.now f c.args.reply.now (λ fits short. long_at r h c.args.tag c.args.message.now f (long ∙ sym test ∙ c.if-is_too_long.true) short)
 
@@ -30,7 +30,7 @@ returns-clause-told c = λ r h f set stands few free bounded long.
     let tag : ℕ = c.args.tag in
     let m : List ℕ = c.args.message.now in
     let reply : List ℕ = c.args.reply.now in
-    let chosen = ap (λ (x : Choice). x.hash) (sym (c.choice-hash.ensures r h stands)) in
+    let chosen = ap (λ (x : Choice). x.hash) (sym (c.choice-hash.ensures.value r h stands)) in
     let test = c.are_allowed.ensures.value r h (clear_place h) f stands (omega (arith, few)) chosen free in
     let fits = allowed_from h (clear_place h) f bounded (sym test ∙ c.if-not-are_allowed.false) in
     let size = c.is_too_long.ensures r (clear_place h) f set chosen free bounded.nonce in
@@ -44,7 +44,7 @@ returns-clause-told c = λ r h f set stands few free bounded long.
 
 pub returns-clause-stands : goal.returns-clause-stands
 returns-clause-stands c = λ r h f set stands few free bounded is.
-    let chosen = ap (λ (x : Choice). x.hash) (sym (c.choice-hash.ensures r h stands)) in
+    let chosen = ap (λ (x : Choice). x.hash) (sym (c.choice-hash.ensures.value r h stands)) in
     let test = c.are_allowed.ensures.value r h (clear_place h) f stands (omega (arith, few)) chosen free in
     let fits = allowed_from h (clear_place h) f bounded (sym test ∙ c.if-not-are_allowed.false) in
     (c.on_clear-heard.ensures.done r h f no_draw set free fits stands).stands

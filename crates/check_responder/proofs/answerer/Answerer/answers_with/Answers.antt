@@ -13,7 +13,7 @@ use Rattle.capture_machine.specs.Rounds.{no_draw}
 pub returns-in-Itself-clause-told : goal.returns-in-Itself-clause-told
 returns-in-Itself-clause-told c = λ r h set stands few anew free.
     let f : Free = clear_values r h c.args.message.now c.args.reply.now in
-    let chosen = ap (λ (x : Choice). x.hash) (sym (c.choice-hash.ensures r h stands)) in
+    let chosen = ap (λ (x : Choice). x.hash) (sym (c.choice-hash.ensures.value r h stands)) in
     c.answers_at.ensures.told r h f set stands few free (c.values_are_bounded.ensures f free) (c.in-Itself.ensures r h set stands chosen)
 
 pub returns-in-Itself-clause-stands : goal.returns-in-Itself-clause-stands
@@ -25,7 +25,7 @@ returns-in-Itself-clause-stands c = λ r h set stands few free.
 pub returns-in-Carried-clause-told : goal.returns-in-Carried-clause-told
 returns-in-Carried-clause-told c = λ r h set stands few anew free.
     let f : Free = clear_values r h c.args.message.now c.args.reply.now in
-    let chosen = ap (λ (x : Choice). x.hash) (sym (c.choice-hash.ensures r h stands)) in
+    let chosen = ap (λ (x : Choice). x.hash) (sym (c.choice-hash.ensures.value r h stands)) in
     let long = subst (λ (l : List ℕ). IsLongWith r h c.args.message.now l f) (sym c.as_slice.ensures.value) (c.in-Carried.ensures r h set stands chosen) in
     c.answers_at-in-Carried.ensures.told r h f set stands few free (c.values_are_bounded.ensures f free) long
 
@@ -38,5 +38,5 @@ returns-in-Carried-clause-stands c = λ r h set stands few free.
 pub returns-in-Never-clause-told : goal.returns-in-Never-clause-told
 returns-in-Never-clause-told c = λ r h set stands few anew free.
     let f : Free = clear_values r h c.args.message.now c.args.reply.now in
-    let chosen = ap (λ (x : Choice). x.hash) (sym (c.choice-hash.ensures r h stands)) in
+    let chosen = ap (λ (x : Choice). x.hash) (sym (c.choice-hash.ensures.value r h stands)) in
     none_judged r h c.args.tag c.args.message.now f c.args.reply.now anew (c.in-Never.ensures r h set stands chosen f)

@@ -8,7 +8,7 @@ pub returns-in-Heard-clause-done : goal.returns-in-Heard-clause-done
 returns-in-Heard-clause-done c = λ r h f d setup free allowed stands.
     let m : List ℕ = c.args.message.now in
     let tag : ℕ = c.args.tag in
-    let told = c.in-Heard.ensures r h f d setup free stands.clear (c.held-held.ensures.value r h stands.sessions) in
+    let told = c.in-Heard.ensures.told r h f d setup free stands.clear (c.held-held.ensures.value r h stands.sessions) in
     record {
       told = told.0.told;
       body = told.0.body;
@@ -22,16 +22,16 @@ returns-in-Heard-clause-done c = λ r h f d setup free allowed stands.
 
 pub returns-in-Begins-clause-done : goal.returns-in-Begins-clause-done
 returns-in-Begins-clause-done c = λ r h f d setup free allowed stands.
-    c.begin.ensures.done r h f d setup free allowed (c.in-Begins.ensures r h f d setup free stands.clear (c.held-held.ensures.value r h stands.sessions))
+    c.begin.ensures.done r h f d setup free allowed (c.in-Begins.ensures.told r h f d setup free stands.clear (c.held-held.ensures.value r h stands.sessions))
     (record { sessions = stands.sessions; queue = stands.queue; sizes = stands.sizes })
 
 pub returns-in-Heard-clause-drawn : goal.returns-in-Heard-clause-drawn
 returns-in-Heard-clause-drawn c = λ r h f d setup free allowed stands.
-    (c.in-Heard.ensures r h f d setup free stands.clear (c.held-held.ensures.value r h stands.sessions)).2
+    (c.in-Heard.ensures.told r h f d setup free stands.clear (c.held-held.ensures.value r h stands.sessions)).2
 
 pub returns-in-Begins-clause-drawn : goal.returns-in-Begins-clause-drawn
 returns-in-Begins-clause-drawn c = λ r h f d setup free allowed stands.
-    c.begin.ensures.drawn r h f d setup free allowed (c.in-Begins.ensures r h f d setup free stands.clear (c.held-held.ensures.value r h stands.sessions))
+    c.begin.ensures.drawn r h f d setup free allowed (c.in-Begins.ensures.told r h f d setup free stands.clear (c.held-held.ensures.value r h stands.sessions))
     (record { sessions = stands.sessions; queue = stands.queue; sizes = stands.sizes })
 
 pub returns-in-Heard-clause-harmless : goal.returns-in-Heard-clause-harmless

@@ -11,8 +11,7 @@ returns c = λ psk n exchange answer terms told is.
     let response = c.response_key.ensures (terms_of n).choice psk t1 is in
     record {
       live = refl;
-      choice = terms.choice;
-      common = terms.common;
+      terms = terms;
       id = λ i. record { req = terms.req_id i; rsp = told i };
       request = request;
       response = response;

@@ -17,5 +17,5 @@ returns-clause-shown c = λ psk s keeps stage few.
       response_next = (c.number-2.ensures ∙ keeps.response_next) i;
       taken = (keeps.taken ∙ taken) i;
       hash = (c.copy_of.ensures ∙ keeps.hash) i;
-      choice = keeps.choice i;
+      choice = keeps.terms.choice i;
     }

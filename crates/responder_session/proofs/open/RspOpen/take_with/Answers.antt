@@ -2,10 +2,10 @@ use Rattle.std.proofs.Common.{◌<◌, ◌-◌, ◌^◌, subst, ℕ}
 use Rattle.responder_session.proofs.open.RspOpen.take_with.Goals as goal
 
 pub returns : goal.returns
-returns c = λ r s f sizes blocks free stands.
+returns c = λ r s f blocks free stands.
     let keeps = stands.session.keeps in
-    c.of.ensures.live r s f c.args.sealed.now
-    (c.take_with-told.ensures.live r s f sizes free.pad (λ at. blocks)
+    c.of.ensures.live r s f c.args.sealed.now stands.sizes
+    (c.take_with-told.ensures.live r s f stands.sizes free.pad (λ at. blocks)
     (λ at. record {
       free = free;
       epochs = record {

@@ -21,7 +21,7 @@ returns c = λ r s op stands sizes long.
     let keys : KeepsKeys t = record { finish = refl; update = refl; key = refl; all = refl; verify = refl } in
     let reply = reply_record r.psk s t (inner_reply t) c.args.opened.now.pad.now in
     let transfer = (session_terms s).common.to_requester.transfer in
-    let same : c.args.self.now.kept.terms.common.to_requester.transfer ≡ transfer = ap (λ (x : Common). x.to_requester.transfer) stands.keeps.common in
+    let same : c.args.self.now.kept.terms.common.to_requester.transfer ≡ transfer = ap (λ (x : Common). x.to_requester.transfer) stands.keeps.terms.common in
     let least : MIN_DATA_TRANSFER_SIZE ≤ c.args.self.now.kept.terms.common.to_requester.transfer = subst (λ (n : ℕ). MIN_DATA_TRANSFER_SIZE ≤ n) (sym same) sizes.least in
     let whole : c.as_slice.result.now ≡ answer = c.as_slice.ensures.value in
     let keeps = kept_plain c.args.self.now.kept c.reply.new.self r.psk s sealed t reply c.reply.ensures.rest refl

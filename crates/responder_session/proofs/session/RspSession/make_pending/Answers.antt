@@ -17,7 +17,7 @@ returns c = λ r s sizes large unseen stands.
     let handle = c.args.handle in
     let transfer = (session_terms s).common.to_requester.transfer in
     let new : RspSession = record { stage = old.stage; kept = old.kept; exchange = old.exchange; large = c.begin.new.self; bytes = old.bytes } in
-    let same : old.kept.terms.common.to_requester.transfer ≡ transfer = ap (λ (x : Common). x.to_requester.transfer) stands.keeps.common in
+    let same : old.kept.terms.common.to_requester.transfer ≡ transfer = ap (λ (x : Common). x.to_requester.transfer) stands.keeps.terms.common in
     let least : MIN_DATA_TRANSFER_SIZE ≤ old.kept.terms.common.to_requester.transfer = subst (λ (n : ℕ). MIN_DATA_TRANSFER_SIZE ≤ n) (sym same) sizes.least in
     let long : old.kept.terms.common.to_requester.transfer < length answer + 16 = subst (λ (n : ℕ). n < length answer + 16) (sym same) large in
     let before : large_answers.StandsFor old.large old.kept.terms.common.to_requester.transfer (turns_of s) = subst (λ (n : ℕ). large_answers.StandsFor old.large n (turns_of s)) (sym same) stands.large in

@@ -17,7 +17,7 @@ returns c = λ r s sizes large pending measures stands.
     let old = c.args.self.now in
     let answer = c.args.answer.now in
     let new : RspSession = record { stage = old.stage; kept = old.kept; exchange = old.exchange; large = c.put.new.self; bytes = old.bytes } in
-    let same : old.kept.terms.common.to_requester.transfer ≡ (session_terms s).common.to_requester.transfer = ap (λ (x : Common). x.to_requester.transfer) stands.keeps.common in
+    let same : old.kept.terms.common.to_requester.transfer ≡ (session_terms s).common.to_requester.transfer = ap (λ (x : Common). x.to_requester.transfer) stands.keeps.terms.common in
     let put = c.put.ensures (turns_of s) (subst (λ (n : ℕ). MIN_DATA_TRANSFER_SIZE ≤ n) (sym same) sizes.least) (subst (λ (n : ℕ). n < length answer + 16) (sym same) large)
     (subst (λ (n : ℕ). large_answers.StandsFor old.large n (turns_of s)) (sym same) stands.large) (ap (λ (n : ℕ). is_some (pending_of n (turns_of s))) same ∙ pending) in
     stands_alike s (events_with answer s) (events_alike answer s measures) old new r.psk stands refl refl refl refl

@@ -5,13 +5,13 @@ use Rattle.responder_core.proofs.clear.clear_part.ClearPart.answer.Goals as goal
 use Rattle.spdm_grammar.specs.declared.told.heard.Heard.TheVariants as heard
 
 pub returns-in-Heard : goal.returns-in-Heard
-returns-in-Heard c = λ r h f d setup free allowed stands held. (c.in-Heard.ensures r h f d setup free stands held).0
+returns-in-Heard c = λ r h f d setup free allowed stands held. (c.in-Heard.ensures.told r h f d setup free stands held).0
 
 pub returns-in-Begins : goal.returns-in-Begins
 returns-in-Begins c = λ r h f d setup free allowed stands held.
     let m : List ℕ = c.args.message.now in
     let tag : ℕ = c.args.tag in
-    let beginning = c.in-Begins.ensures r h f d setup free stands held in
+    let beginning = c.in-Begins.ensures.told r h f d setup free stands held in
     let bytes = c.as_slice.ensures.value in
     let started = subst (λ (a : List ℕ). IsStartedAt r h m f c.in-Begins.begun c.on_clear.new.self.requests c.start-session.result a) (sym bytes) (c.start-session.ensures r h tag f setup free allowed beginning) in
     let told = c.begin.ensures r h f d free.handle setup.ordered setup.most beginning started.answer_is in

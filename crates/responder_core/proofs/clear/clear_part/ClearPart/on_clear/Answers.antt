@@ -14,8 +14,8 @@ use Rattle.responder_core.specs.ClearPart.{IsAnswered}
 use Rattle.responder_core.specs.declared.clear.came.Came.TheVariants as came
 use Rattle.responder_core.proofs.clear.clear_part.ClearPart.on_clear.Goals as goal
 
-pub returns-then-is_repeat : goal.returns-then-is_repeat
-returns-then-is_repeat c = λ r h f d setup free stands held.
+pub returns-then-is_repeat-clause-told : goal.returns-then-is_repeat-clause-told
+returns-then-is_repeat-clause-told c = λ r h f d setup free stands held.
     let m : List ℕ = c.args.message.now in
     let tag : ℕ = c.args.tag in
     let before : Seen = record { requests = c.self.inside.requests; kept = c.self.inside.kept } in
@@ -24,8 +24,8 @@ returns-then-is_repeat c = λ r h f d setup free stands held.
     let again : is_repeat (kept_of h) tag m ≡ true = ap (λ (k : Option Kept). is_repeat k tag m) (sym stood.kept) ∙ sym c.if-is_repeat.ensures in
     (repeated r h tag m f d c.args.self.now c.replace.new.out again stands (c.replace.ensures ∙ c.reply.ensures.value ∙ ap kept_reply stood.kept), repeat_begins_none r h tag m f d again, sym (drawn_again r h tag m f d again))
 
-pub returns-in-Refused : goal.returns-in-Refused
-returns-in-Refused c = λ r h f d setup free stands held.
+pub returns-in-Refused-clause-told : goal.returns-in-Refused-clause-told
+returns-in-Refused-clause-told c = λ r h f d setup free stands held.
     let m : List ℕ = c.args.message.now in
     let tag : ℕ = c.args.tag in
     let before : Seen = record { requests = c.self.inside.requests; kept = c.self.inside.kept } in
@@ -33,14 +33,14 @@ returns-in-Refused c = λ r h f d setup free stands held.
     let stood = subst (λ (s : Seen). StandsFor s r h) same stands in
     let anew : is_repeat (kept_of h) tag m ≡ false = ap (λ (k : Option Kept). is_repeat k tag m) (sym stood.kept) ∙ sym c.if-is_repeat.ensures in
     let now : Seen = record { requests = c.on_request.new.self; kept = c.self.inside.kept } in
-    let come = subst (λ (n : ℕ). IsCome r (place_at InClear (clear_turns h) n) m f (came.Refused c.in-Refused.code) c.on_request.new.self c.on_request.new.out) (sym held) (c.in-Refused.ensures r (clear_turns h) f setup free stood.requests) in (
+    let come = subst (λ (n : ℕ). IsCome r (place_at InClear (clear_turns h) n) m f (came.Refused c.in-Refused.code) c.on_request.new.self c.on_request.new.out) (sym held) (c.in-Refused.ensures.come r (clear_turns h) f setup free stood.requests) in (
       subst (λ (n : ℕ). IsAnswered r h tag m f d (hearing.Refused n) now c.on_request.new.out) (sym c.number.ensures) (refused_answered r h tag m f d c.in-Refused.code now c.on_request.new.out anew come.0 come.1 stood.kept),
       refused_begins_none r h tag m f d c.in-Refused.code anew come.0,
       sym (drawn_refused r h tag m f d c.in-Refused.code anew come.0),
     )
 
-pub returns-in-Answered : goal.returns-in-Answered
-returns-in-Answered c = λ r h f d setup free stands held.
+pub returns-in-Answered-clause-told : goal.returns-in-Answered-clause-told
+returns-in-Answered-clause-told c = λ r h f d setup free stands held.
     let m : List ℕ = c.args.message.now in
     let tag : ℕ = c.args.tag in
     let before : Seen = record { requests = c.self.inside.requests; kept = c.self.inside.kept } in
@@ -48,7 +48,7 @@ returns-in-Answered c = λ r h f d setup free stands held.
     let stood = subst (λ (s : Seen). StandsFor s r h) same stands in
     let anew : is_repeat (kept_of h) tag m ≡ false = ap (λ (k : Option Kept). is_repeat k tag m) (sym stood.kept) ∙ sym c.if-is_repeat.ensures in
     let now : Seen = record { requests = c.on_request.new.self; kept = c.keep.new.self } in
-    let come = subst (λ (n : ℕ). IsCome r (place_at InClear (clear_turns h) n) m f (came.Answered c.in-Answered.drawn) c.on_request.new.self c.on_request.new.out) (sym held) (c.in-Answered.ensures r (clear_turns h) f setup free stood.requests) in
+    let come = subst (λ (n : ℕ). IsCome r (place_at InClear (clear_turns h) n) m f (came.Answered c.in-Answered.drawn) c.on_request.new.self c.on_request.new.out) (sym held) (c.in-Answered.ensures.come r (clear_turns h) f setup free stood.requests) in
     let short = turn_short r h m f setup.ordered setup.most come.0.0 in
     let kept = c.keep.ensures short (subst (λ (a : List ℕ). length a ≤ MAX_MESSAGE_SIZE) (sym c.as_slice.ensures.value) c.as_slice.ensures.fits) ∙ ap (λ (reply : List ℕ). Some (record { tag = tag; message = m; reply = reply })) c.as_slice.ensures.value in (
       subst (λ (n : ℕ). IsAnswered r h tag m f d (hearing.Answered n) now c.on_request.new.out) (sym c.code_at.ensures) (taken_answered r h tag m f d now c.on_request.new.out anew come.0.0 come.0.1 kept),

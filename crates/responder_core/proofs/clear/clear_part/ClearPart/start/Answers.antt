@@ -10,6 +10,6 @@ returns c = λ r h tag f setup free allowed beginning.
     let seen = c.args.self.now.requests in
     let shown = exchange_shown r (clear_place h) c.args.message.now f c.args.begun seen tt beginning.begins in
     let stands = subst (λ (s : standing.Seen). standing.StandsFor s (clear_turns h)) (sym c.standing.ensures.value) shown.standing in
-    started_at r h c.args.message.now f c.args.begun seen c.start.result c.start.new.out allowed.context beginning.begins
+    started_at r h c.args.message.now f c.args.begun seen c.start.result c.start.new.out beginning.begins
     (subst (λ (bytes : List ℕ). Starts r h bytes f c.start.result c.start.new.out) c.exchange-exchange.ensures
-    (λ at asked is long fits. c.start.ensures r at (clear_turns h) (held_of h) f asked setup free stands is long fits))
+    (λ at asked is fits. c.start.ensures r at (clear_turns h) (held_of h) f asked setup free stands is fits))

@@ -15,8 +15,8 @@ use Rattle.responder_machine.specs.LargeMessages.{chunks_of}
 use Rattle.spdm_grammar.specs.declared.messages.error_code.ErrorCode.{ErrorCode}
 use Rattle.spdm_grammar.specs.declared.messages.part_faults.ChunkFault.{ChunkFault}
 
-pub returns-in-Refused : goal.returns-in-Refused
-returns-in-Refused c = λ r turns f setup free stands form asked_is refused.
+pub returns-in-Refused-clause-come : goal.returns-in-Refused-clause-come
+returns-in-Refused-clause-come c = λ r turns f setup free stands form asked_is refused.
     let p : Place = place_at InClear turns c.args.held in
     let m : List ℕ = c.args.message.now in
     let chunk : ChunkMessage = chunk_message c.args.chunk in
@@ -36,8 +36,8 @@ returns-in-Refused c = λ r turns f setup free stands form asked_is refused.
     (record { standing = stood.standing; collector = collector; max = c.in-Refused.ensures.max ∙ stood.max })
     (c.write_error.ensures.value r p f place (λ large. absurd (chunk_code fault code told large)))
 
-pub returns-in-More : goal.returns-in-More
-returns-in-More c = λ r turns f setup free stands form asked_is refused.
+pub returns-in-More-clause-come : goal.returns-in-More-clause-come
+returns-in-More-clause-come c = λ r turns f setup free stands form asked_is refused.
     let p : Place = place_at InClear turns c.args.held in
     let m : List ℕ = c.args.message.now in
     let chunk : ChunkMessage = chunk_message c.args.chunk in
@@ -56,8 +56,8 @@ returns-in-More c = λ r turns f setup free stands form asked_is refused.
       sym (more_draws r p m f chunk asked_is taken_is more.1),
     )
 
-pub returns-in-Whole : goal.returns-in-Whole
-returns-in-Whole c = λ r turns f setup free stands form asked_is refused.
+pub returns-in-Whole-clause-come : goal.returns-in-Whole-clause-come
+returns-in-Whole-clause-come c = λ r turns f setup free stands form asked_is refused.
     let p : Place = place_at InClear turns c.args.held in
     let m : List ℕ = c.args.message.now in
     let chunk : ChunkMessage = chunk_message c.args.chunk in
@@ -69,7 +69,7 @@ returns-in-Whole c = λ r turns f setup free stands form asked_is refused.
     let own : broken_rule r.max (under_way (chunks_of turns)) chunk ≡ rule = ap (λ (n : ℕ). broken_rule n (under_way (chunks_of turns)) chunk) (sym stood.max) in
     let whole = rule_whole rule chunk (joined_with (under_way (chunks_of turns)) chunk) c.gather.new.whole (c.in-Whole.ensures.answer (chunks_of turns) stood.collector) in
     let collector = subst (λ (x : Option ChunkFault). keeping.StandsFor c.gather.new.collector (accepted_unless x (chunks_of turns) chunk)) whole.0 (c.in-Whole.ensures.stands (chunks_of turns) stood.collector) in
-    c.on_whole.ensures r turns m f setup free (record {
+    c.on_whole.ensures.come r turns m f setup free (record {
       last = whole.1;
       form = form;
       asked_is = asked_is;

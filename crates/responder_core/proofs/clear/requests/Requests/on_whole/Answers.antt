@@ -20,8 +20,8 @@ use Rattle.spdm_grammar.specs.declared.names.request_code.TheConstants.{GET_MEAS
 use Rattle.responder_core.proofs.clear.requests.Requests.on_whole.Goals as goal
 use Rattle.spdm_grammar.specs.Message.{exchange_message}
 
-pub returns-in-Refused : goal.returns-in-Refused
-returns-in-Refused c = λ r turns m f setup free completes.
+pub returns-in-Refused-clause-come : goal.returns-in-Refused-clause-come
+returns-in-Refused-clause-come c = λ r turns m f setup free completes.
     let p : Place = place_at InClear turns c.args.held in
     let within : Place = place_at InChunks turns c.args.held in
     let chunk : ChunkMessage = chunk_message c.args.chunk in
@@ -31,7 +31,7 @@ returns-in-Refused c = λ r turns m f setup free completes.
     let bytes = c.as_slice-whole.ensures.value in
     let settled = settled_at before.standing InClear turns c.args.held done.standing in
     let known = chunk_known r p m chunk tt settled done.form done.asked_is in
-    let handled = c.in-Refused.ensures r turns f setup free done.standing tt in
+    let handled = c.in-Refused.ensures.handled r turns f setup free done.standing tt in
     let code = c.in-Refused.field-0 in
     let refused = subst (λ (w : List ℕ). refusal r within w f ≡ Some code) bytes handled.0 in
     let written = subst (λ (w : List ℕ). c.handle.new.out ≡ error_bytes r within w f code) bytes handled.2 in
@@ -44,8 +44,8 @@ returns-in-Refused c = λ r turns m f setup free completes.
       sym (last_refused_draws r p m f chunk before code done refused),
     )
 
-pub returns-in-Answered : goal.returns-in-Answered
-returns-in-Answered c = λ r turns m f setup free completes.
+pub returns-in-Answered-clause-come : goal.returns-in-Answered-clause-come
+returns-in-Answered-clause-come c = λ r turns m f setup free completes.
     let p : Place = place_at InClear turns c.args.held in
     let within : Place = place_at InChunks turns c.args.held in
     let chunk : ChunkMessage = chunk_message c.args.chunk in
@@ -55,7 +55,7 @@ returns-in-Answered c = λ r turns m f setup free completes.
     let bytes = c.as_slice-whole.ensures.value in
     let settled = settled_at before.standing InClear turns c.args.held done.standing in
     let known = chunk_known r p m chunk tt settled done.form done.asked_is in
-    let handled = c.in-Answered.ensures r turns f setup free done.standing tt in
+    let handled = c.in-Answered.ensures.handled r turns f setup free done.standing tt in
     let taken = subst (λ (w : List ℕ). refusal r within w f ≡ None) bytes handled.0 in
     let takes = subst (λ (w : List ℕ). (t : Turn) → is_taken t ≡ true → t.effect ≡ request_effect r within w f → standing.StandsFor c.handle.new.self (t ∷ turns)) bytes handled.2 in
     let written = subst (λ (w : List ℕ). c.handle.new.out ≡ request_reply r within w f) bytes handled.3 in
@@ -68,8 +68,8 @@ returns-in-Answered c = λ r turns m f setup free completes.
       ap (λ (n : ℕ). n == GET_MEASUREMENTS) (c.code_at-drawn.ensures ∙ ap code_of bytes) ∙ sym (last_taken_draws r p m f chunk before done taken ∙ draws_beside (code_of before.whole) other),
     )
 
-pub returns-in-Exchange : goal.returns-in-Exchange
-returns-in-Exchange c = λ r turns m f setup free completes.
+pub returns-in-Exchange-clause-come : goal.returns-in-Exchange-clause-come
+returns-in-Exchange-clause-come c = λ r turns m f setup free completes.
     let p : Place = place_at InClear turns c.args.held in
     let within : Place = place_at InChunks turns c.args.held in
     let chunk : ChunkMessage = chunk_message c.args.chunk in
@@ -79,7 +79,7 @@ returns-in-Exchange c = λ r turns m f setup free completes.
     let bytes = c.as_slice-whole.ensures.value in
     let settled = settled_at before.standing InClear turns c.args.held done.standing in
     let known = chunk_known r p m chunk tt settled done.form done.asked_is in
-    let handled = c.in-Exchange.ensures r turns f setup free done.standing tt in
+    let handled = c.in-Exchange.ensures.handled r turns f setup free done.standing tt in
     record {
       chunk = chunk;
       handle_is = refl;
@@ -91,8 +91,8 @@ returns-in-Exchange c = λ r turns m f setup free completes.
       refused = subst (λ (w : List ℕ). refusal r within w f ≡ None) bytes handled.1;
     }
 
-pub returns-in-Chunk : goal.returns-in-Chunk
-returns-in-Chunk c = λ r turns m f setup free completes.
+pub returns-in-Chunk-clause-come : goal.returns-in-Chunk-clause-come
+returns-in-Chunk-clause-come c = λ r turns m f setup free completes.
     let p : Place = place_at InClear turns c.args.held in
     let within : Place = place_at InChunks turns c.args.held in
     let chunk : ChunkMessage = chunk_message c.args.chunk in
@@ -102,5 +102,5 @@ returns-in-Chunk c = λ r turns m f setup free completes.
     let bytes = c.as_slice-whole.ensures.value in
     let settled = settled_at before.standing InClear turns c.args.held done.standing in
     let known = chunk_known r p m chunk tt settled done.form done.asked_is in
-    let handled = c.in-Chunk.ensures r turns f setup free done.standing tt in
+    let handled = c.in-Chunk.ensures.handled r turns f setup free done.standing tt in
     absurd (no_chunk_inside r p c.as_slice-whole.result.now (chunk_message c.in-Chunk.field-0) handled.0 handled.1)

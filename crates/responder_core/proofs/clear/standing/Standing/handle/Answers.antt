@@ -15,8 +15,8 @@ use Rattle.spdm_grammar.specs.Message.{RequestMessage, request_message}
 use Rattle.spdm_grammar.specs.declared.names.request_code.TheConstants.{PSK_EXCHANGE}
 use Rattle.spdm_grammar.specs.declared.messages.request.Request.{Request}
 
-pub returns-in-Err : goal.returns-in-Err
-returns-in-Err c = λ r turns f setup free stands clear.
+pub returns-in-Err-clause-handled : goal.returns-in-Err-clause-handled
+returns-in-Err-clause-handled c = λ r turns f setup free stands clear.
     let p : Place = place_at (where_of c.args.at) turns c.args.held in
     let m : List ℕ = c.args.message.now in
     let place = c.place-place.ensures turns c.args.held stands in
@@ -26,8 +26,8 @@ returns-in-Err c = λ r turns f setup free stands clear.
     let refused = subst (λ (a : Where). IsRefused r (place_at a turns c.args.held) m f c.in-Err.refused) (sym same) (c.in-Err.ensures.tested r turns f setup free stands here cleared) in
     (refused.code, refl, c.write_error.ensures.value r p f place refused.answer)
 
-pub returns-in-ChunkSend : goal.returns-in-ChunkSend
-returns-in-ChunkSend c = λ r turns f setup free stands clear.
+pub returns-in-ChunkSend-clause-handled : goal.returns-in-ChunkSend-clause-handled
+returns-in-ChunkSend-clause-handled c = λ r turns f setup free stands clear.
     let p : Place = place_at (where_of c.args.at) turns c.args.held in
     let m : List ℕ = c.args.message.now in
     let place = c.place-place.ensures turns c.args.held stands in
@@ -38,8 +38,8 @@ returns-in-ChunkSend c = λ r turns f setup free stands clear.
     let now = subst (λ (q : Request). IsPassed r p m f (request_message q)) c.in-ChunkSend.is passed in
     (now.form, now.asked_is, now.refused, refl)
 
-pub returns-in-PskExchange : goal.returns-in-PskExchange
-returns-in-PskExchange c = λ r turns f setup free stands clear.
+pub returns-in-PskExchange-clause-handled : goal.returns-in-PskExchange-clause-handled
+returns-in-PskExchange-clause-handled c = λ r turns f setup free stands clear.
     let p : Place = place_at (where_of c.args.at) turns c.args.held in
     let m : List ℕ = c.args.message.now in
     let place = c.place-place.ensures turns c.args.held stands in
@@ -50,8 +50,8 @@ returns-in-PskExchange c = λ r turns f setup free stands clear.
     let now = subst (λ (q : Request). IsPassed r p m f (request_message q)) c.in-PskExchange.is passed in
     (now.form, now.refused, now.asked_is, refl)
 
-pub returns-in_default : goal.returns-in_default
-returns-in_default c = λ r turns f setup free stands clear.
+pub returns-in_default-clause-handled : goal.returns-in_default-clause-handled
+returns-in_default-clause-handled c = λ r turns f setup free stands clear.
     let p : Place = place_at (where_of c.args.at) turns c.args.held in
     let m : List ℕ = c.args.message.now in
     let place = c.place-place.ensures turns c.args.held stands in

@@ -11,7 +11,7 @@ use Rattle.responder_session.specs.ExchangeLaws.{ArePartsOf}
 use Rattle.responder_session.specs.declared.parts.ExchangeParts.{ExchangeParts}
 
 pub returns : goal.returns
-returns c = λ r at turns held f asked setup free stands is long fits.
+returns c = λ r at turns held f asked setup free stands is fits.
     let p : Place = place_at at turns held in
     let exchange : List ℕ = c.args.exchange.now in
     let before : Seen = record { negotiating = c.self.inside.negotiating; large = c.self.inside.large } in
@@ -28,5 +28,5 @@ returns c = λ r at turns held f asked setup free stands is long fits.
     } in
     let asks = c.is_some.ensures ∙ c.summary-summary.ensures.asked ∙ ap (λ (k : ℕ). k == 1 || k == 255) c.byte_at.ensures ∙ asked_kind (slice_index exchange 2) kind.1 in
     let terms = c.terms-terms.ensures.value turns stands asks in
-    started r p turns exchange f asked c.terms-terms.result parts c.start.result c.args.setup.now.psk.now c.start.new.out refl is are terms setup.psk long fits
+    started r p turns exchange f asked c.terms-terms.result parts c.start.result c.args.setup.now.psk.now c.start.new.out refl is are terms setup.psk fits
     (c.start.ensures.answer (negotiation_of turns) (c.vca.ensures ∙ stood.negotiating.messages) terms) (c.start.ensures.stands (negotiation_of turns) (c.vca.ensures ∙ stood.negotiating.messages) terms)

@@ -7,7 +7,7 @@ pub returns-in-Some : goal.returns-in-Some
 returns-in-Some c = λ r h stands.
     let s = session_of c.args.id h in
     let live = in_slot r s (slot_of c.args.self.now c.args.id) c.in-Some.live.now c.in-Some.ensures (stands.slots c.args.id) in
-    (live.session.keeps.live, c.terms.ensures.choice r.psk s live.session, c.terms.ensures.common r.psk s live.session)
+    (live.session.keeps.live, c.terms.ensures r.psk s live.session)
 
 pub returns-in-None : goal.returns-in-None
 returns-in-None c = λ r h stands. no_slot r (session_of c.args.id h) (slot_of c.args.self.now c.args.id) c.in-None.ensures (stands.slots c.args.id)
