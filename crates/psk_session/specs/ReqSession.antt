@@ -1,5 +1,5 @@
 -- A session at the requester that is stepped in place, as the typed states show it.
-use Rattle.std.specs.Prelude.{◌≡◌, ℕ, List, Bool, true, false}
+use Rattle.std.specs.Prelude.{◌≡◌, ℕ, List, [], Bool, true, false, if◌then◌else◌}
 use Rattle.requester_machine.specs.Message.{Ask}
 use Rattle.requester_machine.specs.Session.{Steps}
 use Rattle.psk_session.specs.ReqOpen as open_state
@@ -35,6 +35,18 @@ open_of x = record { kept = x.kept; brought = x.brought }
 abbrev pub waiting_of : ReqSession → waiting.Seen
 waiting_of x =
     record { kept = x.kept; awaited = awaited_in x.standing; gathered = x.gathered; sent = x.sent }
+
+-- ---- What it lends.
+
+-- The record to be sent again: only while an answer is awaited is there one.
+abbrev pub again_in : ReqSession → List ℕ
+again_in x = if is_awaiting x.standing then x.sent else []
+
+-- What the last answer brought: only while it is open is that known.
+abbrev pub data_in : ReqSession → List ℕ
+data_in x = if is_open x.standing then x.brought else []
+
+-- ---- What it stands for.
 
 -- It is open, and stands for a session of these steps with this pre-shared key.
 abbrev pub IsOpen : ReqSession → (psk : List ℕ) → Steps → Type 0

@@ -9,7 +9,7 @@ ghost use Rattle.psk_session.specs.Asking.{ask_fault, asked, asked_of, is_long};
 ghost use Rattle.psk_session.specs.Course.{with_asked};
 ghost use Rattle.psk_session.specs.Kept.{Keeps};
 ghost use Rattle.psk_session.specs.ReqOpen as open_state;
-ghost use Rattle.psk_session.specs.ReqSession.{IsAwaiting, IsOpen, is_awaiting, is_open, open_of, waiting_of};
+ghost use Rattle.psk_session.specs.ReqSession.{IsAwaiting, IsOpen, again_in, data_in, is_awaiting, is_open, open_of, waiting_of};
 ghost use Rattle.psk_session.specs.Stepped.{IsAskedBy, IsLeft, IsToldOf};
 ghost use Rattle.psk_session.specs.Waiting as waiting;
 ghost use Rattle.psk_session.specs.Waiting.{Awaits, awaited_epoch};
@@ -115,20 +115,28 @@ impl ReqSession {
         }
     }
 
-    /// The record last sealed, while a response is awaited: to be sent again.
+    /// The record last sealed, to be sent again; empty unless a response is awaited.
     pub fn again(&self) -> &[u8]
-        ensures value { result.now ≡ (waiting_of self.now).sent }
+        ensures value { result.now ≡ again_in self.now }
         ensures fits { length result.now ≤ MAX_RECORD_SIZE }
     {
-        self.sent.as_slice()
+        if self.is_awaiting() {
+            self.sent.as_slice()
+        } else {
+            &[]
+        }
     }
 
-    /// The application data or measurement record of the last response, while the session is open; empty if it had
-    /// none.
+    /// The application data or measurement record of the last response; empty if it had none, and unless the session is
+    /// open.
     pub fn data(&self) -> &[u8]
-        ensures { result.now ≡ (open_of self.now).brought }
+        ensures { result.now ≡ data_in self.now }
     {
-        self.brought.as_slice()
+        if self.is_open() {
+            self.brought.as_slice()
+        } else {
+            &[]
+        }
     }
 
     /// Sends a request in the session, which is open, in a record with this padding of at most 16 bytes. A refused

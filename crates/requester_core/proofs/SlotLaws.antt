@@ -1,5 +1,5 @@
 -- The session of one ReqSessionID: what its slot tells of it, and what is done with it.
-use Rattle.std.proofs.Common.{refl, ◌≡◌, ◌∙◌, inl, inr, ℕ, List, [], ◌∷◌, true, Bool, Some, None, ap, sym, subst}
+use Rattle.std.proofs.Common.{refl, ◌≡◌, ◌∙◌, inl, inr, ℕ, List, [], ◌∷◌, true, false, Bool, Some, None, ap, sym, subst}
 use Rattle.std.specs.Prelude.{if◌then◌else◌, Ok, Err}
 use Rattle.std.proofs.lemmas.Bool.{false≢true}
 use Rattle.std.proofs.lemmas.Option.{none-some, same_Some}
@@ -15,13 +15,16 @@ use Rattle.psk_session.specs.Finished.{IsJudged, finished_by}
 use Rattle.psk_session.specs.Finishing as finishing
 use Rattle.psk_session.specs.Opening as opening
 use Rattle.psk_session.specs.Opening.{open_fault, started}
-use Rattle.psk_session.specs.ReqSession.{IsAwaiting, IsOpen}
+use Rattle.psk_session.specs.Data.{data_of}
+use Rattle.psk_session.specs.ReqSession.{IsAwaiting, IsOpen, again_in, data_in, is_awaiting, is_open}
 use Rattle.psk_session.specs.Stepped.{IsToldOf}
 use Rattle.psk_session.specs.Waiting.{IsNewest}
 use Rattle.psk_session.specs.declared.finishing.Finishing.{Finishing}
 use Rattle.psk_session.specs.declared.open_fault.OpenFault.{OpenFault}
 use Rattle.psk_session.specs.declared.opening.Opening.{Opening}
 use Rattle.psk_session.specs.declared.req_session.ReqSession.{ReqSession}
+use Rattle.psk_session.specs.declared.standing.Standing.{Standing}
+use Rattle.psk_session.specs.declared.standing.Standing.TheVariants.{Awaits, Closed, Open}
 use Rattle.psk_session.specs.declared.told.Told.{Told}
 use Rattle.psk_session.specs.declared.told.Told.TheVariants as told
 use Rattle.requester_machine.proofs.Steps.{asked_stage, opening_stage}
@@ -69,6 +72,46 @@ opening_live x psk s o = ap is_live o.steps
 
 pub finishing_live : (x : Finishing) (psk : List ℕ) (s : Steps) → IsSlotOf (slot.Finishing x) psk s → is_live s ≡ true
 finishing_live x psk s f = ap is_live f.steps
+
+-- ---- What a slot lends.
+
+open_alone : {A : Type 0} (y : Standing) (a b : A) → is_open y ≡ true → (if is_awaiting y then a else b) ≡ b
+open_alone Open a b is = refl
+open_alone (Awaits what) a b is = absurd (false≢true is)
+open_alone Closed a b is = absurd (false≢true is)
+
+awaits_alone : {A : Type 0} (y : Standing) (a b : A) → is_awaiting y ≡ true → (if is_open y then a else b) ≡ b
+awaits_alone Open a b is = absurd (false≢true is)
+awaits_alone (Awaits what) a b is = refl
+awaits_alone Closed a b is = absurd (false≢true is)
+
+if_so : {A : Type 0} (t : Bool) (a b : A) → t ≡ true → (if t then a else b) ≡ a
+if_so true a b is = refl
+if_so false a b is = absurd (false≢true is)
+
+-- The newest record, where its answer is awaited.
+pub live_again : (x : ReqSession) (psk : List ℕ) (s : Steps) (a : Ask) → IsSlotOf (slot.Live x) psk s → waiting_ask s ≡ Some a → IsNewest a (again_in x) s
+live_again x psk s a (inl r) is = absurd (none-some a (sym r.idle ∙ is))
+live_again x psk s a (inr k) is =
+    subst (λ (b : Ask). IsNewest b (again_in x) s) (same_Some k.ask a (sym (asked_waits x psk s k) ∙ is))
+    (subst (λ (sent : List ℕ). IsNewest k.ask sent s) (sym (if_so (is_awaiting x.standing) x.sent [] k.stands.0)) k.stands.1.newest)
+
+-- None, where nothing is asked.
+pub live_sends_none : (x : ReqSession) (psk : List ℕ) (s : Steps) → IsSlotOf (slot.Live x) psk s → waiting_ask s ≡ None → again_in x ≡ []
+live_sends_none x psk s (inl r) is = open_alone x.standing x.sent [] r.stands.0
+live_sends_none x psk s (inr k) is = absurd (none-some k.ask (sym is ∙ asked_waits x psk s k))
+
+pub finishing_never_rests : (x : Finishing) (psk : List ℕ) (s : Steps) → IsSlotOf (slot.Finishing x) psk s → waiting_ask s ≡ None → ⊥
+finishing_never_rests x psk s f is = none-some AskFinish (sym is ∙ ap waiting_ask f.steps)
+
+-- What the last answer brought, where nothing is asked, and else nothing.
+pub live_data : (x : ReqSession) (psk : List ℕ) (s : Steps) → IsSlotOf (slot.Live x) psk s → waiting_ask s ≡ None → data_in x ≡ data_of s
+live_data x psk s (inl r) is = if_so (is_open x.standing) x.brought [] r.stands.0 ∙ r.stands.1.brought
+live_data x psk s (inr k) is = absurd (none-some k.ask (sym is ∙ asked_waits x psk s k))
+
+pub live_asked : (x : ReqSession) (psk : List ℕ) (s : Steps) (a : Ask) → IsSlotOf (slot.Live x) psk s → waiting_ask s ≡ Some a → data_in x ≡ []
+live_asked x psk s a (inl r) is = absurd (none-some a (sym r.idle ∙ is))
+live_asked x psk s a (inr k) is = awaits_alone x.standing x.brought [] k.stands.0
 
 -- ---- A record for a session past its handshake.
 

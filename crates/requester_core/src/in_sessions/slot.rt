@@ -101,7 +101,7 @@ fn take_finish(state: Finishing, sealed: &[u8]) -> (Slot, SessionLed)
 }
 
 impl Slot {
-    ghost use Rattle.std.specs.Prelude.{◌≡◌, ◌≤◌, ◌<◌, ◌-◌, ◌^◌, ℕ, List, None, Some, length};
+    ghost use Rattle.std.specs.Prelude.{◌≡◌, ◌≤◌, ◌<◌, ◌-◌, ◌^◌, [], ℕ, List, None, Some, length};
     ghost use Rattle.requester_core.specs.SessionLed.{IsStepped, settled};
     ghost use Rattle.requester_core.specs.Slot.{IsFinishingSlot, IsSlotOf, shown_of};
     ghost use Rattle.requester_core.specs.SlotSteps.{IsAcceptedBy, IsAskedOf};
@@ -215,10 +215,12 @@ impl Slot {
         }
     }
 
-    /// The record that awaits its answer; empty where there is none.
+    /// The record that awaits its answer; empty where there is none, as in a session at rest.
     pub fn record(&self) -> &[u8]
         ensures newest { (psk : List ℕ) (s : Steps) (a : message.Ask) → IsSlotOf self.now psk s
             → waiting_ask s ≡ Some a → IsNewest a result.now s }
+        ensures rest { (psk : List ℕ) (s : Steps) → IsSlotOf self.now psk s
+            → waiting_ask s ≡ None → result.now ≡ [] }
         ensures fits { length result.now ≤ MAX_RECORD_SIZE }
     {
         match self {
@@ -228,10 +230,13 @@ impl Slot {
         }
     }
 
-    /// The application data or the measurement record of the last answer; empty where it had none.
+    /// The application data or the measurement record of the last answer; empty where it had none, and while an answer
+    /// is awaited.
     pub fn data(&self) -> &[u8]
-        ensures { (psk : List ℕ) (s : Steps) → IsSlotOf self.now psk s → waiting_ask s ≡ None
+        ensures rest { (psk : List ℕ) (s : Steps) → IsSlotOf self.now psk s → waiting_ask s ≡ None
             → result.now ≡ data_of s }
+        ensures asked { (psk : List ℕ) (s : Steps) (a : message.Ask) → IsSlotOf self.now psk s
+            → waiting_ask s ≡ Some a → result.now ≡ [] }
     {
         match self {
             Slot::Empty | Slot::Opening(_) | Slot::Finishing(_) => &[],
