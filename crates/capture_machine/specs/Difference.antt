@@ -173,7 +173,8 @@ IsApartBy w older ds (Ok packet) =
     (ComesApartFrom w older packet (dialogue_at packet.from ds))
     (MatchBool (packet.from == w.responder.eid) (GoesApartTo w older packet (dialogue_at packet.to ds)) ⊥)
 
--- After some walk over the packets before it, the newest first.
+-- The packet is apart, that is wrong in its verify data only, after some walk over the packets before it, the newest
+-- first.
 unfoldable pub IsVerifyApart : Configuration → List (List ℕ) → List ℕ → Type 0
 IsVerifyApart w older packet = (ds : List Dialogue) × Leads w older ds × IsApartBy w older ds (parsed packet)
 

@@ -95,7 +95,7 @@ fn is_whole(given: Given) -> bool
 }
 
 /// What is said of a reply, where this answer was given: that is told of it, and whether a large response is pending
-/// after it. Verify data have so many bytes.
+/// after it. Verify data have `size` bytes. A reply is `Apart` where it is wrong in its verify data only.
 pub(crate) fn judged_by(
     heard: Heard,
     given: &[u8],

@@ -14,7 +14,7 @@ pub enum Given {
 pub enum Judged {
     /// It is right, and brings this.
     Given(Given),
-    /// It is wrong, but would be right with other verify data.
+    /// It is wrong in its verify data only: with others it would be right.
     Apart,
     /// It is wrong otherwise.
     Refused,

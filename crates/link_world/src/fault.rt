@@ -2,16 +2,17 @@ use requester::ReqConfigFault;
 use responder::RspConfigFault;
 use thiserror::Error;
 
-/// Why a configuration is rejected, in the order of the checks: the responder first, and then the requesters. A parsed
-/// configuration has none of the first two.
+/// Why a configuration makes no world, in the order of the checks: first the responder, then the requesters in their
+/// order. A configuration that was read from a text makes one, unless memory runs out.
 #[derive(Clone, Copy, Debug, PartialEq, Eq, Error)]
 pub enum WorldFault {
-    /// Never an allocation failure.
+    /// The configuration of the responder is rejected for this. Never an allocation failure.
     #[error("the responder: {0}")]
     Responder(RspConfigFault),
-    /// Never an allocation failure.
+    /// The configuration of a requester, the first that is rejected, is rejected for this. Never an allocation failure.
     #[error("a requester: {0}")]
     Requester(ReqConfigFault),
+    /// An allocation failed, for the responder or a requester.
     #[error("out of memory")]
     OutOfMemory,
 }

@@ -106,8 +106,8 @@ impl Link {
         line_added(self.ends.reply(q, bytes, text))
     }
 
-    /// Runs an event and appends its trace lines to `text`. `Show` prints nothing here. After `LinkFull` the lines
-    /// before that of the packet without room were appended.
+    /// Runs an event other than `Show`, and appends its trace lines to `text`. After `LinkFull` the lines before that
+    /// of the packet without room were appended.
     #[tactic(auto, unfolding(world_machine::specs::World::happens))]
     pub(crate) fn happen(
         &mut self,

@@ -1,7 +1,7 @@
 //! A simulated link between a responder and its requesters: the endpoints, and the packets sent between them.
 //!
-//! Read first: `StandsFor` in `specs/Worlds.antt`, which world of definitions a world of the program stands for. The
-//! call is `World::step`.
+//! Read first: `StandsFor` in `specs/Worlds.antt`, which relates a `World` of this crate to its state in the
+//! definitions. The call is `World::step`.
 #![tactic(auto)]
 
 mod ends;

@@ -16,7 +16,7 @@ use script_text::{
 use spdm_basis::{Bytes, OutOfMemory, SessionId};
 use spdm_grammar::{CommandFault, Event, Finished, Heard, ReplyFault};
 
-/// Adds the line before an event.
+/// Adds the line `@N` in front of the lines of the event that stands on line N of the script.
 pub(crate) fn push_at(number: u32, text: &mut EventText) -> Result<(), OutOfMemory>
     ensures { OnOk result (text.new ≡ text.old ++ line_text (At number)) }
 {
@@ -50,7 +50,7 @@ pub(crate) fn push_reply(
     text.text.extend(text.line.as_slice())
 }
 
-/// Adds the line of a packet that is for no end.
+/// Adds the line of a packet whose destination is no configured endpoint.
 pub(crate) fn push_nobody(text: &mut EventText) -> Result<(), OutOfMemory>
     ensures { OnOk result (text.new ≡ text.old ++ line_text ToNobody) }
 {

@@ -28,8 +28,8 @@ struct Place {
     waits: bool,
 }
 
-/// The packets sent, in order, and which of them wait for delivery. Packets are numbered from 1 and stored
-/// contiguously. In contracts, the list of the definitions.
+/// All packets that were sent over a link, in order, at most 65,536 of them, and which of them wait for delivery.
+/// Packets are numbered from 1. In contracts, a list of `SentPacket` of world_machine.
 #[derive(Drop)]
 pub struct SentPackets {
     bytes: Vec<u8>,

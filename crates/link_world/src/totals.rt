@@ -19,7 +19,8 @@ pub struct Totals {
     pub packets: u32,
     /// Application messages received at all endpoints, including those of ended sessions.
     pub taken: u64,
-    /// Sessions in stage Open or Verifying. One that is open at both endpoints counts twice.
+    /// Established sessions (stage Open or Verifying), counted at each endpoint: one that is established at both counts
+    /// twice.
     pub live: u32,
 }
 
@@ -75,7 +76,7 @@ impl Ends {
     ghost use Rattle.world_machine.specs.Totals.{totals_of};
     ghost use Rattle.world_machine.specs.World.{World};
 
-    /// The number of open sessions, over all endpoints.
+    /// The number of established sessions (stage Open or Verifying), over all endpoints.
     pub(crate) fn live(&self) -> u32
         ensures { (w : World) → AreEnds self.now w → result ≡ (totals_of w).live }
     {

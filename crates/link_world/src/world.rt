@@ -56,8 +56,8 @@ impl World {
         World::resume(alloc, config, 0)
     }
 
-    /// The initial world after `boot` earlier boots with the same seed: at most 2^24 - 2. Each boot has draws of its
-    /// own. Faults as for `new`.
+    /// The initial world. `boot` is the number of earlier boots with this seed, at most 2^24 - 2. Each boot uses random
+    /// values that no other boot uses. Faults as for `new`.
     pub fn resume(alloc: Global, config: &ScriptConfig, boot: u32) -> Result<World, WorldFault>
         requires seed { IsSome config.now.seed }
         requires boot { boot ≤ 2 ^ 24 - 2 }
@@ -73,7 +73,7 @@ impl World {
         })
     }
 
-    /// Writes the lines that show the world: the phase and the sessions of each endpoint. Never allocates.
+    /// Writes the lines with which a trace begins: phase and sessions of each endpoint. Never allocates.
     pub fn start<K: Sink>(&self, sink: &mut K) -> Result<(), OutFault>
         ensures written { (w : machine.World) → StandsFor self.now w
             → OnOk result (Takes (K.contents sink.old) (text_of (machine.shown_lines w))

@@ -21,7 +21,8 @@ pub struct ReqConfig<'a> {
     pub max: u32,
     /// Payload bytes per packet (the transmission unit), from 64 to 1,024.
     pub unit: u16,
-    /// Bytes of random padding per record: at most 16.
+    /// Length of the random data (DSP0277) in the record that a command sends: at most 16 bytes. Records that are sent
+    /// when an answer came have none.
     pub pad: u8,
     /// The optional capabilities that it announces.
     pub flags: FlagSet,

@@ -4,7 +4,7 @@ use thiserror::Error;
 #[derive(Clone, Copy, Debug, PartialEq, Eq, Error)]
 pub enum ReqConfigFault {
     /// Requester and responder have the same EID.
-    #[error("an end point that is taken")]
+    #[error("two endpoints with the same endpoint ID")]
     SameEid,
     /// A size, a length, the unit or the padding is out of its range.
     #[error("a size out of its range")]

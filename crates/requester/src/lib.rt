@@ -1,7 +1,7 @@
-//! A requester of the profile (DSP0274, section 10): commands and packets in, packets out.
+//! A requester of SPDM 1.2 sessions under a pre-shared key (DSP0274, section 10): commands and packets in, packets out.
 //!
-//! Read first: `StandsFor` in `specs/Standing.antt`, which end of the definitions a requester stands for. Calls are
-//! `Requester::command` and `Requester::on_packet`.
+//! Read first: `StandsFor` in `specs/Standing.antt`, which relates a `Requester` to its state in the definitions. Calls
+//! are `Requester::command` and `Requester::on_packet`.
 #![tactic(auto)]
 
 mod config;

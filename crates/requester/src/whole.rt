@@ -7,7 +7,7 @@ use spdm_grammar::names::MAX_BODY_SIZE;
 use spdm_grammar::{Phase, SessionList};
 use std::alloc::Global;
 
-/// The lifetime limit of a requester, in packets and commands.
+/// The most packets and commands, counted together, that a requester handles: 2^40. After them it is `Worn`.
 pub(crate) const WEAR_LIMIT: u64 = 1_099_511_627_776;
 
 /// A requester of one responder (DSP0274, section 10): commands and packets in, packets out. Allocates only when
@@ -47,8 +47,8 @@ impl Requester {
         Requester::resume(alloc, config, seed, 0)
     }
 
-    /// A requester in its initial state, after `boot` earlier boots with the same seed: at most 2^24 - 2. Each boot has
-    /// draws of its own. Faults as for `new`.
+    /// A requester in its initial state. `boot` is the number of earlier boots with this seed, at most 2^24 - 2. Each
+    /// boot uses random values that no other boot uses. Faults as for `new`.
     pub fn resume(
         alloc: Global,
         config: &ReqConfig<'_>,
@@ -84,7 +84,8 @@ impl Requester {
         self.asking.phase()
     }
 
-    /// Views of the sessions from PSK_EXCHANGE_RSP on, by rising ReqSessionID.
+    /// Views of the sessions whose PSK_EXCHANGE_RSP was accepted, also those still in their handshake, by rising
+    /// ReqSessionID.
     pub fn sessions(&self) -> SessionList
         ensures { (a : Requesting) → StandsFor self.now a → result ≡ views_of a.history }
     {

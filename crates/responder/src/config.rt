@@ -24,7 +24,8 @@ pub struct RspConfig<'a> {
     pub max: u32,
     /// Payload bytes per packet (the transmission unit), from 64 to 1,024.
     pub unit: u16,
-    /// HeartbeatPeriod, in seconds.
+    /// HeartbeatPeriod of PSK_EXCHANGE_RSP, in seconds; with 0 sessions are not timed. Where HBEAT_CAP is not in common
+    /// 0 is sent.
     pub beat: u8,
     /// The optional capabilities that it announces.
     pub flags: FlagSet,

@@ -8,15 +8,16 @@ pub enum RspConfigFault {
     #[error("more than eight requesters")]
     TooManyRequesters,
     /// The responder and the requesters do not have distinct EIDs.
-    #[error("an end point that is taken")]
+    #[error("two endpoints with the same endpoint ID")]
     SameEid,
     /// Two requesters have the same pre-shared key.
     #[error("a pre-shared key that is taken")]
     SamePsk,
-    /// A size, a length or the unit is out of its range.
+    /// DataTransferSize, MaxSPDMmsgSize, the transmission unit, the length of OpaqueData or that of a PSKHint is out of
+    /// its range.
     #[error("a size out of its range")]
     SizeRange,
-    /// The measurement blocks are invalid. Never an allocation failure.
+    /// The measurement blocks make no inventory, for this reason. Never an allocation failure.
     #[error("{0}")]
     Inventory(InventoryFault),
     #[error("out of memory")]

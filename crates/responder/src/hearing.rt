@@ -29,8 +29,9 @@ fn write_next_reply(connection: &Connection, reply: &mut Buffer<MAX_APP_DATA_LEN
     let _ = reply.extend(connection.next_reply());
 }
 
-/// Handles a clear message with its tag; `drawn` is the next unused draw. The response body overwrites the room's
-/// `body`.
+/// Handles a clear message with its tag. `drawn` has 32 fresh pseudo-random bytes, for the context of PSK_EXCHANGE_RSP
+/// or the nonce of MEASUREMENTS: they are used up where one of these requests takes effect (`Connection::is_drawn`).
+/// The response body overwrites the room's `body`.
 pub(crate) fn hear_clear(
     connection: &mut Connection,
     setup: &Setup<'_>,
@@ -66,7 +67,8 @@ pub(crate) fn hear_clear(
     heard
 }
 
-/// Handles a record; `drawn` is the next unused draw. The response body overwrites the room's `body`.
+/// Handles a record. `drawn` has 32 fresh pseudo-random bytes, for the nonce of MEASUREMENTS: they are used up where
+/// GET_MEASUREMENTS takes effect (`Connection::is_drawn`). The response body overwrites the room's `body`.
 pub(crate) fn hear_record(
     connection: &mut Connection,
     setup: &Setup<'_>,

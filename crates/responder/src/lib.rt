@@ -1,7 +1,7 @@
-//! A responder of the profile (DSP0274, section 10): packets in, packets out.
+//! A responder of SPDM 1.2 sessions under pre-shared keys (DSP0274, section 10): packets in, packets out.
 //!
-//! Read first: `StandsFor` in `specs/Standing.antt`, which end of the definitions a responder stands for. The call is
-//! `Responder::on_packet`.
+//! Read first: `StandsFor` in `specs/Standing.antt`, which relates a `Responder` to its state in the definitions. The
+//! call is `Responder::on_packet`.
 #![tactic(auto)]
 
 mod body;

@@ -9,8 +9,9 @@ impl Responder {
     ghost use Rattle.responder_machine.specs.Independence.{after_reply};
     ghost use Rattle.responder_machine.specs.Responding.{Responding, connection_of, reply_fault_of, ticks};
 
-    /// Queues application data to send in reply to this endpoint. `ReplyFault` lists the faults in the order of the
-    /// checks; on a fault nothing changes. Never allocates.
+    /// Queues application data for the requester with this endpoint ID: each message of application data that it sends
+    /// is answered with the first in its queue. `ReplyFault` lists the faults in the order of the checks; on a fault
+    /// nothing changes. Never allocates.
     pub fn queue(&mut self, eid: Eid, bytes: &[u8]) -> Result<(), ReplyFault>
         ensures fault { (r : Responding) → StandsFor self.old r → MatchResult result
             (λ _. reply_fault_of (connection_of eid.number r.connections) bytes.now ≡ None)
@@ -28,8 +29,9 @@ impl Responder {
         }
     }
 
-    /// Advances the clock of all connections: removes each established session that has waited for twice its
-    /// HeartbeatPeriod (DSP0274, "HEARTBEAT"). Never allocates.
+    /// Advances the clock of all connections: removes each established session with a HeartbeatPeriod above 0 in which
+    /// no new record has opened for twice that period (DSP0274, "HEARTBEAT"). Sessions with period 0 are never timed
+    /// out. Never allocates.
     pub fn tick(&mut self, seconds: u32)
         ensures { (r : Responding) → StandsFor self.old r → StandsFor self.new (ticks r seconds) }
     {

@@ -70,8 +70,8 @@ impl Responder {
         Responder::resume(alloc, config, seed, 0)
     }
 
-    /// A responder in its initial state, after `boot` earlier boots with the same seed: at most 2^24 - 2. Each boot has
-    /// draws of its own. Faults as for `new`.
+    /// A responder in its initial state. `boot` is the number of earlier boots with this seed, at most 2^24 - 2. Each
+    /// boot uses random values that no other boot uses. Faults as for `new`.
     pub fn resume(
         alloc: Global,
         config: &RspConfig<'_>,
@@ -103,8 +103,9 @@ impl Responder {
 
     /// Handles a received packet. The response packets overwrite `out`. Never allocates. A refused request changes
     /// nothing in the sessions but the record numbers, the stored response and the clock of the session that its record
-    /// names. If nothing is taken no connection changes. Whatever is reported, the connections with other endpoints than
-    /// the source of the packet stay as they were, and so do their unfinished messages.
+    /// names. After `Unopened`, `Same`, `More` and `Ignored` no connection has changed. Whatever is reported, the
+    /// connections with other endpoints than the source of the packet stay as they were, and so do their unfinished
+    /// messages.
     pub fn on_packet(&mut self, packet: &[u8], out: &mut PacketList) -> Heard
         ensures step { (r : Responding) → StandsFor self.old r
             → IsStep (responder_hears r packet.now) result out.new self.new }

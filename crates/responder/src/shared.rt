@@ -1,3 +1,5 @@
+//! What all connections of a responder share. Here a draw is used up; which messages use one is `takes_draw` in
+//! `responder_machine/specs/Turn.antt`.
 ghost use Rattle.std.specs.Prelude.{◌≡◌, ◌<◌, ◌+◌, ◌-◌, ◌^◌};
 ghost use Rattle.responder_core.specs.Connected.{StandsFor};
 ghost use Rattle.responder.specs.Came.{IsShort, last_for};

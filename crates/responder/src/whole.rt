@@ -44,8 +44,10 @@ fn reversed(route: Route) -> Route
     }
 }
 
-/// Handles a complete message body with its tag; `drawn` is the next unused draw. The body is `None` if its message
-/// type is neither that of SPDM messages nor that of records. The response body overwrites the room's `body`.
+/// Handles a complete message body with its tag. `drawn` has 32 fresh pseudo-random bytes, for the context of
+/// PSK_EXCHANGE_RSP or the nonce of MEASUREMENTS: they are used up where one of these requests takes effect
+/// (`Connection::is_drawn`). `None` if the message type is neither that of SPDM messages nor that of records. The
+/// response body overwrites the room's `body`.
 fn hear_body(
     connection: &mut Connection,
     setup: &Setup<'_>,

@@ -203,7 +203,8 @@ after_exchange id s t negotiation =
     if gives_id id (answer_in t.effect) then Began negotiation (request_in t.effect) (answer_in t.effect) ∷ []
     else (if is_past_handshake (stage_of s) then s else [])
 
--- GET_VERSION ends all sessions, PSK_EXCHANGE is as said, and nothing else in the clear touches one.
+-- GET_VERSION ends all sessions, PSK_EXCHANGE is as said, and nothing else in the clear touches one. What else
+-- GET_VERSION sets back: `phase_of`, `negotiation_of` and `ended_of` in History.antt.
 abbrev pub after_clear : ℕ → Events → Turn → Negotiation → Events
 after_clear id s t negotiation =
     if takes GET_VERSION t then []

@@ -1,6 +1,8 @@
 use crate::{RecordFree, RspSession, RspTook, Work};
 
-/// A session at the responder that END_SESSION ended. It only recognizes the repeat of its last record.
+/// A session at the responder that END_SESSION ended, as a state of the session. It only recognizes the repeat of its
+/// last record. `spdm` does not keep this state: the reply that it keeps of an ended session is `EndedRecord` in
+/// responder_core.
 #[derive(Drop)]
 pub struct RspEnded {
     pub(crate) session: RspSession,

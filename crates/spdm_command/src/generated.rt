@@ -15,8 +15,8 @@ use script_text::{MOST_GENERATED, generate, line_summary};
 use spdm_basis::{Line, NullSink, OutFault, Sink, write_all};
 use std::alloc::Global;
 
-/// Runs the script generated from a seed and a count without its trace, writes its summary line, and returns its final
-/// world. A full link writes nothing.
+/// Runs the script generated from a seed and a count of events, writes one line of totals in place of its trace, and
+/// returns its final world. After `LinkFull` nothing was written.
 pub fn summarize<K: Sink>(
     alloc: Global,
     seed: u64,

@@ -15,15 +15,17 @@ pub enum Outcome {
     Usage,
     /// This line, counted from 1, is the first invalid one. Nothing was written.
     BadScript { line: u32, fault: LineFault },
-    /// Reading failed, possibly after part of the output where a stream is served; otherwise nothing was written.
+    /// Reading failed. `serve` and `drive` may have written part of the output for the frames read before; any other
+    /// command wrote nothing.
     ReadFault,
     /// Writing failed, possibly after part of the output.
     WriteFault,
     /// Out of memory, possibly after part of the output.
     OutOfMemory,
-    /// No seed was given. Nothing was written.
+    /// `serve` or `drive` was given no seed. Nothing was written.
     SeedFault,
-    /// The text is longer than 4 MiB, and nothing was written; or the stream is longer than 2^40 bytes.
+    /// The text is longer than 4 MiB, and nothing was written; or the stream of `serve` or `drive` is longer than 2^40
+    /// bytes, and the output for its frames up to there was written.
     TooLong,
     /// The event on this line sends a packet for which the link has no room. All output before the packet's line was
     /// written.

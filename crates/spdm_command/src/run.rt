@@ -30,10 +30,11 @@ use std::alloc::Global;
 /// The command `spdm` with these arguments. `run` reads a script, runs its requesters and its responder over its link,
 /// writes their trace, and leaves the final world in `left`. `show` reads messages, one per line, and writes their
 /// names and lengths. `gen SEED COUNT` runs the script generated from a seed below 2^64 and a count of 1 to 20,000
-/// events without its trace, writes a summary line, and leaves the final world. None of these uses `seeds`. `serve`
-/// reads a configuration up to `end`, takes one seed, and answers the frames that follow as the configured responder.
-/// `drive` does the same with the first configured requester, whose commands are frames too. `check` reads a capture,
-/// and writes whether its endpoints could have produced it.
+/// events, writes one line of totals in place of the trace, and leaves the final world in `left`. `serve` reads a
+/// configuration up to the line `end`, takes one seed from `seeds`, and answers the frames behind that line as the
+/// configured responder. `drive` does the same with the first configured requester, whose commands are frames too.
+/// `check` reads a capture, and writes whether its endpoints could have produced it. Only `serve` and `drive` use
+/// `seeds`.
 #[tactic(auto, using(crate::proofs::GeneratedHolds::generated_holds, crate::proofs::TopCall::read_is, script_laws::proofs::RefusedRight::refuses, script_laws::proofs::WorldsRight::completes))]
 pub fn spdm<S: Source, K: Sink, E: Seeds>(
     alloc: Global,

@@ -23,7 +23,8 @@ pub enum TextCommand {
     Run,
     /// Messages are shown, a line for each.
     Show,
-    /// The script of a seed and a count of events is run without its trace, and a line tells what it came to.
+    /// The script generated from `seed` and `count`, a number of events, is run, and one line of totals is written in
+    /// place of its trace.
     Gen { seed: u64, count: u32 },
 }
 

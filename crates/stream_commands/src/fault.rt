@@ -7,7 +7,7 @@ pub enum StreamFault {
     /// This line of the configuration, counted from 1, is the first bad one. Nothing was written.
     #[error("line {line}: {fault}")]
     BadScript { line: u32, fault: LineFault },
-    /// Reading failed, after a part of the output.
+    /// Reading failed, possibly after part of the output.
     #[error("reading failed")]
     ReadFault,
     /// Writing failed, possibly after part of the output.

@@ -1,4 +1,5 @@
--- The lines of a trace as words. This project's own.
+-- The lines of a trace as words, and the words of outcomes and events: `heard_words`, `finished_words` and
+-- `event_words`. Those of phases, stages and causes stand in TraceWords.antt. This project's own.
 use Rattle.std.specs.Prelude.{ℕ, List, [], ◌∷◌, ◌++◌, codes, Some, None}
 use Rattle.std.specs.Fmt.{decimal}
 use Rattle.trace_text.specs.Spelling.{spelled, hex_word, code_word, id_word, requester_word}

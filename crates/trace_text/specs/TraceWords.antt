@@ -1,4 +1,6 @@
--- The words of a trace: phases, stages and faults. This project's own.
+-- The words of a trace for phases and stages, and for causes: of faults, of what is ignored, and of negotiations that
+-- stop. Those of outcomes and events, as `answered` and `lost`, stand in TraceLines.antt; those of a difference in
+-- OtherLines.antt. This project's own.
 use Rattle.std.specs.Prelude.{ℕ, List, codes}
 use Rattle.spdm_grammar.specs.declared.told.command_fault.CommandFault.TheVariants as command
 use Rattle.spdm_grammar.specs.declared.told.command_fault.CommandFault.{CommandFault}

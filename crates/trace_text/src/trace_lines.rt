@@ -1,3 +1,5 @@
+//! The lines of a trace, with the words of outcomes and events. Those of phases, stages and causes are in
+//! `trace_words.rt`.
 ghost use Rattle.std.specs.Prelude.{◌≡◌, ◌≤◌, ◌+◌, ◌*◌, ◌++◌, ◌∷◌, [], length, codes, Some, None};
 ghost use Rattle.std.specs.Bool.{if◌then◌else◌};
 ghost use Rattle.trace_text.specs.Spelling.{with_words};

@@ -1,3 +1,5 @@
+//! The words of a trace for phases and stages, and for causes: of faults, of what is ignored, and of negotiations that
+//! stop. Those of outcomes and events, as `answered` and `lost`, are in `trace_lines.rt`.
 ghost use Rattle.std.specs.Prelude.{◌≡◌, ◌≤◌, length};
 ghost use Rattle.trace_text.specs.TraceWords.{phase_word, stage_word, command_fault_word, reply_fault_word, responder_ignored_word, requester_ignored_word, stop_word};
 

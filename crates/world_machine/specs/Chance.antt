@@ -1,4 +1,5 @@
--- When two tags agree by chance. This project's own notion: the premise of agreement.
+-- When two tags agree by chance. This project's own notion: the premise of agreement. It is of computed tags alone, and
+-- not of draws: which messages use one is `takes_draw` in responder_machine/specs/Turn.antt.
 use Rattle.std.specs.Prelude.{◌≡◌, ℕ, List, [], ◌∷◌, ◌⊎◌}
 use Rattle.key_schedule.specs.Purpose.{Purpose}
 use Rattle.spdm_machine.specs.TagLog.{Log}

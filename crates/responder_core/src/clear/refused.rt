@@ -1,3 +1,5 @@
+//! What is told of a refused request: a code and a length. Which request is refused, and in which order that is tested,
+//! stands in `tested.rt`.
 ghost use Rattle.std.specs.Prelude.{◌≡◌, ℕ};
 
 use spdm_grammar::ErrorCode;

@@ -1,3 +1,6 @@
+//! The refusals of a request in the clear by its contents (`contents_fault`), and then by its answer (`answer_fault`),
+//! in their order; the predicates are those of `contents.rt`. The refusals by form, which come before, are in `form.rt`
+//! of responder_rules, and those in a session in `judging.rt` of responder_session.
 ghost use Rattle.std.specs.Prelude.{◌≡◌, ◌≤◌, false, true, length, ℕ, List, None, Some, IfOk, OnOk};
 ghost use Rattle.responder_machine.specs.Answer.{Free, answer_bytes};
 ghost use Rattle.responder_machine.specs.Place as places;

@@ -1,3 +1,5 @@
+//! Which sessions have a period at all, so that a capture may have lost them without a packet. They are dropped by
+//! `Live::wait` in `in_sessions/live.rt`.
 use crate::{Connection, Live, Sessions};
 
 impl Live {

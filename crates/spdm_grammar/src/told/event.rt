@@ -19,7 +19,7 @@ pub enum Event {
     Stopped(Stop),
     /// The session is gone, since a record of it held this.
     Lost(SessionId, BadReply),
-    /// Nothing changed.
+    /// No negotiation, request or session changed; the count of packets and an unfinished body may have.
     Ignored(ReqIgnored),
 }
 
