@@ -35,7 +35,7 @@ use std::alloc::Global;
 /// configured responder. `drive` does the same with the first configured requester, whose commands are frames too.
 /// `check` reads a capture, and writes whether its endpoints could have produced it. Only `serve` and `drive` use
 /// `seeds`.
-#[tactic(auto, using(crate::proofs::GeneratedHolds::generated_holds, crate::proofs::TopCall::read_is, script_laws::proofs::RefusedRight::refuses, script_laws::proofs::WorldsRight::completes))]
+#[tactic(auto, using(crate::proofs::TopCall::read_is))]
 pub fn spdm<S: Source, K: Sink, E: Seeds>(
     alloc: Global,
     words: &[String],

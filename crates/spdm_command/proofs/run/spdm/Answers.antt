@@ -1,4 +1,6 @@
-use Rattle.script_laws.proofs.WorldsRight.{agrees, delivers, matches, seals_once, shows_alike}
+use Rattle.script_laws.proofs.RefusedRight.{refuses}
+use Rattle.script_laws.proofs.WorldsRight.{agrees, completes, delivers, matches, seals_once, shows_alike}
+use Rattle.spdm_command.proofs.GeneratedHolds.{generated_holds}
 use Rattle.spdm_command.proofs.run.spdm.Goals as goal
 
 pub returns-in_default-clause-agreement : goal.returns-in_default-clause-agreement
@@ -144,3 +146,111 @@ returns-in-Check-clause-matched g c = λ text held. matches text
 
 pub returns-in-Check-clause-sealed_once : goal.returns-in-Check-clause-sealed_once
 returns-in-Check-clause-sealed_once g c = λ text held. seals_once text
+
+pub returns-in_default-clause-refused : goal.returns-in_default-clause-refused
+returns-in_default-clause-refused g c = λ text held. refuses text
+
+pub returns-in_default-clause-completes : goal.returns-in_default-clause-completes
+returns-in_default-clause-completes g c = λ text held. completes text
+
+pub returns-in_default-clause-generated : goal.returns-in_default-clause-generated
+returns-in_default-clause-generated g c = λ seed count asked. generated_holds seed count
+
+pub returns-in-Err-ReadFault-clause-refused : goal.returns-in-Err-ReadFault-clause-refused
+returns-in-Err-ReadFault-clause-refused g c = λ text held. refuses text
+
+pub returns-in-Err-ReadFault-clause-completes : goal.returns-in-Err-ReadFault-clause-completes
+returns-in-Err-ReadFault-clause-completes g c = λ text held. completes text
+
+pub returns-in-Err-ReadFault-clause-generated : goal.returns-in-Err-ReadFault-clause-generated
+returns-in-Err-ReadFault-clause-generated g c = λ seed count asked. generated_holds seed count
+
+pub returns-in-Err-TooLong-clause-refused : goal.returns-in-Err-TooLong-clause-refused
+returns-in-Err-TooLong-clause-refused g c = λ text held. refuses text
+
+pub returns-in-Err-TooLong-clause-completes : goal.returns-in-Err-TooLong-clause-completes
+returns-in-Err-TooLong-clause-completes g c = λ text held. completes text
+
+pub returns-in-Err-TooLong-clause-generated : goal.returns-in-Err-TooLong-clause-generated
+returns-in-Err-TooLong-clause-generated g c = λ seed count asked. generated_holds seed count
+
+pub returns-in-Err-OutOfMemory-clause-refused : goal.returns-in-Err-OutOfMemory-clause-refused
+returns-in-Err-OutOfMemory-clause-refused g c = λ text held. refuses text
+
+pub returns-in-Err-OutOfMemory-clause-completes : goal.returns-in-Err-OutOfMemory-clause-completes
+returns-in-Err-OutOfMemory-clause-completes g c = λ text held. completes text
+
+pub returns-in-Err-OutOfMemory-clause-generated : goal.returns-in-Err-OutOfMemory-clause-generated
+returns-in-Err-OutOfMemory-clause-generated g c = λ seed count asked. generated_holds seed count
+
+pub returns-in-Ok-write_output-clause-refused : goal.returns-in-Ok-write_output-clause-refused
+returns-in-Ok-write_output-clause-refused g c = λ text held. refuses text
+
+pub returns-in-Ok-write_output-clause-completes : goal.returns-in-Ok-write_output-clause-completes
+returns-in-Ok-write_output-clause-completes g c = λ text held. completes text
+
+pub returns-in-Ok-write_output-clause-generated : goal.returns-in-Ok-write_output-clause-generated
+returns-in-Ok-write_output-clause-generated g c = λ seed count asked. generated_holds seed count
+
+pub returns-in-Err-Line-clause-refused : goal.returns-in-Err-Line-clause-refused
+returns-in-Err-Line-clause-refused g c = λ text held. refuses text
+
+pub returns-in-Err-Line-clause-completes : goal.returns-in-Err-Line-clause-completes
+returns-in-Err-Line-clause-completes g c = λ text held. completes text
+
+pub returns-in-Err-Line-clause-generated : goal.returns-in-Err-Line-clause-generated
+returns-in-Err-Line-clause-generated g c = λ seed count asked. generated_holds seed count
+
+pub returns-in-Err-LinkFull-clause-refused : goal.returns-in-Err-LinkFull-clause-refused
+returns-in-Err-LinkFull-clause-refused g c = λ text held. refuses text
+
+pub returns-in-Err-LinkFull-clause-completes : goal.returns-in-Err-LinkFull-clause-completes
+returns-in-Err-LinkFull-clause-completes g c = λ text held. completes text
+
+pub returns-in-Err-LinkFull-clause-generated : goal.returns-in-Err-LinkFull-clause-generated
+returns-in-Err-LinkFull-clause-generated g c = λ seed count asked. generated_holds seed count
+
+pub returns-in-Err-WriteFault-clause-refused : goal.returns-in-Err-WriteFault-clause-refused
+returns-in-Err-WriteFault-clause-refused g c = λ text held. refuses text
+
+pub returns-in-Err-WriteFault-clause-completes : goal.returns-in-Err-WriteFault-clause-completes
+returns-in-Err-WriteFault-clause-completes g c = λ text held. completes text
+
+pub returns-in-Err-WriteFault-clause-generated : goal.returns-in-Err-WriteFault-clause-generated
+returns-in-Err-WriteFault-clause-generated g c = λ seed count asked. generated_holds seed count
+
+pub returns-clause-refused : goal.returns-clause-refused
+returns-clause-refused g c = λ text held. refuses text
+
+pub returns-clause-completes : goal.returns-clause-completes
+returns-clause-completes g c = λ text held. completes text
+
+pub returns-clause-generated : goal.returns-clause-generated
+returns-clause-generated g c = λ seed count asked. generated_holds seed count
+
+pub returns-in-Serve-clause-refused : goal.returns-in-Serve-clause-refused
+returns-in-Serve-clause-refused g c = λ text held. refuses text
+
+pub returns-in-Serve-clause-completes : goal.returns-in-Serve-clause-completes
+returns-in-Serve-clause-completes g c = λ text held. completes text
+
+pub returns-in-Serve-clause-generated : goal.returns-in-Serve-clause-generated
+returns-in-Serve-clause-generated g c = λ seed count asked. generated_holds seed count
+
+pub returns-in-Drive-clause-refused : goal.returns-in-Drive-clause-refused
+returns-in-Drive-clause-refused g c = λ text held. refuses text
+
+pub returns-in-Drive-clause-completes : goal.returns-in-Drive-clause-completes
+returns-in-Drive-clause-completes g c = λ text held. completes text
+
+pub returns-in-Drive-clause-generated : goal.returns-in-Drive-clause-generated
+returns-in-Drive-clause-generated g c = λ seed count asked. generated_holds seed count
+
+pub returns-in-Check-clause-refused : goal.returns-in-Check-clause-refused
+returns-in-Check-clause-refused g c = λ text held. refuses text
+
+pub returns-in-Check-clause-completes : goal.returns-in-Check-clause-completes
+returns-in-Check-clause-completes g c = λ text held. completes text
+
+pub returns-in-Check-clause-generated : goal.returns-in-Check-clause-generated
+returns-in-Check-clause-generated g c = λ seed count asked. generated_holds seed count
