@@ -634,12 +634,12 @@ class Antt:
         name = "Constants." + crate + "." + ".".join(path)
         if name in self.modules:
             return self.modules[name]
-        file = os.path.join(self.crates, crate, "src", path[0] + ".rt")
+        file = os.path.join(self.crates, crate, "src", (path[0] if path else "lib") + ".rt")
         text = open(file if os.path.exists(file) else os.path.join(self.crates, crate, "src", "lib.rt"), encoding="utf-8").read()
         for mod in path[1:] if os.path.exists(file) else path:
             m = re.search(r"^\s*pub mod %s \{(.*?)^\}" % mod, text, re.S | re.M)
             text = m.group(1) if m else ""
-        if len(path) == 1:
+        if len(path) <= 1:
             text = re.sub(r"^pub mod \w+ \{.*?^\}", "", text, flags=re.S | re.M)
         numbers, lines = {}, ["use Rattle.std.specs.Prelude.{ℕ, List, ◌∷◌, []}"]
         for n, v in re.findall(r"^\s*pub const (\w+): (?:\w+|\[[^\]]*\]) = ([^;]+);", text, re.M):
