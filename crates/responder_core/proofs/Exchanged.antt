@@ -188,9 +188,9 @@ started r p turns exchange f asked terms parts session psk answer here is are te
     let own_long : length own ≡ hash_size terms.choice.hash =
     length_verify (terms_of n).choice r.psk (t1_with n exchange parts) direction.Response (t1_with n exchange parts) ∙ ap (λ (x : Choice). hash_size x.hash) (sym terms_is.choice) in
     let made : AreAnswered terms parts = λ verify size.
-        let alike = alike_long parts verify own (size ∙ sym own_long) in
-        let total = ap (λ (x : List ℕ). length x) whole in
-        omega (arith, alike, total, fits) in
+    let alike = alike_long parts verify own (size ∙ sym own_long) in
+    let total = ap (λ (x : List ℕ). length x) whole in
+    omega (arith, alike, total, fits) in
     record {
       answer_is = answered made ∙ ap (λ (k : List ℕ). answer_for k n exchange parts) (sym key) ∙ whole;
       session_is = subst (λ (k : List ℕ). sessions.StandsFor session k (begun_by n exchange answer)) (sym key) (stands made);
