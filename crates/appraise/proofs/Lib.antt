@@ -7,3 +7,4 @@ pub mod NoBlock
 pub mod ReadOn
 pub mod Existence
 pub mod Rows
+pub mod ReadRules

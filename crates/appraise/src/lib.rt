@@ -14,7 +14,7 @@ mod seen;
 
 pub use appraisal::Appraisal;
 pub use appraising::appraise;
-pub use laws::one_answer_holds;
+pub use laws::{one_answer_holds, read_rules_are_sound};
 pub use policy::Policy;
 pub use policy_fault::PolicyFault;
 pub use script_text::Rule;
