@@ -5,14 +5,11 @@ use Rattle.mctp_framing.specs.Gathering.{Gathered, Receiver, gathered, group_of,
 use Rattle.mctp_framing.specs.Gathering.Gathered.{Whole, More, Dropped}
 use Rattle.mctp_framing.specs.Lending.{TakesPacket}
 use Rattle.mctp_framing.specs.Packet.{PacketFields, parsed}
-use Rattle.spdm_grammar.specs.declared.told.why.Why as declared
 use Rattle.spdm_basis.proofs.Bools.{and_first}
 use Rattle.spdm_basis.specs.declared.PacketFault.{PacketFault}
 use Rattle.spdm_machine.specs.Packets.{fields_in, fields_with, gathered_from}
-use Rattle.check_laws.specs.Judged.{IsPair, IsTold, answered_of, asked_of, receiver_of, waiting_in}
-use Rattle.check_laws.specs.Order.{answered_why, asked_why, is_answer, is_request, round_after, round_answered, round_asked, round_by_answer, round_by_request, round_of}
-use Rattle.check_laws.specs.declared.brought.Brought.{Brought}
-use Rattle.check_laws.specs.declared.pair.Pair.{Pair}
+use Rattle.check_laws.specs.Judged.{IsPair, Pair, receiver_of, waiting_in}
+use Rattle.check_laws.specs.Order.{is_answer, is_request, round_after, round_answered, round_asked, round_by_answer, round_by_request, round_of}
 use Rattle.check_laws.proofs.Ordering.{answered_is, asked_is, stays}
 use Rattle.capture_machine.specs.Difference.{is_copy}
 use Rattle.capture_machine.specs.Rounds.{Round}
@@ -103,24 +100,6 @@ asked_gathers x own eid older p g s is = is ∙ ap (λ (r : Receiver). gathered 
 pub answered_gathers : (x : Pair) (own eid : ℕ) (older : List (List ℕ)) (p : PacketFields) (g : Gathered) → IsPair x own eid older → g ≡ gathered x.answers.receiver (fields_in older) p → g ≡ gathered_from eid own older p
 unfolding gathered_from
 answered_gathers x own eid older p g s is = is ∙ ap (λ (r : Receiver). gathered r (fields_in older) p) s.answers_of
-
-pub asked_told : (x : Pair) (own eid : ℕ) (older : List (List ℕ)) (p : PacketFields) (g : Gathered) (result : Result Brought declared.Why) → IsPair x own eid older → g ≡ gathered x.requests.receiver (fields_in older) p
-    → IsTold (asked_why x.round g) (asked_of x.eid.number x.round g) result
-    → IsTold (asked_why (round_of own eid older) (gathered_from own eid older p)) (asked_of eid (round_of own eid older) (gathered_from own eid older p)) result
-asked_told x own eid older p g result s is told =
-    let R : Option Round → Type 0 = λ o. IsTold (asked_why o g) (asked_of x.eid.number o g) result in
-    let G : Gathered → Type 0 = λ y. IsTold (asked_why (round_of own eid older) y) (asked_of x.eid.number (round_of own eid older) y) result in
-    let E : ℕ → Type 0 = λ n. IsTold (asked_why (round_of own eid older) (gathered_from own eid older p)) (asked_of n (round_of own eid older) (gathered_from own eid older p)) result in
-    subst E s.at (subst G (asked_gathers x own eid older p g s is) (subst R s.round told))
-
-pub answered_told : (x : Pair) (own eid : ℕ) (older : List (List ℕ)) (p : PacketFields) (g : Gathered) (result : Result Brought declared.Why) → IsPair x own eid older → g ≡ gathered x.answers.receiver (fields_in older) p
-    → IsTold (answered_why x.round g) (answered_of x.eid.number g) result
-    → IsTold (answered_why (round_of own eid older) (gathered_from eid own older p)) (answered_of eid (gathered_from eid own older p)) result
-answered_told x own eid older p g result s is told =
-    let R : Option Round → Type 0 = λ o. IsTold (answered_why o g) (answered_of x.eid.number g) result in
-    let G : Gathered → Type 0 = λ y. IsTold (answered_why (round_of own eid older) y) (answered_of x.eid.number y) result in
-    let E : ℕ → Type 0 = λ n. IsTold (answered_why (round_of own eid older) (gathered_from eid own older p)) (answered_of n (gathered_from eid own older p)) result in
-    subst E s.at (subst G (answered_gathers x own eid older p g s is) (subst R s.round told))
 
 pub asked_kept : (x new : Pair) (own eid : ℕ) (older : List (List ℕ)) (packet : List ℕ) (p : PacketFields) (g : Gathered) → IsPair x own eid older → parsed packet ≡ Ok p → is_request own eid p ≡ true → eid ≢ own
     → TakesPacket p x.requests new.requests → new.eid.number ≡ x.eid.number → new.answers ≡ x.answers → g ≡ gathered x.requests.receiver (fields_in older) p → new.round ≡ round_by_request x.round g

@@ -2,7 +2,6 @@ pub mod Rounded
 pub mod Ordering
 pub mod Reasons
 pub mod Kept
-pub mod Found
 pub mod Telling
 pub mod Exclusive
 pub mod LongAnswers

@@ -7,12 +7,9 @@
 #![tactic(auto)]
 
 mod bodies;
-mod brought;
 mod change;
 mod change_laws;
 mod laws;
-mod order;
-mod pair;
 mod places;
 mod round;
 mod row_laws;
@@ -21,15 +18,12 @@ mod sending_large;
 mod verdict;
 
 pub use bodies::{byte_at, bytes_from, is_clear, is_get_version, is_secured, rest_of};
-pub use brought::Brought;
 pub use change::Change;
 pub use change_laws::{
     ack_accepts_none, answer_accepts, answer_asks_none, copy_is_request, large_answer_changes,
     last_chunk_changes, round_is_request, whole_answer_changes,
 };
 pub use laws::{conforms_is_each, kept_is_restored, one_verdict, sealed_tells};
-pub use order::Order;
-pub use pair::Pair;
 pub use places::Places;
 pub use round::Round;
 pub use row_laws::{one_changes_rows, other_places_stay, rows_are_of_all, walks_step};

@@ -14,12 +14,11 @@ use Rattle.spdm_basis.specs.declared.OutOfMemory.{OutOfMemory}
 use Rattle.spdm_basis.specs.declared.PacketFault.{PacketFault}
 use Rattle.spdm_machine.specs.Packets.{fields_in, gathered_from}
 use Rattle.check_ends.specs.Conversation.{IsAnswer, WalksShow}
-use Rattle.check_laws.proofs.Found.{IsOfOne}
 use Rattle.check_laws.proofs.Kept.{answered_gathers, answered_kept}
 use Rattle.check_laws.proofs.KeptAnswers.{goes_to}
 use Rattle.check_laws.proofs.PairWalks.{IsFor, of_it, walks_setup}
 use Rattle.check_laws.proofs.RowsKept.{more_packets}
-use Rattle.check_laws.proofs.Telling.{answer_of_one, going_told}
+use Rattle.check_laws.proofs.Telling.{IsOfOne, answer_of_one, going_told}
 use Rattle.check_laws.specs.Judged.{IsPair, why_of}
 use Rattle.check_laws.specs.Order.{answered_why, is_answer, is_known, is_request, order_why, ordered_why, round_answered, round_by_answer, round_of}
 use Rattle.check_laws.specs.Rows.{StandsForRows}
@@ -80,7 +79,7 @@ module _ (w : Configuration) (q : ReqSetup) (older : List (List ℕ)) (rows : Li
   answer_wrong why wrong =
       let known : is_known p.to w.requesters ≡ true = ap (λ (n : ℕ). is_known n w.requesters) ends.end ∙ known_is w.requesters q.eid q before.known in
       let its : answered_why (round_of own p.to older) (gathered_from p.to own older p) ≡ Some (why_of why) = subst (λ (n : ℕ). answered_why (round_of own n older) (gathered_from n own older p) ≡ Some (why_of why)) (sym ends.end) wrong in
-      let told : ordered_why own w.requesters older (Ok p) ≡ Some (why_of why) = going_told own w.requesters older p (Err why) ends.to_is (ends.from_is refl) known its in
+      let told : ordered_why own w.requesters older (Ok p) ≡ Some (why_of why) = going_told own w.requesters older p ends.to_is (ends.from_is refl) known ∙ its in
       order_refused w older rows packet (why_of why) before.shows.0 before.shows.1 (ap (ordered_why own w.requesters older) before.parses ∙ told)
 
   -- The packet was given to the assembler of answers.

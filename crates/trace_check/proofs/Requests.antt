@@ -17,7 +17,6 @@ use Rattle.check_ends.specs.Conversation as conversations
 use Rattle.check_ends.specs.Conversation.{IsRequest, WalksShow, meanwhile}
 use Rattle.check_ends.specs.declared.conversation.Conversation.{Conversation}
 use Rattle.check_ends.specs.declared.party.Party.{Party}
-use Rattle.check_laws.proofs.Found.{IsOfOne}
 use Rattle.check_laws.proofs.IdleRows.{idle_rows_stay}
 use Rattle.check_laws.proofs.Kept.{asked_gathers, asked_kept, stays_pair}
 use Rattle.check_laws.proofs.KeptAnswers.{kept_is_restored}
@@ -25,7 +24,7 @@ use Rattle.check_laws.proofs.KeptSteps.{comes_from}
 use Rattle.check_laws.proofs.OrderedRows.{other_places_stay}
 use Rattle.check_laws.proofs.PairWalks.{IsFor, of_it, walks_setup}
 use Rattle.check_laws.proofs.RowsKept.{more_packets}
-use Rattle.check_laws.proofs.Telling.{coming_told, request_of_one}
+use Rattle.check_laws.proofs.Telling.{IsOfOne, coming_told, request_of_one}
 use Rattle.check_laws.specs.Judged.{IsPair, why_of}
 use Rattle.check_laws.specs.Keeping.{restored}
 use Rattle.check_laws.specs.Order.{asked_why, is_known, is_request, order_why, ordered_why, round_by_request, round_of}
@@ -151,7 +150,7 @@ module _ (w : Configuration) (q : ReqSetup) (older : List (List ℕ)) (rows : Li
   request_wrong why wrong =
       let known : is_known p.from w.requesters ≡ true = ap (λ (n : ℕ). is_known n w.requesters) ends.end ∙ known_is w.requesters q.eid q before.known in
       let its : asked_why (round_of own p.from older) (gathered_from own p.from older p) ≡ Some (why_of why) = subst (λ (n : ℕ). asked_why (round_of own n older) (gathered_from own n older p) ≡ Some (why_of why)) (sym ends.end) wrong in
-      let told : ordered_why own w.requesters older (Ok p) ≡ Some (why_of why) = coming_told own w.requesters older p (Err why) ends.to_is known its in
+      let told : ordered_why own w.requesters older (Ok p) ≡ Some (why_of why) = coming_told own w.requesters older p ends.to_is known ∙ its in
       order_refused w older rows packet (why_of why) before.shows.0 before.shows.1 (ap (ordered_why own w.requesters older) before.parses ∙ told)
 
   apart : q.eid ≢ own

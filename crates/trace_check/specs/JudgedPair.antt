@@ -4,11 +4,10 @@ use Rattle.std.specs.Prelude.{◌≡◌, ◌≢◌, ◌<◌, ◌+◌, ◌-◌, �
 use Rattle.mctp_framing.specs.Packet.{PacketFields, parsed}
 use Rattle.requester_machine.specs.Setup.{ReqSetup}
 use Rattle.spdm_grammar.specs.declared.told.why.Why as declared
-use Rattle.check_laws.specs.Judged.{IsPair, why_of}
+use Rattle.check_laws.specs.Judged.{IsPair, Pair, why_of}
 use Rattle.check_laws.specs.KeptRows.{Show}
 use Rattle.check_laws.specs.ReasonsEach.{IsOneOf}
 use Rattle.check_laws.specs.Rows.{StandsForRows}
-use Rattle.check_laws.specs.declared.pair.Pair.{Pair}
 use Rattle.check_laws.specs.declared.verdict.Seen.{Seen}
 use Rattle.check_fetched_ends.specs.MarkedEnds as marked_ends
 use Rattle.trace_check.specs.Limits.{AreSound}
