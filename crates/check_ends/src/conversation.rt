@@ -5,7 +5,7 @@ use check_laws::LargeRequest;
 
 /// A requester of a capture and the responder towards it, at any place but while a large response is fetched: what is
 /// kept of both, and the large request that is in progress, if one is. It judges requests and answers whose order is
-/// right, and tells the table of sessions of those that go on. Allocates only when constructed.
+/// right, and tells the table of sessions of those that go on. Allocates only when constructed (read, not proved).
 #[derive(Drop)]
 pub struct Conversation {
     /// The two ends.

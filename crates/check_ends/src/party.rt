@@ -14,7 +14,7 @@ use spdm_grammar::Why;
 /// A requester of a capture and the responder towards it, while no large message is in progress: what the two ends
 /// hold, and the keys of answers that were given; its number, and where its entries stand in the table of sessions. It
 /// judges requests and answers whose order is right, and tells the table of those that go on. Allocates only when
-/// constructed.
+/// constructed (read, not proved).
 #[derive(Drop)]
 pub struct Party {
     /// The requester.

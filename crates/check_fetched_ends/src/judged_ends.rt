@@ -3,7 +3,7 @@ use check_ends::{Conversation, Party};
 
 /// A requester of a capture and the responder towards it, at any place: what is kept of both, and the large response
 /// that is fetched, if one is. It judges requests and answers whose order is right, and tells the table of sessions of
-/// those that go on. Allocates only when constructed.
+/// those that go on. Allocates only when constructed (read, not proved).
 #[derive(Drop)]
 pub struct JudgedEnds {
     /// What is kept of both.

@@ -8,7 +8,7 @@ use spdm_basis::{OutOfMemory, Psk, RecordFrame};
 use std::alloc::Global;
 
 /// A requester of a capture, while no large message is in progress: what it was told and took, and whether it owes a
-/// message. It judges bodies by the requester's own code. Allocates only when constructed.
+/// message. It judges bodies by the requester's own code. Allocates only when constructed (read, not proved).
 #[derive(Drop)]
 pub struct Asker {
     pub(crate) setup: AskerSetup,

@@ -7,7 +7,7 @@ use mctp_framing::PacketList;
 use spdm_basis::{OutFault, Sink};
 
 /// Writes packets of at most 65,535 bytes each as frames, in order. After `WriteFault` (only if the sink's `faults`
-/// count rose) a prefix of the frames was written. Never allocates.
+/// count rose) a prefix of the frames was written. Never allocates (read, not proved).
 pub fn write_packet_frames<K: Sink>(sink: &mut K, packets: &PacketList) -> Result<(), OutFault>
     requires { AreShort packets.now }
     ensures whole { OnOk result (Takes (K.contents sink.old) (packet_frames packets.now)

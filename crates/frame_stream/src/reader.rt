@@ -12,7 +12,7 @@ use std::alloc::Global;
 const STREAM_LIMIT: u64 = 1_099_511_627_776;
 
 /// A reader of the frames of a stream. Allocates only when constructed: for one frame, and for bytes that are read
-/// ahead.
+/// ahead (read, not proved).
 #[derive(Drop)]
 pub struct FrameReader {
     pub(crate) kinds: Kinds,
@@ -78,7 +78,8 @@ impl FrameReader {
     /// the stream ends between two frames. Returns `BadFrame` exactly when the next frame has a kind that is not among
     /// those of the reader or is cut by the end of input, in the bytes that are read at most; and `TooLong` exactly
     /// when it is neither bad nor whole in these bytes, and the stream has one more. `ReadFault` is returned only if
-    /// the source's `faults` count rose. After a fault no clause says what the reader stands for. Never allocates.
+    /// the source's `faults` count rose. After a fault no clause says what the reader stands for. Never allocates
+    /// (read, not proved).
     pub fn next<S: Source>(&mut self, source: &mut S) -> Result<Option<FrameKind>, FrameFault>
         ensures next { IfOk result (λ kind. IsNext self.old (S.remaining source.old) kind self.new
             (S.remaining source.new)) }

@@ -49,7 +49,7 @@ impl Model for SentPackets {
 }
 
 impl SentPackets {
-    /// No packets. Never allocates.
+    /// No packets. Never allocates (read, not proved).
     pub fn new(alloc: Global) -> SentPackets
         ensures { result ≡ [] }
     {

@@ -115,7 +115,7 @@ impl Ends {
     ghost use Rattle.spdm_basis.specs.Stream.{HasFault, Takes, TakesPrefix};
     ghost use Rattle.world_machine.specs.World.{World, shown_lines};
 
-    /// Writes the lines that show the endpoints. Never allocates.
+    /// Writes the lines that show the endpoints. Never allocates (read, not proved).
     pub(crate) fn show<K: Sink>(&self, sink: &mut K) -> Result<(), OutFault>
         ensures whole { (w : World) → AreEnds self.now w → OnOk result
             (Takes (K.contents sink.old) (text_of (shown_lines w)) (K.contents sink.new)) }

@@ -73,7 +73,8 @@ impl World {
         })
     }
 
-    /// Writes the lines with which a trace begins: phase and sessions of each endpoint. Never allocates.
+    /// Writes the lines with which a trace begins: phase and sessions of each endpoint. Never allocates (read, not
+    /// proved).
     pub fn start<K: Sink>(&self, sink: &mut K) -> Result<(), OutFault>
         ensures written { (w : machine.World) → StandsFor self.now w
             → OnOk result (Takes (K.contents sink.old) (text_of (machine.shown_lines w))
@@ -175,7 +176,7 @@ impl World {
         &self.link.ends.responder
     }
 
-    /// The counters of the world. Never allocates.
+    /// The counters of the world. Never allocates (read, not proved).
     pub fn totals(&self) -> Totals
         ensures packets { (w : machine.World) → StandsFor self.now w
             → result.packets ≡ (totals_of w).packets }

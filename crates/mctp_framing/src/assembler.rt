@@ -70,7 +70,7 @@ impl Assembler {
         })
     }
 
-    /// Takes a packet as parsed by `Packet::parse`. Never allocates.
+    /// Takes a packet as parsed by `Packet::parse`. Never allocates (read, not proved).
     ///
     /// Checked in this order. `NotOurs`: the destination is not the own endpoint, or the source is not the peer;
     /// nothing changes. A packet with SOM drops what was unfinished; then `WrongSize` where its payload is empty,

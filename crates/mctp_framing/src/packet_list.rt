@@ -87,7 +87,7 @@ impl PacketList {
         self.spans.clear();
     }
 
-    /// Appends a packet. Never allocates.
+    /// Appends a packet. Never allocates (read, not proved).
     pub fn push(&mut self, packet: &[u8])
         requires packets { length self.old < 72 }
         requires bytes { total_len self.old + length packet.now ≤ 8192 }
@@ -99,8 +99,8 @@ impl PacketList {
 }
 
 impl PacketList {
-    /// Replaces the packets by those of a message body, as `cut` gives them. Never allocates. The body has at most
-    /// 4,161 bytes, a secured record with its message type.
+    /// Replaces the packets by those of a message body, as `cut` gives them. Never allocates (read, not proved). The
+    /// body has at most 4,161 bytes, a secured record with its message type.
     pub fn fill(&mut self, body: &[u8], unit: usize, route: Route)
         requires filled { 0 < length body.now }
         requires fits { length body.now ≤ 4161 }

@@ -42,7 +42,8 @@ fn hear(
 impl Requester {
     /// Handles a received packet. The packets of the next request, if one is sent, overwrite `out`; if none is, `out`
     /// is empty. `ReqIgnored` lists the checks of a packet and its body in order; after `Ignored` the same request is
-    /// outstanding, and nothing has changed but the count of packets and an unfinished body. Never allocates.
+    /// outstanding, and nothing has changed but the count of packets and an unfinished body. Never allocates (read, not
+    /// proved).
     pub fn on_packet(&mut self, packet: &[u8], out: &mut PacketList) -> Event
         ensures { (a : Requesting) → StandsFor self.old a
             → IsGiven (requester_given a packet.now) result out.new self.new }

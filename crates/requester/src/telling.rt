@@ -75,7 +75,7 @@ fn take_draw(draws: &mut DrawStream, is_taken: bool)
 impl Requester {
     /// Runs a command. The packets sent overwrite `out`. After a fault there are none, and nothing has changed but the
     /// count of packets and commands; after `Worn` not even that. `CommandFault` lists the faults in the order of the
-    /// checks. Never allocates.
+    /// checks. Never allocates (read, not proved).
     pub fn command(
         &mut self,
         command: Command<'_>,

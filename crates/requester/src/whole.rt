@@ -11,7 +11,7 @@ use std::alloc::Global;
 pub(crate) const WEAR_LIMIT: u64 = 1_099_511_627_776;
 
 /// A requester of one responder (DSP0274, section 10): commands and packets in, packets out. Allocates only when
-/// constructed.
+/// constructed (read, not proved).
 #[derive(Drop)]
 pub struct Requester {
     pub(crate) part: Part,

@@ -26,7 +26,7 @@ use std::alloc::Global;
 /// stream goes on beyond 2^40 bytes without one; what all frames in front led to is written then. `ReadFault` and
 /// `WriteFault` are returned only if the `faults` count of the source or the sink rose; after the second a prefix was
 /// written. `Requester` has the first fault of the configuration, of which one that was read from a text has none.
-/// Allocates only before the first byte is read.
+/// Allocates only before the first byte is read (read, not proved).
 pub fn drive<S: Source, K: Sink>(
     alloc: Global,
     config: &ScriptConfig,

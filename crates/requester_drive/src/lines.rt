@@ -97,7 +97,7 @@ fn write_event<K: Sink>(sink: &mut K, event: Event, last: &[u8]) -> Result<(), O
 
 /// Writes what a packet led to: the line of the event, that of the data or the record that came with it, which are the
 /// last that came, and the packets that were sent. After `WriteFault` (only if the sink's `faults` count rose) a prefix
-/// of it was written. Never allocates.
+/// of it was written. Never allocates (read, not proved).
 pub(crate) fn write_given<K: Sink>(
     sink: &mut K,
     event: Event,

@@ -11,7 +11,7 @@ impl Responder {
 
     /// Queues application data for the requester with this endpoint ID: each message of application data that it sends
     /// is answered with the first in its queue. `ReplyFault` lists the faults in the order of the checks; on a fault
-    /// nothing changes. Never allocates.
+    /// nothing changes. Never allocates (read, not proved).
     pub fn queue(&mut self, eid: Eid, bytes: &[u8]) -> Result<(), ReplyFault>
         ensures fault { (r : Responding) → StandsFor self.old r → MatchResult result
             (λ _. reply_fault_of (connection_of eid.number r.connections) bytes.now ≡ None)
@@ -31,7 +31,7 @@ impl Responder {
 
     /// Advances the clock of all connections: removes each established session with a HeartbeatPeriod above 0 in which
     /// no new record has opened for twice that period (DSP0274, "HEARTBEAT"). Sessions with period 0 are never timed
-    /// out. Never allocates.
+    /// out. Never allocates (read, not proved).
     pub fn tick(&mut self, seconds: u32)
         ensures { (r : Responding) → StandsFor self.old r → StandsFor self.new (ticks r seconds) }
     {

@@ -18,7 +18,7 @@ use std::alloc::Global;
 // The lifetime limit of a responder, in packets.
 const WEAR_LIMIT: u64 = 1_099_511_627_776;
 
-/// A responder with a connection for each known requester. Allocates only when constructed.
+/// A responder with a connection for each known requester. Allocates only when constructed (read, not proved).
 #[derive(Drop)]
 pub struct Responder {
     pub(crate) part: Part,
@@ -101,11 +101,11 @@ impl Responder {
         })
     }
 
-    /// Handles a received packet. The response packets overwrite `out`. Never allocates. A refused request changes
-    /// nothing in the sessions but the record numbers, the stored response and the clock of the session that its record
-    /// names. After `Unopened`, `Same`, `More` and `Ignored` no connection has changed. Whatever is reported, the
-    /// connections with other endpoints than the source of the packet stay as they were, and so do their unfinished
-    /// messages.
+    /// Handles a received packet. The response packets overwrite `out`. Never allocates (read, not proved). A refused
+    /// request changes nothing in the sessions but the record numbers, the stored response and the clock of the session
+    /// that its record names. After `Unopened`, `Same`, `More` and `Ignored` no connection has changed. Whatever is
+    /// reported, the connections with other endpoints than the source of the packet stay as they were, and so do their
+    /// unfinished messages.
     pub fn on_packet(&mut self, packet: &[u8], out: &mut PacketList) -> Heard
         ensures step { (r : Responding) → StandsFor self.old r
             → IsStep (responder_hears r packet.now) result out.new self.new }

@@ -16,15 +16,15 @@ use spdm_basis::{Sink, Source};
 use std::alloc::Global;
 
 /// Serves a stream of frames of which the bytes `before` were read already: reads the frames in order, gives packets
-/// (kind 1) to the responder of this configuration with this seed and lets seconds pass (kind 2), and writes the packets
-/// of each answer as frames of kind 1 before it reads on.
+/// (kind 1) to the responder of this configuration with this seed and lets seconds pass (kind 2), and writes the
+/// packets of each answer as frames of kind 1 before it reads on.
 ///
 /// After `Ok` the stream was read to its end and all was written. Returns `BadFrame` exactly when a frame has another
 /// kind or is cut by the end of input, and `TooLong` exactly when the stream goes on beyond 2^40 bytes without one; the
 /// answers to all frames in front are written then. `ReadFault` and `WriteFault` are returned only if the `faults`
 /// count of the source or the sink rose; after the second a prefix of the answers was written. `Responder` has the
 /// first fault of the configuration, of which one that was read from a text has none. Allocates only before the first
-/// byte is read.
+/// byte is read (read, not proved).
 pub fn serve<S: Source, K: Sink>(
     alloc: Global,
     config: &ScriptConfig,

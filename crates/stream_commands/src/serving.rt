@@ -28,7 +28,7 @@ fn fault_of(fault: ServeFault) -> StreamFault
 
 /// Reads a configuration up to `end`, takes one seed, and serves the stream of frames after: the responder that is
 /// configured, with the seed, answers packets in order, and lets seconds pass. The answers to a frame are written
-/// before the next read. Allocates only before the first frame.
+/// before the next read. Allocates only before the first frame (read, not proved).
 pub fn serve_input<S: Source, K: Sink, E: Seeds>(
     alloc: Global,
     source: &mut S,

@@ -19,7 +19,7 @@ use std::alloc::Global;
 
 /// A requester of a capture and the responder: the bodies that are gathered in both directions, the round in progress,
 /// what the two ends hold, and what the responder knows of the requester. It judges the packets between them. Allocates
-/// only when constructed.
+/// only when constructed (read, not proved).
 #[derive(Drop)]
 pub struct JudgedPair {
     pub(crate) eid: Eid,

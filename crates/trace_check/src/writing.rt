@@ -70,7 +70,8 @@ fn write_difference<K: Sink>(packet: u32, why: Why, sink: &mut K) -> Result<(), 
 }
 
 /// Writes the lines of a verdict: `conforms` and an entry for each session, or `differs` with the number of the packet
-/// and the reason. Never allocates. An `Err` comes only where the sink failed, after a part of the lines.
+/// and the reason. Never allocates (read, not proved). An `Err` comes only where the sink failed, after a part of the
+/// lines.
 pub fn write_verdict<K: Sink>(verdict: &Verdict, sink: &mut K) -> Result<(), OutFault>
     ensures whole { OnOk result (Takes (K.contents sink.old) (verdict_text verdict.now)
         (K.contents sink.new)) }

@@ -24,7 +24,7 @@ impl Model for Bytes {
 }
 
 impl Bytes {
-    /// No bytes. Never allocates.
+    /// No bytes. Never allocates (read, not proved).
     pub fn new(alloc: Global) -> Self
         ensures { result ≡ [] }
     {
