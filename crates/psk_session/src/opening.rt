@@ -14,7 +14,8 @@ ghost use Rattle.spdm_grammar.specs.declared.names.TheConstants.{MAX_PADDING};
 
 use crate::answers::{read_exchange_rsp, told_id};
 use crate::{Finishing, OpenFault, SessionTerms};
-use session_keys::{Handshake, same_bytes, without_verify};
+use byte_compare::same_bytes;
+use session_keys::{Handshake, without_verify};
 use spdm_basis::{HashBytes, Psk};
 use std::marker::Model;
 use transcript::{Lane, Vca};

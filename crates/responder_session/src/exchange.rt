@@ -9,7 +9,8 @@ ghost use Rattle.transcript.specs.Transcripts.{Negotiation, vca_of};
 ghost use Rattle.responder_session.specs.Exchange.{AreAnswered, AreParts, answer_with, t1_with};
 
 use crate::ExchangeParts;
-use session_keys::{Handshake, SessionTerms, same_bytes, without_verify};
+use byte_compare::same_bytes;
+use session_keys::{Handshake, SessionTerms, without_verify};
 use spdm_basis::{Frame, HashAlg, HashBytes, Psk};
 use spdm_codec::write_response;
 use spdm_grammar::{ExchangeRsp, Response};
