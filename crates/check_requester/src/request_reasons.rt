@@ -1,3 +1,5 @@
+//! Why no request goes on with what came. Here it is decided that the verify data of PSK_FINISH alone are wrong
+//! (`bad-verify`): `is_finish_apart`.
 ghost use Rattle.std.specs.Prelude.{◌≡◌, ◌≤◌, ◌<◌, ◌-◌, ◌^◌, ◌&&◌, ℕ, Some, drop, length, nat_lt, true};
 ghost use Rattle.requester_core.specs.Joined.{StandsFor};
 ghost use Rattle.requester_core.specs.Owed.{TookFor};

@@ -1,3 +1,5 @@
+//! What an answer brings, by what it shows. Here it is decided that its verify data alone are wrong (`bad-verify`):
+//! `judged_by`, with `is_apart` of `apart.rt`.
 ghost use Rattle.std.specs.Prelude.{◌≡◌};
 ghost use Rattle.check_responder.specs.Answerer.{shows_large};
 ghost use Rattle.check_responder.specs.ClearAnswers.{given_by, is_same, is_whole_given, judged_by, tells_get};

@@ -1,5 +1,6 @@
-//! What all connections of a responder share. Here a draw is used up; which messages use one is `takes_draw` in
-//! `responder_machine/specs/Turn.antt`.
+//! What all connections of a responder share. Here a draw is used up. Which messages use one is `takes_draw` in
+//! `responder_machine/specs/Turn.antt`; in code `begin` and `tells_measured` in `responder_core/src/connected.rt`, and
+//! `drawn` in `responder_core/src/clear/requests.rt`.
 ghost use Rattle.std.specs.Prelude.{◌≡◌, ◌<◌, ◌+◌, ◌-◌, ◌^◌};
 ghost use Rattle.responder_core.specs.Connected.{StandsFor};
 ghost use Rattle.responder.specs.Came.{IsShort, last_for};

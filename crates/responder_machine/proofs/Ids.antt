@@ -1,4 +1,4 @@
--- The ids from 1 to 4 and who holds them.
+-- The ids from 1 to 4, who holds them, and that at most four sessions are held (`four_held`).
 use Rattle.std.proofs.Common.{refl, ◌≡◌, ◌≢◌, ◌≤◌, ℕ, ◌+◌, true, false, Bool, arith, true≢false}
 use Rattle.std.proofs.lemmas.Bool.Decides.{nat_tests}
 use Rattle.std.specs.Prelude.{if◌then◌else◌, ◌==◌, not}

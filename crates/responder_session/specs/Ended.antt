@@ -1,4 +1,6 @@
--- A session at the responder that END_SESSION ended.
+-- A session at the responder that END_SESSION ended, as a typed state. `spdm` does not keep this state: what it keeps
+-- of an ended session is `ended_of` in `responder_machine/specs/History.antt`, and `on_record` in its `Responder.antt`
+-- gives the same answer again.
 use Rattle.std.specs.Prelude.{ℕ, List}
 use Rattle.responder_session.specs.Session as sessions
 use Rattle.responder_session.specs.declared.ended.RspEnded.{RspEnded}

@@ -1,3 +1,5 @@
+//! The stream of draws of a seed. Which messages take one is computed in the rows `draws` and `no_draws` of
+//! `responder_machine/proofs/PinnedCounts.antt`.
 use crate::words::{Words, array_of, hex_of};
 use hmac_hkdf::{DrawStream, Spent};
 use std::alloc::Global;

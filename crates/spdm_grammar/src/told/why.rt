@@ -18,7 +18,8 @@ pub enum Why {
     /// The responder may not answer so.
     #[error("a bad reply")]
     BadReply,
-    /// The verify data alone differ.
+    /// The verify data alone differ: decided by `judged_by` of `check_responder` for an answer, and by
+    /// `is_finish_apart` of `check_requester` for PSK_FINISH.
     #[error("bad verify data")]
     BadVerify,
     /// The record does not open.
