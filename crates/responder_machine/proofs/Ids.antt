@@ -1,4 +1,5 @@
--- The ids from 1 to 4, who holds them, and that at most four sessions are held (`four_held`).
+-- The ids from 1 to 4, who holds them, and that their count is at most four (`four_held`). That any different ids that
+-- are held in a made history are at most four is `held_few` in `Held.antt`.
 use Rattle.std.proofs.Common.{refl, ◌≡◌, ◌≢◌, ◌≤◌, ℕ, ◌+◌, true, false, Bool, arith, true≢false}
 use Rattle.std.proofs.lemmas.Bool.Decides.{nat_tests}
 use Rattle.std.specs.Prelude.{if◌then◌else◌, ◌==◌, not}

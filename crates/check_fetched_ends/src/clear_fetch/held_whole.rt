@@ -1,3 +1,5 @@
+//! What a large answer in the clear comes to at its last chunk. Here it is decided that its verify data alone are wrong
+//! (`bad-verify`): `led_by`.
 ghost use Rattle.std.specs.Prelude.{◌≡◌, ◌-◌, ◌<◌, ◌^◌, ◌∷◌, Some, length, take};
 ghost use Rattle.check_responder.specs.declared.answer_keys.AnswerKeys.{AnswerKeys};
 ghost use Rattle.check_laws.specs.DropsShown.{dropped_for};
