@@ -11,3 +11,4 @@ pub mod RefusedRight
 pub mod Traces
 pub mod Going
 pub mod FewEvents
+pub mod AtPackets

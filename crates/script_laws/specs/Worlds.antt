@@ -1,18 +1,23 @@
 -- What holds of the worlds of every script, where no tags agree by chance. This project's own.
-use Rattle.std.specs.Prelude.{◌≡◌, ℕ, List, ◌++◌, Ok}
+use Rattle.std.specs.Prelude.{◌≡◌, ◌==◌, ℕ, List, ◌∷◌, ◌++◌, slice_index, false, Contains, Ok}
 use Rattle.script_text.specs.ScriptText.{script_in}
 use Rattle.script_text.specs.Sound.{IsSoundConfig}
 use Rattle.script_text.specs.declared.events.event.Entry.{Entry}
 use Rattle.script_text.specs.declared.texts.script.Script.{Script}
+use Rattle.link_world.specs.Events.{happening_of}
+use Rattle.requester_machine.specs.Requesting.{Requesting}
+use Rattle.responder_machine.specs.Responding.{Connection}
 use Rattle.script_ends.specs.Configured.{configuration_in}
+use Rattle.script_laws.specs.Given.{IsGivenIn}
 use Rattle.script_laws.specs.Refused.{Refuses}
 use Rattle.script_laws.specs.Scripts.{entries_in, set_up, world_in}
 use Rattle.spdm_agreement.specs.Configured.{IsConfiguration, IsConfigured}
+use Rattle.spdm_agreement.specs.Worlds.{HoldsTogether}
 use Rattle.spdm_progress.specs.Honest.{AreHonest, NothingWaits}
 use Rattle.spdm_progress.specs.Scripts.{CanBeDone, IsQuietWorld, OfEachCommand, WillBeDone}
-use Rattle.world_machine.specs.Agreement.{Agreement, DataPrefix, HashesAgree, Matched, SealedOnce}
+use Rattle.world_machine.specs.Agreement.{Agreement, DataPrefix, HashesAgree, IsMatched, Matched, SealedOnce}
 use Rattle.world_machine.specs.Chance.{NoChance}
-use Rattle.world_machine.specs.World.{World, new_world}
+use Rattle.world_machine.specs.World.{World, given, new_world}
 
 -- ---- No premise is left on what is set up.
 
@@ -76,6 +81,30 @@ pub record HoldsOf (script : Script) : Type 0 where
 
 abbrev pub SoundScriptHolds : Type 0
 SoundScriptHolds = (script : Script) → IsSoundConfig script.config → HoldsOf script
+
+-- ---- At each packet.
+
+-- Of a script: of each packet that one of its events gives to an end, with the world right before it and the one right
+-- after it, where nothing agreed by chance up to there.
+abbrev pub AtEachPacket : Script → ((before : World) → (packet : List ℕ) → (after : World) → Type 0) → Type 0
+AtEachPacket script Holds = (events : List Entry) (entry : Entry) (behind : List Entry) → script.events ≡ events ++ entry ∷ behind
+    → (between : World) (packet : List ℕ) → IsGivenIn (world_in script events) (happening_of entry.event) between packet
+    → NoChance (given between packet).after.log → Holds between packet (given between packet).after
+
+-- All five hold right after it.
+abbrev pub HoldsAtPackets : Script → Type 0
+HoldsAtPackets script = AtEachPacket script (λ before packet after. HoldsTogether after)
+
+-- Where the packet is for a requester: the session that this then holds open, and each that it ever opened, the
+-- responder had opened before the packet.
+abbrev pub MatchesAtPackets : Script → Type 0
+MatchesAtPackets script = AtEachPacket script (λ before packet after.
+    (slice_index packet 1 == before.responder.part.eid) ≡ false
+    → (a : Requesting) (c : Connection) → Contains after.requesters a → Contains before.responder.connections c
+    → c.setup.peer ≡ a.setup.eid → IsMatched a c)
+
+abbrev pub MatchesAtPacketsIn : List ℕ → Type 0
+MatchesAtPacketsIn text = OfScriptIn text (λ script. HoldsAtPackets script × MatchesAtPackets script)
 
 -- ---- Honest beginnings.
 

@@ -3,7 +3,7 @@
 ghost use Rattle.script_laws.specs.Ends.{ConfiguredEndsHaveNoFault, ReadEndsHaveNoFault};
 ghost use Rattle.script_laws.specs.Laws.{ReadScriptIsSound};
 ghost use Rattle.script_laws.specs.Refused.{RefusedByTable, RefusesIn, TableRefuses};
-ghost use Rattle.script_laws.specs.Worlds.{AgreesIn, CompletesIn, DeliversIn, MatchesIn, ReadSetUpIsConfigured, SealsOnceIn, ShowsAlikeIn, SoundScriptHolds};
+ghost use Rattle.script_laws.specs.Worlds.{AgreesIn, CompletesIn, DeliversIn, MatchesAtPacketsIn, MatchesIn, ReadSetUpIsConfigured, SealsOnceIn, ShowsAlikeIn, SoundScriptHolds};
 ghost use Rattle.std.specs.Prelude.{ℕ, List};
 
 /// A script that a text is has its configuration and its events in range.
@@ -43,6 +43,12 @@ pub fn script_delivers()
 /// ones have different T2.
 pub fn script_matches()
     ensures { (text : List ℕ) → MatchesIn text }
+{}
+
+/// The five hold right after each packet that an event gives to an end, too; and where it is one for a requester, each
+/// session that this then holds open, and each that it ever opened, the responder had opened before the packet.
+pub fn script_matches_at_packets()
+    ensures { (text : List ℕ) → MatchesAtPacketsIn text }
 {}
 
 /// In each such world, where both ends of a pair hold open a session with one T2, the hashes that they show of it are

@@ -9,5 +9,6 @@ mod laws;
 pub use laws::{
     configured_ends_have_no_fault, ends_have_no_fault, read_script_is_sound, refused_by_table,
     script_agrees, script_completes, script_delivers, script_is_configured, script_matches,
-    script_refuses, script_seals_once, script_shows_alike, sound_script_holds, table_refuses,
+    script_matches_at_packets, script_refuses, script_seals_once, script_shows_alike,
+    sound_script_holds, table_refuses,
 };

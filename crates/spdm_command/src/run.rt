@@ -4,7 +4,7 @@ ghost use Rattle.script_text.specs.ScriptText.{capture_in};
 ghost use Rattle.script_text.specs.declared.texts.faults.LineFault.{LineFault};
 ghost use Rattle.script_text.specs.declared.texts.script.Capture.{Capture};
 ghost use Rattle.script_laws.specs.Refused.{RefusesIn};
-ghost use Rattle.script_laws.specs.Worlds.{AgreesIn, CompletesIn, DeliversIn, HoldsOf, MatchesIn, SealsOnceIn, ShowsAlikeIn};
+ghost use Rattle.script_laws.specs.Worlds.{AgreesIn, CompletesIn, DeliversIn, HoldsOf, MatchesAtPacketsIn, MatchesIn, SealsOnceIn, ShowsAlikeIn};
 ghost use Rattle.script_text.specs.Generator.{generated};
 ghost use Rattle.spdm_basis.specs.Stream.{HasFault, IsQuiet, Takes, TakesPrefix};
 ghost use Rattle.trace_check.specs.Answers.{Finding, HasFinding, IsCapture};
@@ -152,6 +152,8 @@ pub fn spdm<S: Source, K: Sink, E: Seeds>(
         → AgreesIn text × ShowsAlikeIn text }
     ensures data_prefix { (text : List ℕ) → S.remaining source.old ≡ Some text → DeliversIn text }
     ensures matched { (text : List ℕ) → S.remaining source.old ≡ Some text → MatchesIn text }
+    ensures at_each_packet { (text : List ℕ) → S.remaining source.old ≡ Some text
+        → MatchesAtPacketsIn text }
     ensures sealed_once { (text : List ℕ) → S.remaining source.old ≡ Some text → SealsOnceIn text }
     ensures refused { (text : List ℕ) → S.remaining source.old ≡ Some text → RefusesIn text }
 

@@ -1,3 +1,4 @@
+use Rattle.script_laws.proofs.AtPackets.{at_packets}
 use Rattle.script_laws.proofs.RefusedRight.{refuses}
 use Rattle.script_laws.proofs.WorldsRight.{agrees, completes, delivers, matches, seals_once, shows_alike}
 use Rattle.spdm_command.proofs.GeneratedHolds.{generated_holds}
@@ -254,3 +255,39 @@ returns-in-Check-clause-completes g c = λ text held. completes text
 
 pub returns-in-Check-clause-generated : goal.returns-in-Check-clause-generated
 returns-in-Check-clause-generated g c = λ seed count asked. generated_holds seed count
+
+pub returns-in_default-clause-at_each_packet : goal.returns-in_default-clause-at_each_packet
+returns-in_default-clause-at_each_packet g c = λ text held. at_packets text
+
+pub returns-in-Err-ReadFault-clause-at_each_packet : goal.returns-in-Err-ReadFault-clause-at_each_packet
+returns-in-Err-ReadFault-clause-at_each_packet g c = λ text held. at_packets text
+
+pub returns-in-Err-TooLong-clause-at_each_packet : goal.returns-in-Err-TooLong-clause-at_each_packet
+returns-in-Err-TooLong-clause-at_each_packet g c = λ text held. at_packets text
+
+pub returns-in-Err-OutOfMemory-clause-at_each_packet : goal.returns-in-Err-OutOfMemory-clause-at_each_packet
+returns-in-Err-OutOfMemory-clause-at_each_packet g c = λ text held. at_packets text
+
+pub returns-in-Ok-write_output-clause-at_each_packet : goal.returns-in-Ok-write_output-clause-at_each_packet
+returns-in-Ok-write_output-clause-at_each_packet g c = λ text held. at_packets text
+
+pub returns-in-Err-Line-clause-at_each_packet : goal.returns-in-Err-Line-clause-at_each_packet
+returns-in-Err-Line-clause-at_each_packet g c = λ text held. at_packets text
+
+pub returns-in-Err-LinkFull-clause-at_each_packet : goal.returns-in-Err-LinkFull-clause-at_each_packet
+returns-in-Err-LinkFull-clause-at_each_packet g c = λ text held. at_packets text
+
+pub returns-in-Err-WriteFault-clause-at_each_packet : goal.returns-in-Err-WriteFault-clause-at_each_packet
+returns-in-Err-WriteFault-clause-at_each_packet g c = λ text held. at_packets text
+
+pub returns-clause-at_each_packet : goal.returns-clause-at_each_packet
+returns-clause-at_each_packet g c = λ text held. at_packets text
+
+pub returns-in-Serve-clause-at_each_packet : goal.returns-in-Serve-clause-at_each_packet
+returns-in-Serve-clause-at_each_packet g c = λ text held. at_packets text
+
+pub returns-in-Drive-clause-at_each_packet : goal.returns-in-Drive-clause-at_each_packet
+returns-in-Drive-clause-at_each_packet g c = λ text held. at_packets text
+
+pub returns-in-Check-clause-at_each_packet : goal.returns-in-Check-clause-at_each_packet
+returns-in-Check-clause-at_each_packet g c = λ text held. at_packets text
