@@ -4,6 +4,11 @@ import selectors
 import struct
 import subprocess
 
+CONFIGURATION = b"""responder 8 1024 4096 64 30 mhkc
+block 1 1 0 000102030405060708090a0b0c0d0e0f101112131415161718191a1b1c1d1e1f
+requester 9 1024 4096 64 0 hkc 71 31323334353637383930313233343536 -
+end
+"""
 PACKET, TICK, COMMAND, LINE = 1, 2, 3, 4
 # How long both ends may be silent before they are taken to have nothing more to say, in seconds; and how long where an end
 # owes an answer, or has not said anything yet, and may be starting.
@@ -16,13 +21,13 @@ class Ended(Exception):
 
 
 class End:
-    """A program that is given a text and then frames. `command` is a list of words, or a line for the shell."""
+    """A program that is given a text and then frames. `command` is a list of words, or a line for the shell; it runs in `folder`."""
 
-    def __init__(self, name, command, text):
+    def __init__(self, name, command, text, folder=None):
         self.name, self.ahead = name, b""
         try:
             self.process = subprocess.Popen(
-                command, shell=isinstance(command, str), stdin=subprocess.PIPE, stdout=subprocess.PIPE
+                command, shell=isinstance(command, str), stdin=subprocess.PIPE, stdout=subprocess.PIPE, cwd=folder
             )
         except OSError as error:
             raise Ended(f"{name} cannot be started: {error}") from error
@@ -79,6 +84,12 @@ class Carrier:
         self.readable = selectors.DefaultSelector()
         for end in (requester, responder):
             self.readable.register(end.process.stdout, selectors.EVENT_READ, end)
+
+    def replace_responder(self, responder):
+        """Another responder stands in the place of this one, which has ended."""
+        self.readable.unregister(self.responder.process.stdout)
+        self.responder, self.starts = responder, None
+        self.readable.register(responder.process.stdout, selectors.EVENT_READ, responder)
 
     def other(self, end):
         return self.responder if end is self.requester else self.requester
