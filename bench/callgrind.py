@@ -16,6 +16,10 @@ class NotCounted(Exception):
     """Why nothing can be counted."""
 
 
+# The words of a command that ends with another status where all went well.
+ENDS = {("attest",): (0, 14)}
+
+
 class Counted:
     """The instructions of a run, and those in functions of blocks. `text` is bytes, or a file that is open."""
 
@@ -24,7 +28,7 @@ class Counted:
         with tempfile.NamedTemporaryFile(suffix=".callgrind") as out:
             command = ["valgrind", "--tool=callgrind", f"--callgrind-out-file={out.name}", program, *words]
             done = subprocess.run(command, **given, capture_output=True, check=False)
-            if done.returncode:
+            if done.returncode not in ENDS.get(tuple(words), (0,)):
                 said = [it for it in done.stderr.decode(errors="replace").splitlines() if not it.startswith("==")]
                 raise NotCounted(f"{' '.join(words)} ended under valgrind with status {done.returncode}: {' '.join(said)}")
             self.all, self.blocks = self.read(out.name)
