@@ -53,6 +53,7 @@ use Rattle.spdm_agreement.proofs.Responder.Bodies.{AreCounted, BeginsWell, clear
 use Rattle.spdm_grammar.specs.declared.names.request_code.TheConstants.{GET_VERSION, PSK_EXCHANGE, END_SESSION}
 use Rattle.spdm_grammar.specs.declared.names.response_code.TheConstants.{PSK_EXCHANGE_RSP}
 use Rattle.spdm_grammar.specs.declared.names.spdm_version.TheConstants.{V1_2}
+use Rattle.spdm_agreement.specs.Story.{Past}
 
 -- ---- PSK_EXCHANGE comes where all is negotiated.
 
@@ -275,8 +276,8 @@ own_context : (r : RspSetup) (h : History) (d : Draw) → (clear_chosen r h d).c
 unfolding chosen
 own_context r h d = refl
 
-pub begins_well : (r : RspSetup) → IsResponder r → BeginsWell r
-begins_well r setup = record {
+pub begins_well : (prior : Past) → (r : RspSetup) → IsResponder r → BeginsWell prior r
+begins_well prior r setup = record {
   begins = λ h made m d i code.
       (let n = negotiation_of (clear_turns h) in
       let f = clear_chosen r h d in
@@ -293,5 +294,5 @@ begins_well r setup = record {
 }
 
 -- Whatever a responder does, it does well.
-pub does_well : DoesWell AreCounted
-does_well r h asked log tag body d ready = does_where r h asked log tag body d (begins_well r ready.setup) ready
+pub does_well : (prior : Past) → DoesWell prior (AreCounted prior)
+does_well prior r h asked log tag body d ready = does_where prior r h asked log tag body d (begins_well prior r ready.setup) ready
