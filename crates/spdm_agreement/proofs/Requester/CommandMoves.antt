@@ -175,10 +175,10 @@ few_summary n e = by_tests (n == 0) (n == 1) refl refl
     by_tests false true x y = (let k = eqb-true n 1 y in omega arith)
     by_tests false false x y = (let k : n ≡ 255 = eqb-true n 255 (sym (ap (λ (c : Bool). c || (n == 1) || (n == 255)) x ∙ ap (λ (c : Bool). c || (n == 255)) y) ∙ e) in omega arith)
 
-abbrev exchange_of_command : ReqSetup → History → Draw → ℕ → ExchangeMessage
+abbrev pub exchange_of_command : ReqSetup → History → Draw → ℕ → ExchangeMessage
 exchange_of_command q h d summary = record { summary = summary; req_id = (command_chosen q h d).id; hint = q.hint; context = (command_chosen q h d).context; opaque = (command_chosen q h d).opaque }
 
-context_chosen : (q : ReqSetup) (h : History) (d : Draw) → (command_chosen q h d).context ≡ context_of (connection_terms h).choice.hash d
+pub context_chosen : (q : ReqSetup) (h : History) (d : Draw) → (command_chosen q h d).context ≡ context_of (connection_terms h).choice.hash d
 unfolding chosen
 context_chosen q h d = refl
 
@@ -194,7 +194,7 @@ opaque_chosen : (q : ReqSetup) (h : History) (d : Draw) → (command_chosen q h 
 unfolding chosen
 opaque_chosen q h d = refl
 
-command_read : (q : ReqSetup) (h : History) (d : Draw) (summary : ℕ) → IsRequester q → length d.bytes ≡ 32 → is_summary summary ≡ true
+pub command_read : (q : ReqSetup) (h : History) (d : Draw) (summary : ℕ) → IsRequester q → length d.bytes ≡ 32 → is_summary summary ≡ true
     → request_in (hash_len (connection_terms h)) (canonical_request (PskExchange (exchange_of_command q h d summary))) ≡ Some (PskExchange (exchange_of_command q h d summary))
 command_read q h d summary setup bytes kind =
     let most : (command_chosen q h d).id ≤ 4 = id_chosen q h d in

@@ -10,7 +10,7 @@ use Rattle.responder_machine.specs.History.Entry.{Clear, Sealed, Queued, Ticked,
 use Rattle.responder_machine.specs.Session as responder
 use Rattle.responder_machine.specs.Setup.{RspSetup}
 use Rattle.spdm_agreement.specs.Marks as marks
-use Rattle.spdm_agreement.specs.Marks.{Asked, Served, Text, Exchange, IsAccepted, IsOpened, OpenedApart, HasBegun, HasOpened, HasFinished, asked_open, requests, heard, taken}
+use Rattle.spdm_agreement.specs.Marks.{Asked, Served, Text, Exchange, IsAccepted, IsOpened, OpenedApart, HasBegun, HasOpened, HasFinished, asked_open, served_open, requests, heard, taken}
 use Rattle.spdm_agreement.specs.Marks.Asked.{Started, Accepted, Opened, Heard}
 use Rattle.spdm_agreement.specs.Marks.Served.{Began, Finished, Refused, Took}
 use Rattle.spdm_agreement.specs.Reading.{First, Reading}
@@ -52,6 +52,14 @@ accepted_new (Started id draw ∷ new) old t a = accepted_new new old t a
 accepted_new (Opened s v ∷ new) old t a = accepted_new new old t a
 accepted_new (marks.Asked.Sealed v b ∷ new) old t a = accepted_new new old t a
 accepted_new (Heard v b reply ∷ new) old t a = accepted_new new old t a
+
+pub accepted_old : (new old : List Asked) (t : First) → IsAccepted old t → IsAccepted (new ++ old) t
+accepted_old [] old t a = a
+accepted_old (Accepted s ∷ new) old t a = inr (accepted_old new old t a)
+accepted_old (Started id draw ∷ new) old t a = accepted_old new old t a
+accepted_old (Opened s v ∷ new) old t a = accepted_old new old t a
+accepted_old (marks.Asked.Sealed v b ∷ new) old t a = accepted_old new old t a
+accepted_old (Heard v b reply ∷ new) old t a = accepted_old new old t a
 
 pub opened_new : (new old : List Asked) (t : First) (u : List ℕ) → IsOpened new t u → IsOpened (new ++ old) t u
 opened_new [] old t u a = elim a [ ]
@@ -150,3 +158,33 @@ taken_behind u (Took v b reply ∷ new) old = more_if (bytes_eq v u) (b, reply) 
 taken_behind u (Began s ∷ new) old = taken_behind u new old
 taken_behind u (Finished s v ∷ new) old = taken_behind u new old
 taken_behind u (Refused s b ∷ new) old = taken_behind u new old
+
+pub begun_old : (new old : List Served) (t : First) → HasBegun old t → HasBegun (new ++ old) t
+begun_old [] old t a = a
+begun_old (Began s ∷ new) old t a = inr (begun_old new old t a)
+begun_old (Finished s v ∷ new) old t a = begun_old new old t a
+begun_old (Refused s b ∷ new) old t a = begun_old new old t a
+begun_old (Took v b reply ∷ new) old t a = begun_old new old t a
+
+pub served_old : (new old : List Served) (t : First) (u : List ℕ) → HasOpened old t u → HasOpened (new ++ old) t u
+served_old [] old t u a = a
+served_old (Finished s v ∷ new) old t u a = inr (served_old new old t u a)
+served_old (Began s ∷ new) old t u a = served_old new old t u a
+served_old (Refused s b ∷ new) old t u a = served_old new old t u a
+served_old (Took v b reply ∷ new) old t u a = served_old new old t u a
+
+-- A session that is open by the marks opened.
+pub held_opened : (r : Reading) (id : ℕ) (m : List Served) (t : First) (u : List ℕ) → served_open r id m ≡ Some (t, u) → HasOpened m t u
+held_opened r id [] t u e = absurd (none_some (t, u) e)
+held_opened r id (Began s ∷ m) t u e = go (r.responder_id s == id) e (λ x. held_opened r id m t u x)
+  where
+    go : (b : Bool) → cond b None (served_open r id m) ≡ Some (t, u) → (served_open r id m ≡ Some (t, u) → HasOpened m t u) → HasOpened m t u
+    go true e f = absurd (none_some (t, u) e)
+    go false e f = f e
+held_opened r id (Finished s v ∷ m) t u e = go (r.responder_id s == id) e (λ x. held_opened r id m t u x)
+  where
+    go : (b : Bool) → cond b (Some (s, v)) (served_open r id m) ≡ Some (t, u) → (served_open r id m ≡ Some (t, u) → HasOpened m t u) → ((t ≡ s) × (u ≡ v)) ⊎ HasOpened m t u
+    go true e f = (let same : (s, v) ≡ (t, u) = some_same _ _ e in inl (ap (λ (x : First × List ℕ). x.0) (sym same), ap (λ (x : First × List ℕ). x.1) (sym same)))
+    go false e f = inr (f e)
+held_opened r id (Refused s b ∷ m) t u e = held_opened r id m t u e
+held_opened r id (Took v b reply ∷ m) t u e = held_opened r id m t u e
