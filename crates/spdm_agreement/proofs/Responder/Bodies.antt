@@ -57,7 +57,7 @@ clear_turn r h m d = turn_of r (clear_place h) m (clear_chosen r h d)
 
 -- A session begins well: its beginning is sound and holds the number of the draw, and an answer of four bytes passes no
 -- transfer size in it.
-pub record BeginsWell (prior : Past) (r : RspSetup) : Type 0 where
+pub record BeginsWell (r : RspSetup) : Type 0 where
   pub begins : (h : History) → IsMade r h → (m : List ℕ) (d : Draw) → IsDraw d → takes PSK_EXCHANGE (clear_turn r h m d) ≡ true
       → (is_sound_first r.psk (served_first (began_by h (clear_turn r h m d))) ≡ true) × ((reading_of r.psk).responder_draw (served_first (began_by h (clear_turn r h m d))) ≡ d.number)
   pub room : (h : History) → IsMade r h → (id : ℕ) → is_live (session_of id h) ≡ true → IsRoomy (session_of id h)
@@ -85,7 +85,7 @@ unopened prior r h asked log body d reply ready =
 
 -- ---- In the clear.
 
-begins : (prior : Past) → (r : RspSetup) (h : History) (asked : List Asked) (log : Log) (m : List ℕ) (d : Draw) (b : Bool) → takes PSK_EXCHANGE (clear_turn r h m d) ≡ b → BeginsWell prior r → ServedReady prior (AreCounted prior) r h asked log d
+begins : (prior : Past) → (r : RspSetup) (h : History) (asked : List Asked) (log : Log) (m : List ℕ) (d : Draw) (b : Bool) → takes PSK_EXCHANGE (clear_turn r h m d) ≡ b → BeginsWell r → ServedReady prior (AreCounted prior) r h asked log d
     → IsMoved (reading_of r.psk) (serves_state prior r h asked log)
     (state asked (cond b (Served.Began (served_first (began_by h (clear_turn r h m d))) ∷ []) [] ++ served_from prior r h) (cond b (response_made r (began_by h (clear_turn r h m d)) ∷ []) [] ++ log))
 begins prior r h asked log m d false is well ready = stays (reading_of r.psk) (serves_state prior r h asked log)
@@ -96,7 +96,7 @@ begins prior r h asked log m d true is well ready =
     moves_by (reading_of r.psk) (Move.Begin (served_first s) (verify_data (session_terms s).choice r.psk (t1_of s) Response (t1_of s))) _ _ tt
     (w.0, subst (λ (n : ℕ). next_served (reading_of r.psk) (served_from prior r h) ≤ n) (sym w.1) ready.fresh) refl
 
-clear_draws : (prior : Past) → (r : RspSetup) (h : History) (asked : List Asked) (log : Log) (m : List ℕ) (d : Draw) (b c : Bool) → takes PSK_EXCHANGE (clear_turn r h m d) ≡ b → BeginsWell prior r → ServedReady prior (AreCounted prior) r h asked log d
+clear_draws : (prior : Past) → (r : RspSetup) (h : History) (asked : List Asked) (log : Log) (m : List ℕ) (d : Draw) (b c : Bool) → takes PSK_EXCHANGE (clear_turn r h m d) ≡ b → BeginsWell r → ServedReady prior (AreCounted prior) r h asked log d
     → next_served (reading_of r.psk) (cond b (Served.Began (served_first (began_by h (clear_turn r h m d))) ∷ []) [] ++ served_from prior r h) + draws_of h ≤ d.number + cond (b || c) (draws_of h + 1) (draws_of h)
 clear_draws prior r h asked log m d true c is well ready =
     let w = (well.begins h ready.made m d ready.draw is).1 in
@@ -111,7 +111,7 @@ clear_kept : (prior : Past) → (r : RspSetup) (h : History) (tag : ℕ) (t : Tu
 unfolding session_of
 clear_kept prior r h tag t d kept = λ id. cleared r.psk id (session_of id h) h t (served_from prior r h) (kept id)
 
-adds_clear : (prior : Past) → (r : RspSetup) (h : History) (asked : List Asked) (log : Log) (body : List ℕ) (tag : ℕ) (m : List ℕ) (d : Draw) → BeginsWell prior r → ServedReady prior (AreCounted prior) r h asked log d
+adds_clear : (prior : Past) → (r : RspSetup) (h : History) (asked : List Asked) (log : Log) (body : List ℕ) (tag : ℕ) (m : List ℕ) (d : Draw) → BeginsWell r → ServedReady prior (AreCounted prior) r h asked log d
     → ServedStep prior (AreCounted prior) r h asked log body d (Adds (Clear tag (clear_turn r h m d) d))
 adds_clear prior r h asked log body tag m d well ready = record {
   leads = leads_by (reading_of r.psk) _ _ (begins prior r h asked log m d (takes PSK_EXCHANGE (clear_turn r h m d)) refl well ready);
@@ -119,12 +119,12 @@ adds_clear prior r h asked log body tag m d well ready = record {
   draws = clear_draws prior r h asked log m d (takes PSK_EXCHANGE (clear_turn r h m d)) (takes GET_MEASUREMENTS (clear_turn r h m d)) refl well ready;
 }
 
-clear_by : (prior : Past) → (r : RspSetup) (h : History) (asked : List Asked) (log : Log) (body : List ℕ) (tag : ℕ) (m : List ℕ) (d : Draw) (b : Bool) → BeginsWell prior r → ServedReady prior (AreCounted prior) r h asked log d
+clear_by : (prior : Past) → (r : RspSetup) (h : History) (asked : List Asked) (log : Log) (body : List ℕ) (tag : ℕ) (m : List ℕ) (d : Draw) (b : Bool) → BeginsWell r → ServedReady prior (AreCounted prior) r h asked log d
     → ServedStep prior (AreCounted prior) r h asked log body d (cond b (Same (clear_body (kept_reply (kept_of h)))) (Adds (Clear tag (clear_turn r h m d) d)))
 clear_by prior r h asked log body tag m d true well ready = same prior r h asked log body d _ ready
 clear_by prior r h asked log body tag m d false well ready = adds_clear prior r h asked log body tag m d well ready
 
-clear_step : (prior : Past) → (r : RspSetup) (h : History) (asked : List Asked) (log : Log) (body : List ℕ) (tag : ℕ) (m : List ℕ) (d : Draw) → BeginsWell prior r → ServedReady prior (AreCounted prior) r h asked log d
+clear_step : (prior : Past) → (r : RspSetup) (h : History) (asked : List Asked) (log : Log) (body : List ℕ) (tag : ℕ) (m : List ℕ) (d : Draw) → BeginsWell r → ServedReady prior (AreCounted prior) r h asked log d
     → ServedStep prior (AreCounted prior) r h asked log body d (clear_does r h tag m d)
 unfolding on_clear
 clear_step prior r h asked log body tag m d well ready = clear_by prior r h asked log body tag m d (is_repeat (kept_of h) tag m) well ready
@@ -205,7 +205,7 @@ pub record IsSession (prior : Past) (r : RspSetup) (h : History) (of : ℕ) (e :
   pub served : ServedAt r.psk of (e ∷ s) (served_from prior r h)
   pub room : IsRoomy (e ∷ s)
 
-session_at : (prior : Past) → (r : RspSetup) (h : History) (of : ℕ) (e : Event) (s : Events) → IsMade r h → BeginsWell prior r → session_of of h ≡ e ∷ s → IsSession prior r h of e s
+session_at : (prior : Past) → (r : RspSetup) (h : History) (of : ℕ) (e : Event) (s : Events) → IsMade r h → BeginsWell r → session_of of h ≡ e ∷ s → IsSession prior r h of e s
 session_at prior r h of e s made well is =
     let steady = made_steady r h made in
     record {
@@ -284,30 +284,30 @@ unfolding in_session
 live_step prior r h asked log body tag phase e s sealed d true ready x = same prior r h asked log body d _ ready
 live_step prior r h asked log body tag phase e s sealed d false ready x = in_session_step prior r h asked log body tag phase e s sealed d (opening_fault r.psk (e ∷ s) sealed) refl ready x
 
-session_step : (prior : Past) → (r : RspSetup) (h : History) (asked : List Asked) (log : Log) (body : List ℕ) (tag : ℕ) (phase : Phase) (s : Events) (sealed : List ℕ) (d : Draw) → session_of (id_in_record sealed) h ≡ s → BeginsWell prior r
+session_step : (prior : Past) → (r : RspSetup) (h : History) (asked : List Asked) (log : Log) (body : List ℕ) (tag : ℕ) (phase : Phase) (s : Events) (sealed : List ℕ) (d : Draw) → session_of (id_in_record sealed) h ≡ s → BeginsWell r
     → ServedReady prior (AreCounted prior) r h asked log d → ServedStep prior (AreCounted prior) r h asked log body d (to_session r phase s (record_chosen r h sealed d) tag sealed d)
 session_step prior r h asked log body tag phase [] sealed d is well ready = unopened prior r h asked log body d (decrypt_error phase) ready
 session_step prior r h asked log body tag phase (e ∷ s) sealed d is well ready =
     live_step prior r h asked log body tag phase e s sealed d (repeats (last_of (e ∷ s)) sealed) ready (session_at prior r h (id_in_record sealed) e s ready.made well is)
 
-record_by : (prior : Past) → (r : RspSetup) (h : History) (asked : List Asked) (log : Log) (body : List ℕ) (tag : ℕ) (sealed : List ℕ) (d : Draw) (b : Bool) → BeginsWell prior r → ServedReady prior (AreCounted prior) r h asked log d
+record_by : (prior : Past) → (r : RspSetup) (h : History) (asked : List Asked) (log : Log) (body : List ℕ) (tag : ℕ) (sealed : List ℕ) (d : Draw) (b : Bool) → BeginsWell r → ServedReady prior (AreCounted prior) r h asked log d
     → ServedStep prior (AreCounted prior) r h asked log body d (cond b (Same (record_body (kept_record (ended_of h)))) (to_session r (phase_of (clear_turns h)) (session_of (id_in_record sealed) h) (record_chosen r h sealed d) tag sealed d))
 record_by prior r h asked log body tag sealed d true well ready = same prior r h asked log body d _ ready
 record_by prior r h asked log body tag sealed d false well ready = session_step prior r h asked log body tag (phase_of (clear_turns h)) (session_of (id_in_record sealed) h) sealed d refl well ready
 
-record_step : (prior : Past) → (r : RspSetup) (h : History) (asked : List Asked) (log : Log) (body : List ℕ) (tag : ℕ) (sealed : List ℕ) (d : Draw) → BeginsWell prior r → ServedReady prior (AreCounted prior) r h asked log d
+record_step : (prior : Past) → (r : RspSetup) (h : History) (asked : List Asked) (log : Log) (body : List ℕ) (tag : ℕ) (sealed : List ℕ) (d : Draw) → BeginsWell r → ServedReady prior (AreCounted prior) r h asked log d
     → ServedStep prior (AreCounted prior) r h asked log body d (record_does r h tag sealed d)
 unfolding on_record
 record_step prior r h asked log body tag sealed d well ready = record_by prior r h asked log body tag sealed d (repeats (ended_of h) sealed) well ready
 
 -- ---- All bodies.
 
-does_by : (prior : Past) → (r : RspSetup) (h : History) (asked : List Asked) (log : Log) (tag : ℕ) (body : List ℕ) (d : Draw) (b : Bool) → BeginsWell prior r → ServedReady prior (AreCounted prior) r h asked log d
+does_by : (prior : Past) → (r : RspSetup) (h : History) (asked : List Asked) (log : Log) (tag : ℕ) (body : List ℕ) (d : Draw) (b : Bool) → BeginsWell r → ServedReady prior (AreCounted prior) r h asked log d
     → ServedStep prior (AreCounted prior) r h asked log body d (cond b (clear_does r h tag (drop 1 body) d) (record_does r h tag (drop 1 body) d))
 does_by prior r h asked log tag body d true well ready = clear_step prior r h asked log body tag (drop 1 body) d well ready
 does_by prior r h asked log tag body d false well ready = record_step prior r h asked log body tag (drop 1 body) d well ready
 
-pub does_where : (prior : Past) → (r : RspSetup) (h : History) (asked : List Asked) (log : Log) (tag : ℕ) (body : List ℕ) (d : Draw) → BeginsWell prior r → ServedReady prior (AreCounted prior) r h asked log d
+pub does_where : (prior : Past) → (r : RspSetup) (h : History) (asked : List Asked) (log : Log) (tag : ℕ) (body : List ℕ) (d : Draw) → BeginsWell r → ServedReady prior (AreCounted prior) r h asked log d
     → ServedStep prior (AreCounted prior) r h asked log body d (responder_does r h tag body d)
 does_where prior r h asked log tag body d well ready = does_by prior r h asked log tag body d (slice_index body 0 == 5) well ready
 

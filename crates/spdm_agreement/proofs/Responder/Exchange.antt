@@ -294,8 +294,8 @@ own_context : (r : RspSetup) (h : History) (d : Draw) → (clear_chosen r h d).c
 unfolding chosen
 own_context r h d = refl
 
-pub begins_well : (prior : Past) → (r : RspSetup) → IsResponder r → BeginsWell prior r
-begins_well prior r setup = record {
+pub begins_well : (r : RspSetup) → IsResponder r → BeginsWell r
+begins_well r setup = record {
   begins = λ h made m d i code.
       (let n = negotiation_of (clear_turns h) in
       let f = clear_chosen r h d in
@@ -326,4 +326,4 @@ begins_in_front r setup h made m d i code =
 
 -- Whatever a responder does, it does well.
 pub does_well : (prior : Past) → DoesWell prior (AreCounted prior)
-does_well prior r h asked log tag body d ready = does_where prior r h asked log tag body d (begins_well prior r ready.setup) ready
+does_well prior r h asked log tag body d ready = does_where prior r h asked log tag body d (begins_well r ready.setup) ready
