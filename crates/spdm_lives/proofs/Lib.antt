@@ -3,3 +3,5 @@ pub mod ResponderSessions
 pub mod RequesterDraws
 pub mod ResponderDraws
 pub mod Checks
+pub mod LifeKept
+pub mod LifeSteps
