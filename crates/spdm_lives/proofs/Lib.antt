@@ -5,3 +5,4 @@ pub mod ResponderDraws
 pub mod Checks
 pub mod LifeKept
 pub mod LifeSteps
+pub mod TranscriptsApart
