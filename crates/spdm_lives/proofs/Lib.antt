@@ -6,3 +6,5 @@ pub mod Checks
 pub mod LifeKept
 pub mod LifeSteps
 pub mod TranscriptsApart
+pub mod Framed
+pub mod PastLives

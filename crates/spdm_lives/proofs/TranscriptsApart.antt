@@ -33,7 +33,7 @@ pub record IsLater (before later : WorldSetup) : Type 0 where
   pub responder : before.responder.first + wear_limit ≤ later.responder.first
   pub requester : (e : ReqEnd) → IsIn later.requesters e → (f : ReqEnd) × IsIn before.requesters f × (e.setup ≡ f.setup) × (f.first + wear_limit ≤ e.first)
 
-requester_before : (earlier later : List ReqEnd) → RequestersGoOn earlier later → (e : ReqEnd) → IsIn later e → (f : ReqEnd) × IsIn earlier f × (e.setup ≡ f.setup) × (f.first + wear_limit ≤ e.first)
+pub requester_before : (earlier later : List ReqEnd) → RequestersGoOn earlier later → (e : ReqEnd) → IsIn later e → (f : ReqEnd) × IsIn earlier f × (e.setup ≡ f.setup) × (f.first + wear_limit ≤ e.first)
 requester_before [] [] go e m = absurd m
 requester_before [] (y ∷ later) go e m = absurd go
 requester_before (x ∷ earlier) [] go e m = absurd go
