@@ -8,3 +8,4 @@ pub mod LifeSteps
 pub mod TranscriptsApart
 pub mod Framed
 pub mod PastLives
+pub mod OldAndNew
