@@ -238,7 +238,7 @@ staged_served r stage.Handshake s m e b o = (refl, (served_first s, b, refl))
 staged_served r stage.Open s m e b o = (refl, (served_first s, o refl))
 staged_served r stage.Verifying s m e b o = (refl, (served_first s, o refl))
 
-held_there : (s : responder.Events) → responder.is_live s ≡ true → is_past_handshake (responder.stage_of s) ≡ true → (responder.is_live s && is_past_handshake (responder.stage_of s)) ≡ true
+pub held_there : (s : responder.Events) → responder.is_live s ≡ true → is_past_handshake (responder.stage_of s) ≡ true → (responder.is_live s && is_past_handshake (responder.stage_of s)) ≡ true
 held_there [] l p = l
 held_there (e ∷ s) l p = p
 

@@ -9,3 +9,5 @@ pub mod TranscriptsApart
 pub mod Framed
 pub mod PastLives
 pub mod OldAndNew
+pub mod QuietMarks
+pub mod LifeHolds
