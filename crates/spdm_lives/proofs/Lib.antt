@@ -1,0 +1,13 @@
+pub mod RequesterSessions
+pub mod ResponderSessions
+pub mod RequesterDraws
+pub mod ResponderDraws
+pub mod Checks
+pub mod LifeKept
+pub mod LifeSteps
+pub mod TranscriptsApart
+pub mod Framed
+pub mod PastLives
+pub mod OldAndNew
+pub mod QuietMarks
+pub mod LifeHolds
