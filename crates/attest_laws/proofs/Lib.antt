@@ -1,1 +1,4 @@
 pub mod Turns
+pub mod Exchanges
+pub mod Served
+pub mod Keeping
