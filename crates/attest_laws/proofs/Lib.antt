@@ -4,3 +4,6 @@ pub mod Served
 pub mod Keeping
 pub mod Reading
 pub mod Shapes
+pub mod Waiting
+pub mod Answering
+pub mod Taking

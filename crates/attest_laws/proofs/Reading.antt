@@ -138,7 +138,7 @@ small_code VersionMismatch other = refl
 -- ---- MEASUREMENTS.
 
 module _ (r : RspSetup) (op : ℕ) (nonce : List ℕ) (whole : length nonce ≡ 32) (few : length (measurements r op nonce) ≤ MAX_MESSAGE_SIZE) where
-  measured_read : (len : ℕ) → response_reading len false (measurements r op nonce) ≡ Ok (Measurements (measured r op nonce))
+  pub measured_read : (len : ℕ) → response_reading len false (measurements r op nonce) ≡ Ok (Measurements (measured r op nonce))
   measured_read len =
       let size = measurements_are r op nonce whole in
       reads_so (Measurements (measured r op nonce)) len false (measured_fits r op nonce) (measured_sound r op len nonce whole (omega (arith, size, few)))
