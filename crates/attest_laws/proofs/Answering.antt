@@ -1,17 +1,15 @@
 -- What a record leads to at a requester that waits for measurements, where the exchanges of its session are turns of the
 -- responder.
-use Rattle.std.proofs.Common.{◌≡◌, ◌∙◌, ℕ, ◌<◌, ◌≤◌, ◌+◌, ◌^◌, List, [], ◌∷◌, ◌++◌, length, Bool, true, false, cond, Option, Some, None, refl, sym, ap, subst, inl, inr, arith, bytes_eq, length-append}
+use Rattle.std.proofs.Common.{◌≡◌, ◌∙◌, ℕ, ◌<◌, ◌≤◌, List, [], ◌∷◌, ◌++◌, length, Bool, cond, Option, Some, sym, ap, subst, inl, inr, arith}
 use Rattle.capture_machine.proofs.SmallGets.{get_fits}
-use Rattle.chunking.specs.Cutting.{nth_chunk}
 use Rattle.requester_machine.specs.Commands.{Free}
 use Rattle.requester_machine.specs.Hearing.{came_to}
 use Rattle.requester_machine.specs.History.{History, Led, outstanding}
 use Rattle.requester_machine.specs.History.Entry.{TookRecord}
 use Rattle.requester_machine.specs.InnerMessages.{inner_led, or_lost}
-use Rattle.requester_machine.specs.Message.{Ask, Content, Sent}
+use Rattle.requester_machine.specs.Message.{Ask, Sent}
 use Rattle.requester_machine.specs.Message.Aim.{InSession}
-use Rattle.requester_machine.specs.Message.Ask.{AskFinish, AskData, AskBeat, AskUpdate, AskVerify, AskMeasure, AskChunk, AskEnd}
-use Rattle.requester_machine.specs.Order.{stage_for}
+use Rattle.requester_machine.specs.Message.Ask.{AskMeasure, AskChunk}
 use Rattle.requester_machine.specs.Sending.{inner_request}
 use Rattle.requester_machine.specs.Session.{Steps, session_of, stage_of, t2_of}
 use Rattle.requester_machine.specs.Session.Step.{Took}
@@ -19,7 +17,6 @@ use Rattle.requester_machine.specs.Setup.{ReqSetup}
 use Rattle.responder_machine.specs.Answer.{Free as FreeThere, answer_bytes}
 use Rattle.responder_machine.specs.Handling.{error_bytes, extended_of, large_response}
 use Rattle.responder_machine.specs.Place.{session_place}
-use Rattle.responder_machine.specs.Refusal.{code_of}
 use Rattle.responder_machine.specs.Responder.{inner_reply, session_turn}
 use Rattle.responder_machine.specs.Session.{Events}
 use Rattle.responder_machine.specs.Setup.{RspSetup}
@@ -30,13 +27,12 @@ use Rattle.spdm_agreement.proofs.Delivery.InnerText.{inner_is}
 use Rattle.spdm_agreement.proofs.Delivery.TakenAtRequester.{next_heard}
 use Rattle.spdm_agreement.proofs.Moves.MarkEffects.{own_key}
 use Rattle.spdm_agreement.proofs.Requester.SealAndHear.{inner_as}
-use Rattle.spdm_agreement.specs.Marks.{Exchange, Text, heard}
+use Rattle.spdm_agreement.specs.Marks.{Text, heard}
 use Rattle.spdm_agreement.specs.Story.{answer_text, ask_in, ask_of, asked_marks, reply_text, request_text, sent_text, taken_marks}
 use Rattle.spdm_grammar.specs.Message.{ChunkMessage}
 use Rattle.spdm_grammar.specs.Message.RequestMessage.{ChunkGet, GetMeasurements}
 use Rattle.spdm_grammar.specs.declared.messages.error_code.ErrorCode.{ErrorCode}
 use Rattle.spdm_grammar.specs.declared.messages.error_code.ErrorCode.TheVariants.{InvalidRequest, UnexpectedRequest, Unspecified, DecryptError, UnsupportedRequest, SessionLimitExceeded, SessionRequired, ResponseTooLarge, RequestTooLarge, LargeResponse, VersionMismatch}
-use Rattle.spdm_grammar.specs.declared.names.TheConstants.{MAX_MESSAGE_SIZE}
 use Rattle.spdm_grammar.specs.declared.told.phase.Stage.{Stage}
 use Rattle.spdm_grammar.specs.declared.told.phase.Stage.TheVariants as stage
 use Rattle.spdm_machine.specs.Keys.{Draw}
@@ -46,7 +42,7 @@ use Rattle.transcript.specs.Transcripts.{Negotiation}
 use Rattle.attest_laws.proofs.Exchanges.{AreTurns, IsTurn}
 use Rattle.attest_laws.proofs.Reading.{IsFetching, LeadsOn, chunk_leads, chunk_refused, large_leads, refused_leads, whole_leads}
 use Rattle.attest_laws.proofs.Turns.{AnswersLarge, AnswersWhole, GivesChunk, IsRefused, chunk_answered, collects, measure_answered}
-use Rattle.attest_laws.proofs.Waiting.{AskAwaits, AwaitsAnswer, AwaitsChunk}
+use Rattle.attest_laws.proofs.Waiting.{AwaitsAnswer, AwaitsChunk}
 
 -- ---- Replies are short, so their texts hold them.
 

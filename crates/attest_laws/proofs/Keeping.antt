@@ -7,7 +7,7 @@ use Rattle.responder_machine.specs.Answer.{Free}
 use Rattle.responder_machine.specs.Does.{IsMade, chosen, clear_chosen, record_chosen, responder_does}
 use Rattle.responder_machine.specs.History.{History, ended_of, kept_of, clear_turns, phase_of}
 use Rattle.responder_machine.specs.History.Entry.{Clear, Sealed, Queued, Ticked, Dropped}
-use Rattle.responder_machine.specs.Records.{opened, opening_fault}
+use Rattle.responder_machine.specs.Records.{opening_fault}
 use Rattle.responder_machine.specs.Responder.{Outcome, after, in_session, in_session_by, is_repeat, on_clear, on_record, repeats, session_turn, to_session}
 use Rattle.responder_machine.specs.Responder.Outcome.{Same, Unopened, Adds}
 use Rattle.responder_machine.specs.Session.{Event, Events, after_record, id_in_record, is_live, last_of, session_negotiation, session_of, stage_of, t2_of, turns_of}
@@ -16,17 +16,16 @@ use Rattle.responder_machine.specs.Setup.{RspSetup}
 use Rattle.responder_machine.specs.Turn.{Turn, takes}
 use Rattle.spdm_agreement.proofs.Delivery.AtResponder.{opened_in}
 use Rattle.spdm_agreement.proofs.Messages.Beginnings.{reading_of}
-use Rattle.spdm_agreement.proofs.Moves.Invariant.{Invariant}
 use Rattle.spdm_agreement.proofs.Moves.Runs.{holds}
 use Rattle.spdm_agreement.proofs.Responder.Counts.{IsCounted, other_second, other_stage}
 use Rattle.spdm_agreement.proofs.Responder.DataAnswered as serves
 use Rattle.spdm_agreement.proofs.Responder.FinishPlace.{made_steady, record_entry}
 use Rattle.spdm_agreement.proofs.Responder.OpenSessions.{ServedAt, served_stands}
-use Rattle.spdm_agreement.proofs.Worlds.EndSteps.{DoesWell, IsDraw, ServedReady, ServedStarts, Waits, serves_state}
+use Rattle.spdm_agreement.proofs.Worlds.EndSteps.{DoesWell, ServedStarts, Waits, serves_state}
 use Rattle.spdm_agreement.specs.Claims.{IsReached}
 use Rattle.spdm_agreement.specs.Configured.{IsResponder}
 use Rattle.spdm_agreement.specs.Marks.{Asked, Exchange, Served}
-use Rattle.spdm_agreement.specs.Story.{record_marks, reply_text, served_marks, taken_text}
+use Rattle.spdm_agreement.specs.Story.{record_marks, served_marks}
 use Rattle.spdm_basis.specs.declared.causes.record_fault.RecordFault.{RecordFault}
 use Rattle.spdm_grammar.specs.declared.names.request_code.TheConstants.{END_SESSION, GET_VERSION, PSK_EXCHANGE}
 use Rattle.spdm_grammar.specs.declared.told.phase.Phase.{Phase}

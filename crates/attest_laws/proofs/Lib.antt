@@ -7,3 +7,5 @@ pub mod Shapes
 pub mod Waiting
 pub mod Answering
 pub mod Taking
+pub mod Blocks
+pub mod Worlds

@@ -1,48 +1,25 @@
 -- The exchanges that a responder took under a T2 are turns of one session, and it keeps that whatever it does.
-use Rattle.std.proofs.Common.{◌≡◌, ◌+◌, ◌==◌, ◌&&◌, ℕ, List, [], ◌∷◌, ◌++◌, length, drop, Bool, true, false, cond, Option, Some, None, refl, sym, ap, ◌∙◌, subst, arith, bytes_eq, eqb-true, eq-eqb, true≢false}
-use Rattle.std.specs.Prelude.{slice_index}
+use Rattle.std.proofs.Common.{◌≡◌, ◌+◌, ◌&&◌, ℕ, List, [], ◌∷◌, ◌++◌, Bool, true, false, cond, refl, sym, ap, ◌∙◌, subst, arith, bytes_eq, true≢false}
 use Rattle.std.proofs.lemmas.Slice.Eq.{bytes_eq-Decides}
-use Rattle.responder_machine.proofs.Making.{does_made}
-use Rattle.responder_machine.proofs.Sizes.{session_sizes_set_up}
-use Rattle.responder_machine.specs.Answer.{Free}
-use Rattle.responder_machine.specs.Does.{IsMade, chosen, record_chosen, responder_does, clear_chosen}
-use Rattle.responder_machine.specs.History.{History, clear_turns, ended_of, kept_of, negotiation_of, phase_of}
-use Rattle.responder_machine.specs.History.Entry.{Clear, Sealed, Queued, Ticked, Dropped}
-use Rattle.responder_machine.specs.Records.{opened, opening_fault}
-use Rattle.responder_machine.specs.Responder.{Outcome, after, in_session, in_session_by, is_repeat, on_clear, on_record, repeats, to_session}
-use Rattle.responder_machine.specs.Responder.Outcome.{Same, Unopened, Adds}
-use Rattle.responder_machine.specs.ResponderLog.{acts_of, began_by}
-use Rattle.responder_machine.specs.Session.{Event, Events, after_exchange, after_record, after_tick, gives_id, id_in_record, is_live, last_of, response_next, session_negotiation, session_of, stage_of, t2_of, turns_of}
+use Rattle.responder_machine.specs.History.{History, clear_turns, negotiation_of}
+use Rattle.responder_machine.specs.ResponderLog.{began_by}
+use Rattle.responder_machine.specs.Session.{Event, Events, after_exchange, after_tick, gives_id, is_live, response_next, session_negotiation, session_of, stage_of, t2_of, turns_of}
 use Rattle.responder_machine.specs.Session.Event.{Began, Heard, Waited}
 use Rattle.responder_machine.specs.Setup.{RspSetup}
 use Rattle.responder_machine.specs.Turn.{Turn, answer_in, request_in, takes, updates}
-use Rattle.spdm_agreement.proofs.Delivery.AtResponder.{opened_in}
 use Rattle.spdm_agreement.proofs.Messages.Beginnings.{reading_of}
-use Rattle.spdm_agreement.proofs.Moves.Invariant.{Invariant}
-use Rattle.spdm_agreement.proofs.Moves.Runs.{holds}
-use Rattle.spdm_agreement.proofs.Responder.Bodies.{AreCounted}
-use Rattle.spdm_agreement.proofs.Responder.Counts.{IsCounted, other_second, other_stage, with_taken}
+use Rattle.spdm_agreement.proofs.Responder.Counts.{IsCounted, with_taken}
 use Rattle.spdm_agreement.proofs.Responder.DataAnswered as serves
-use Rattle.spdm_agreement.proofs.Responder.FinishPlace.{made_steady, record_entry}
-use Rattle.spdm_agreement.proofs.Responder.OpenSessions.{EndsByFinish, IsSteady, ServedAt, same_second, served_stands}
-use Rattle.spdm_agreement.proofs.Worlds.EndSteps.{DoesWell, IsDraw, ServedReady, ServedStarts, ServedStep, Waits, serves_state}
-use Rattle.spdm_agreement.specs.Configured.{IsResponder}
-use Rattle.spdm_agreement.specs.Marks.{Asked, Exchange, Served, count_of, taken}
+use Rattle.spdm_agreement.proofs.Responder.OpenSessions.{EndsByFinish, same_second}
+use Rattle.spdm_agreement.specs.Marks.{Exchange, Served, count_of, taken}
 use Rattle.spdm_agreement.specs.Marks.Served.{Finished, Refused, Took}
 use Rattle.spdm_agreement.specs.Reading.{First}
-use Rattle.spdm_agreement.specs.Story.{record_marks, reply_text, served_first, served_marks, served_turn, taken_text}
-use Rattle.spdm_basis.specs.declared.causes.record_fault.RecordFault.{RecordFault}
-use Rattle.spdm_grammar.specs.declared.names.TheConstants.{MAX_MESSAGE_SIZE}
-use Rattle.spdm_grammar.specs.declared.names.request_code.TheConstants.{END_SESSION, GET_VERSION, PSK_EXCHANGE, PSK_FINISH}
-use Rattle.spdm_grammar.specs.declared.told.phase.Phase.{Phase}
+use Rattle.spdm_agreement.specs.Story.{reply_text, served_first, served_marks, served_turn, taken_text}
+use Rattle.spdm_grammar.specs.declared.names.request_code.TheConstants.{PSK_FINISH}
 use Rattle.spdm_grammar.specs.declared.told.phase.Stage.{Stage}
 use Rattle.spdm_grammar.specs.declared.told.phase.Stage.TheVariants as stage
-use Rattle.spdm_machine.specs.Keys.{Draw}
 use Rattle.spdm_machine.specs.Sessions.{is_past_handshake}
-use Rattle.spdm_machine.specs.TagLog.{Log}
-use Rattle.transcript.specs.Transcripts.{Negotiation}
 use Rattle.attest_laws.proofs.Exchanges.{AreServed, AreTurns, IsTurn, served_more}
-use Rattle.attest_laws.proofs.Turns.{IsSettled}
 
 -- The exchanges under the T2 of a session that is held open are its turns.
 pub record IsShown (r : RspSetup) (s : Events) (m : List Served) : Type 0 where

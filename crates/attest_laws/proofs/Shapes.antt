@@ -1,14 +1,14 @@
 -- Which messages ask for chunks of measurements, and which records tell measurements: what answers GET_MEASUREMENTS, or
 -- a CHUNK_GET for its answer.
-use Rattle.std.proofs.Common.{◌≡◌, ◌==◌, ◌&&◌, ◌+◌, not, ℕ, List, [], ◌∷◌, drop, Bool, true, false, cond, Option, Some, None, Result, Ok, Err, refl, sym, ap, ◌∙◌, subst, inl, inr}
+use Rattle.std.proofs.Common.{◌≡◌, ◌==◌, ◌&&◌, not, ℕ, List, Bool, true, false, Option, Some, None, Result, Ok, Err, refl}
 use Rattle.std.specs.Prelude.{slice_index}
 use Rattle.chunking.specs.Collecting.{joined_with}
 use Rattle.requester_machine.specs.Answers.{is_refused}
 use Rattle.requester_machine.specs.ClearAnswers.{get_fault}
 use Rattle.requester_machine.specs.Commands.{Free, has_reached}
 use Rattle.requester_machine.specs.History.{History, Led}
-use Rattle.requester_machine.specs.History.Effect.{Grants, Nothing}
-use Rattle.requester_machine.specs.InnerMessages.{Came, chunk_led, data_led, echoes, error_led, first_get, follows, inner_fault, inner_led, inner_led_by, message_in, message_led, op_in, or_lost, read_led, reading_of, update_led, verified_led, whole_led}
+use Rattle.requester_machine.specs.History.Effect.{Nothing}
+use Rattle.requester_machine.specs.InnerMessages.{Came, chunk_led, data_led, echoes, error_led, first_get, follows, inner_fault, inner_led, inner_led_by, message_in, message_led, or_lost, read_led, reading_of, update_led, verified_led, whole_led}
 use Rattle.requester_machine.specs.Message.{Aim, Ask, Content, Sent}
 use Rattle.requester_machine.specs.Message.Aim.{InSession}
 use Rattle.requester_machine.specs.Message.Ask.{AskFinish, AskData, AskBeat, AskUpdate, AskVerify, AskMeasure, AskChunk, AskEnd}
@@ -25,7 +25,6 @@ use Rattle.spdm_grammar.specs.declared.messages.malformed.Malformed.{Malformed}
 use Rattle.spdm_grammar.specs.declared.messages.part_faults.ChunkFault.{ChunkFault}
 use Rattle.spdm_grammar.specs.declared.names.error_number.TheConstants.{LARGE_RESPONSE}
 use Rattle.spdm_grammar.specs.declared.told.event.BadReply.{BadReply}
-use Rattle.spdm_grammar.specs.declared.told.event.Event.{Event}
 use Rattle.spdm_grammar.specs.declared.told.event.Event.TheVariants as event
 use Rattle.spdm_grammar.specs.declared.told.event.Finished.TheVariants as finished
 

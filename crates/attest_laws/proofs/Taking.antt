@@ -1,44 +1,38 @@
 -- Whatever a requester does, what it measured in sessions was the responder's, where the exchanges of those sessions are
 -- turns of the responder.
-use Rattle.std.proofs.Common.{◌≡◌, ℕ, ◌==◌, List, [], ◌∷◌, ◌++◌, length, Bool, true, false, cond, Option, Some, None, Ok, refl, sym, ap, ◌∙◌, subst, inl, inr, arith, eq-eqb, true≢false}
+use Rattle.std.proofs.Common.{◌≡◌, ℕ, ◌==◌, List, [], ◌∷◌, Bool, true, false, cond, Option, Some, None, refl, sym, ap, ◌∙◌, subst, inl, inr, eq-eqb, true≢false}
 use Rattle.std.specs.Prelude.{unwrap_or}
 use Rattle.std.specs.Option.{option_or}
 use Rattle.std.specs.Result.{result_ok}
 use Rattle.requester_machine.proofs.MadeOrder.{in_order as ordered}
 use Rattle.requester_machine.proofs.Steps.{asked_stage}
-use Rattle.requester_machine.specs.Answers.{is_done}
 use Rattle.requester_machine.specs.Commands.{Free}
 use Rattle.requester_machine.specs.Does.{IsMade, body_chosen}
 use Rattle.requester_machine.specs.Hearing.{came_to}
 use Rattle.requester_machine.specs.History.{Effect, History, Led, outstanding}
 use Rattle.requester_machine.specs.History.Effect.{Grants}
 use Rattle.requester_machine.specs.History.Entry.{Told, TookClear, TookRecord}
-use Rattle.requester_machine.specs.InnerMessages.{inner_led, or_lost}
 use Rattle.requester_machine.specs.Message.{Aim, Ask, Content, Sent}
 use Rattle.requester_machine.specs.Message.Aim.{Plain, ByChunks, ForChunk, InSession}
 use Rattle.requester_machine.specs.Message.Ask.{AskFinish, AskData, AskBeat, AskUpdate, AskVerify, AskMeasure, AskChunk, AskEnd}
 use Rattle.requester_machine.specs.Message.Command.{Measure}
 use Rattle.requester_machine.specs.Message.Content.{Clear, Sealed}
 use Rattle.requester_machine.specs.Order.{stage_for}
-use Rattle.requester_machine.specs.Session.{Steps, after_record, answer_in, ends, finishes, finish_answer, finish_of, exchange_answer, exchange_of, is_live, session_of, session_vca, stage_of, t2_of, when_live, with_aim, with_content, with_sent}
-use Rattle.requester_machine.specs.Session.Step.{Asked, Took}
+use Rattle.requester_machine.specs.Session.{Steps, after_record, answer_in, ends, finishes, finish_answer, finish_of, exchange_answer, exchange_of, is_live, session_of, session_vca, stage_of, t2_of, with_aim, with_content, with_sent}
+use Rattle.requester_machine.specs.Session.Step.{Took}
 use Rattle.requester_machine.specs.Setup.{ReqSetup}
 use Rattle.requester_machine.specs.Shown.{blocks_in, blocks_of, bytes_in, last_data}
 use Rattle.responder_machine.specs.Setup.{RspSetup}
 use Rattle.responder_machine.specs.Turn.{Turn}
 use Rattle.spdm_agreement.proofs.Delivery.TakenAtRequester.{IsLedBy, led_by}
 use Rattle.spdm_agreement.proofs.Requester.Entries.{IsTookRecord, clear_entry, record_entry}
-use Rattle.spdm_agreement.proofs.Requester.RecordLeads.{IsNext, NextRecord, RecordLed}
+use Rattle.spdm_agreement.proofs.Requester.RecordLeads.{NextRecord}
 use Rattle.spdm_agreement.proofs.Requester.Waiting.{waited_for}
-use Rattle.spdm_agreement.specs.Marks.{Exchange, Text, heard}
+use Rattle.spdm_agreement.specs.Marks.{Exchange, heard}
 use Rattle.spdm_agreement.specs.Story.{ask_in, ask_of, asked_marks, sent_text}
 use Rattle.spdm_grammar.specs.Message.{ChunkMessage, ResponseMessage}
-use Rattle.spdm_grammar.specs.Message.ResponseMessage.{Measurements}
-use Rattle.spdm_grammar.specs.declared.names.TheConstants.{MAX_MESSAGE_SIZE}
-use Rattle.spdm_grammar.specs.declared.told.event.Event.{Event}
 use Rattle.spdm_grammar.specs.declared.told.event.Event.TheVariants as event
 use Rattle.spdm_grammar.specs.declared.told.event.Finished.TheVariants as finished
-use Rattle.spdm_grammar.specs.declared.told.phase.Stage.TheVariants as stage
 use Rattle.spdm_machine.proofs.Members.{some_same}
 use Rattle.spdm_machine.specs.Bodies.{clear_body, record_body}
 use Rattle.spdm_machine.specs.Keys.{Draw}
@@ -48,9 +42,9 @@ use Rattle.transcript.specs.Transcripts as transcript
 use Rattle.transcript.specs.Transcripts.{Negotiation}
 use Rattle.attest_laws.proofs.Answering.{chunk_leads_on, heard_now, measure_leads}
 use Rattle.attest_laws.proofs.Exchanges.{AreTurns}
-use Rattle.attest_laws.proofs.Reading.{GetsChunk, IsFetching, IsMeasured, IsQuiet, LeadsOn, NoGet, NoGetAim, measured_read}
+use Rattle.attest_laws.proofs.Reading.{GetsChunk, IsFetching, IsMeasured, LeadsOn, NoGet, NoGetAim, measured_read}
 use Rattle.attest_laws.proofs.Shapes.{AimShape, AskShape, LedShape, NextShape, led_shape, op_asked}
-use Rattle.attest_laws.proofs.Waiting.{AreMeasured, AskAwaits, AimAwaits, Awaits, AwaitsChunk, IsMeasuredBy, awaited_command, clear_led_awaits, told_awaits}
+use Rattle.attest_laws.proofs.Waiting.{AreMeasured, AskAwaits, AimAwaits, Awaits, IsMeasuredBy, awaited_command, clear_led_awaits, told_awaits}
 use Rattle.attest_laws.specs.Measured.{last_command}
 
 -- ---- The T2 of a session stays.

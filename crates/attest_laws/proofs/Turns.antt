@@ -1,15 +1,15 @@
 -- What a session of the responder makes of GET_MEASUREMENTS and of CHUNK_GET.
-use Rattle.std.proofs.Common.{◌≡◌, ◌≢◌, ◌⊎◌, ◌∙◌, ℕ, ◌<◌, ◌≤◌, ◌+◌, ◌==◌, List, [], ◌∷◌, length, Bool, true, false, ◌||◌, ◌-◌, nat_lt, Option, Some, None, refl, sym, ap, subst, inl, inr, arith}
+use Rattle.std.proofs.Common.{◌≡◌, ◌≢◌, ◌⊎◌, ◌∙◌, ℕ, ◌<◌, ◌≤◌, ◌+◌, List, [], ◌∷◌, length, Bool, true, false, ◌||◌, ◌-◌, nat_lt, Option, Some, None, refl, sym, ap, subst, inl, inr, arith}
 use Rattle.std.specs.Prelude.{unwrap_or, ◌^◌}
 use Rattle.std.proofs.lemmas.Bool.{false≢true, ltb-false, ltb-true, lt-ltb}
 use Rattle.spdm_basis.proofs.Bools.{lt_false}
 use Rattle.capture_machine.proofs.SmallGets.{get_fits}
-use Rattle.capture_machine.proofs.TurnsAlike.{is_request, refusal_other}
+use Rattle.capture_machine.proofs.TurnsAlike.{refusal_other}
 use Rattle.chunking.specs.Cutting.{IsCollectable, chunk_count, nth_chunk}
 use Rattle.responder_machine.proofs.Tests.{contents_shown}
 use Rattle.responder_machine.proofs.Turns.{turn_of-refused}
-use Rattle.responder_machine.specs.Answer.{Free, answer_bytes, answer_of, request_at}
-use Rattle.responder_machine.specs.Handling.{chunk_in, error_bytes, goes_large, large_response, refused_turn, turn_of}
+use Rattle.responder_machine.specs.Answer.{Free, answer_of, request_at}
+use Rattle.responder_machine.specs.Handling.{chunk_in, goes_large, large_response, refused_turn}
 use Rattle.responder_machine.specs.LargeMessages.{large_of, pending_of, still_pending}
 use Rattle.responder_machine.specs.Place.{Place, place_terms, session_place}
 use Rattle.responder_machine.specs.Refusal.{is_answer_too_long, refusal}
@@ -20,23 +20,22 @@ use Rattle.responder_machine.specs.SizeLaws.{HasSizes}
 use Rattle.responder_machine.specs.Turn.{Turn}
 use Rattle.spdm_agreement.proofs.Responder.Negotiation.{answered}
 use Rattle.spdm_grammar.proofs.Spellings.{read_iff}
-use Rattle.spdm_grammar.specs.Message.{ChunkMessage, RequestMessage}
+use Rattle.spdm_grammar.specs.Message.{RequestMessage}
 use Rattle.spdm_grammar.specs.Message.RequestMessage.{ChunkGet, GetMeasurements}
 use Rattle.spdm_grammar.specs.Message.ResponseMessage.{ChunkResponse}
-use Rattle.spdm_grammar.specs.Requests.{IsRequestSpelling, canonical_request, get_measurements_layout, request_body, request_layout}
+use Rattle.spdm_grammar.specs.Requests.{IsRequestSpelling, get_measurements_layout, request_body, request_layout}
 use Rattle.spdm_grammar.specs.Responses.{canonical_response}
 use Rattle.spdm_grammar.specs.declared.messages.error_code.ErrorCode.{ErrorCode}
 use Rattle.spdm_grammar.specs.declared.messages.error_code.ErrorCode.TheVariants.{LargeResponse}
 use Rattle.spdm_grammar.specs.declared.names.TheConstants.{MAX_MESSAGE_SIZE, MIN_DATA_TRANSFER_SIZE}
 use Rattle.spdm_grammar.specs.declared.names.request_code.TheConstants.{GET_MEASUREMENTS}
 use Rattle.spdm_grammar.specs.declared.names.spdm_version.TheConstants.{V1_2}
-use Rattle.spdm_machine.proofs.Members.{some_same}
 use Rattle.spdm_machine.specs.Terms.{hash_len, terms_of}
 use Rattle.spdm_progress.proofs.ChunkCounts.{some_of}
 use Rattle.spdm_progress.proofs.ChunkRules.{fits_chunk}
 use Rattle.spdm_progress.proofs.ClearFetch.{IsPending, chunk_response, get_chunk, some_if, transfer_in}
-use Rattle.spdm_progress.proofs.MeasureStages.{get_measurements, measurements, measurements_are}
-use Rattle.spdm_progress.proofs.ResponderTurns.{read_at, taken_somehow, taken_turn, turn_with}
+use Rattle.spdm_progress.proofs.MeasureStages.{get_measurements, measurements}
+use Rattle.spdm_progress.proofs.ResponderTurns.{read_at, taken_somehow, turn_with}
 use Rattle.spdm_progress.proofs.SessionTurns.{read_inside}
 use Rattle.transcript.specs.Transcripts.{Negotiation}
 
@@ -72,11 +71,28 @@ module _ (r : RspSetup) (s : Events) (m : List ℕ) (f : Free) (v : RequestMessa
 
 measure_spelled : (len op : ℕ) → IsRequestSpelling len (GetMeasurements op) (get_measurements op)
 unfolding request_body get_measurements_layout
-measure_spelled len op =
-    (V1_2 ∷ [], GET_MEASUREMENTS ∷ 0 ∷ op ∷ [], refl, refl, refl,
-    (GET_MEASUREMENTS ∷ [], 0 ∷ op ∷ [], refl, refl, refl,
-    (0 ∷ [], op ∷ [], refl, refl, refl,
-    (op ∷ [], [], refl, refl, refl, (ap GetMeasurements (omega arith), refl)))))
+measure_spelled len op = (
+  V1_2 ∷ [],
+  GET_MEASUREMENTS ∷ 0 ∷ op ∷ [],
+  refl,
+  refl,
+  refl,
+  (
+    GET_MEASUREMENTS ∷ [],
+    0 ∷ op ∷ [],
+    refl,
+    refl,
+    refl,
+    (
+      0 ∷ [],
+      op ∷ [],
+      refl,
+      refl,
+      refl,
+      (op ∷ [], [], refl, refl, refl, (ap GetMeasurements (omega arith), refl)),
+    ),
+  ),
+)
 
 pub measure_read : (p : Place) (op : ℕ) → request_at p (get_measurements op) ≡ Some (GetMeasurements op)
 measure_read p op = (read_iff (request_layout (hash_len (place_terms p))) (GetMeasurements op) (get_measurements op)).1 (measure_spelled (hash_len (place_terms p)) op)

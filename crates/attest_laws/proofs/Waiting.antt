@@ -1,6 +1,6 @@
 -- What a requester keeps while it waits for measurements in a session, by its own history alone: what was asked, and of
 -- a large answer the chunks that came.
-use Rattle.std.proofs.Common.{◌≡◌, ℕ, ◌==◌, List, [], ◌∷◌, length, Bool, true, false, cond, Option, Some, None, refl, sym, ap, ◌∙◌, subst, inl, inr}
+use Rattle.std.proofs.Common.{◌≡◌, ℕ, List, [], ◌∷◌, length, Bool, true, false, cond, Option, Some, None, refl, sym, ap, ◌∙◌, subst, inl, inr}
 use Rattle.std.specs.Prelude.{nat_lt}
 use Rattle.requester_machine.proofs.Entries.{asked}
 use Rattle.requester_machine.specs.Asking.{Outcome, done, resent}
@@ -20,7 +20,7 @@ use Rattle.requester_machine.specs.Shown.{blocks_in, last_data}
 use Rattle.responder_machine.specs.Setup.{RspSetup}
 use Rattle.responder_machine.specs.Turn.{Turn}
 use Rattle.secured_record.specs.Format.{plain_text}
-use Rattle.spdm_agreement.proofs.Requester.ClearLeads.{IsClearAim, NextClear, either}
+use Rattle.spdm_agreement.proofs.Requester.ClearLeads.{IsClearAim, NextClear}
 use Rattle.spdm_agreement.proofs.Requester.Entries.{IsTookClear}
 use Rattle.spdm_agreement.specs.Marks.{Text, heard}
 use Rattle.spdm_agreement.specs.Story.{asked_marks, sent_text}
