@@ -37,7 +37,21 @@ use Rattle.responder_machine.specs.Session.{Event}
 use Rattle.requester_machine.specs.Setup.{ReqSetup}
 use Rattle.responder_machine.specs.Setup.{RspSetup}
 use Rattle.responder_machine.specs.Turn.{Turn, takes}
+use Rattle.spdm_machine.specs.TagLog.{Log}
 use Rattle.spdm_grammar.specs.declared.names.request_code.TheConstants.{PSK_EXCHANGE, PSK_FINISH}
+
+-- ---- Where ends go on from.
+
+-- What ends go on from: the marks of the requester and of the responder's connection of each set-up, and the tags that all
+-- ends computed and compared, all from before the first moment of their histories.
+pub record Past : Type 0 where
+  pub asked : ReqSetup → List Asked
+  pub served : RspSetup → List Served
+  pub log : Log
+
+-- Nothing was before.
+abbrev pub no_past : Past
+no_past = record { asked = λ q. []; served = λ r. []; log = [] }
 
 -- ---- What is read off a record.
 
@@ -111,12 +125,17 @@ taken_marks stage.Open q s waiting sealed inner led =
 taken_marks stage.Verifying q s waiting sealed inner led =
     next_marks (Step.Took sealed inner led.effect ∷ s) led.next ++ Heard (requester.t2_of s) (request_text waiting) (answer_text q.psk s (ask_in waiting) sealed) ∷ []
 
+-- The marks of a history, in front of those from which its end goes on.
+abbrev pub asked_from : Past → ReqSetup → asked.History → List Asked
+asked_from prior q [] = prior.asked q
+asked_from prior q (Told command sent d ∷ older) = command_marks older command sent d ++ asked_from prior q older
+asked_from prior q (TookClear tag m led d ∷ older) = clear_marks older led.effect ++ asked_from prior q older
+asked_from prior q (TookRecord tag id sealed inner led d ∷ older) =
+    taken_marks (requester.stage_of (requester.session_of id older)) q (requester.session_of id older) (asked.outstanding older) sealed inner led ++ asked_from prior q older
+
+-- The marks of a history alone.
 abbrev pub asked_marks : ReqSetup → asked.History → List Asked
-asked_marks q [] = []
-asked_marks q (Told command sent d ∷ older) = command_marks older command sent d ++ asked_marks q older
-asked_marks q (TookClear tag m led d ∷ older) = clear_marks older led.effect ++ asked_marks q older
-asked_marks q (TookRecord tag id sealed inner led d ∷ older) =
-    taken_marks (requester.stage_of (requester.session_of id older)) q (requester.session_of id older) (asked.outstanding older) sealed inner led ++ asked_marks q older
+asked_marks q h = asked_from no_past q h
 
 -- ---- The responder.
 
@@ -144,8 +163,11 @@ record_marks r (e ∷ s) sealed t reply = served_turn (responder.stage_of (e ∷
 abbrev pub began_marks : served.History → Turn → List Served
 began_marks h t = if takes PSK_EXCHANGE t then Began (served_first (began_by h t)) ∷ [] else []
 
+abbrev pub served_from : Past → RspSetup → served.History → List Served
+served_from prior r [] = prior.served r
+served_from prior r (Entry.Clear tag t d ∷ older) = began_marks older t ++ served_from prior r older
+served_from prior r (Entry.Sealed tag sealed t reply d ∷ older) = record_marks r (responder.session_of (responder.id_in_record sealed) older) sealed t reply ++ served_from prior r older
+served_from prior r (_ ∷ older) = served_from prior r older
+
 abbrev pub served_marks : RspSetup → served.History → List Served
-served_marks r [] = []
-served_marks r (Entry.Clear tag t d ∷ older) = began_marks older t ++ served_marks r older
-served_marks r (Entry.Sealed tag sealed t reply d ∷ older) = record_marks r (responder.session_of (responder.id_in_record sealed) older) sealed t reply ++ served_marks r older
-served_marks r (_ ∷ older) = served_marks r older
+served_marks r h = served_from no_past r h

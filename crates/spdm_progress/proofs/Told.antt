@@ -14,8 +14,9 @@ use Rattle.world_machine.specs.World.{is_at, number_at, World, requester_of}
 use Rattle.spdm_agreement.proofs.Requester.AfterBody as bodies
 use Rattle.spdm_agreement.proofs.Requester.Whole as asks
 use Rattle.spdm_agreement.proofs.Responder.DataAnswered as serves
-use Rattle.spdm_agreement.proofs.Worlds.AllEvents.{after_good, requester_in}
+use Rattle.spdm_agreement.proofs.Worlds.AllEvents.{after_fits, requester_in}
 use Rattle.spdm_agreement.proofs.Worlds.Fits.{Fits, same_key}
+use Rattle.spdm_agreement.specs.Story.{no_past}
 use Rattle.spdm_agreement.specs.Configured.{IsConfigured, IsRequester, IsResponder, AreApart, setups_of}
 use Rattle.spdm_progress.proofs.Drawn.{AreDrawn}
 use Rattle.spdm_progress.proofs.PacketSteps.{Pair, AreEnds}
@@ -25,9 +26,10 @@ use Rattle.responder_machine.specs.Does.{IsMade}
 
 -- ---- What every world of a set-up has.
 
-pub fits_always : (w : WorldSetup) → IsConfigured w → (entries : List Entry) → NoChance (world_after w entries).log → Fits asks.IsKept serves.IsKept (world_after w entries)
+pub fits_always : (w : WorldSetup) → IsConfigured w → (entries : List Entry) → NoChance (world_after w entries).log → Fits no_past (asks.IsKept no_past) (serves.IsKept no_past) (world_after w entries)
 fits_always w c entries chance =
-    (after_good asks.IsKept serves.IsKept asks.starts asks.asks_well asks.hears_well bodies.steady serves.served_starts serves.does_well serves.waits w c entries).fits chance
+    after_fits (asks.IsKept no_past) (serves.IsKept no_past) (asks.starts no_past asks.begins_openly) (asks.asks_well no_past) (asks.hears_well no_past) bodies.steady
+    (serves.served_starts no_past serves.begins_duly) (serves.does_well no_past) (serves.waits no_past) w c entries chance
 
 pub differ_all : (qs : List ReqSetup) → AreApart qs → AllDiffer (map (λ (q : ReqSetup). q.eid) qs)
 differ_all [] apart = tt

@@ -195,12 +195,16 @@ sound psk t e =
     record { negotiated = one.0; exchange = two.0; answer = (bytes_eq-Decides t.answer (without_verify (first_hash t) t.answer ++ answer_verify psk t)).0 two.1 }
 
 -- Where the bytes after the negotiation and PSK_EXCHANGE are one, so are these.
-began : (psk : List ℕ) (s t : First) (x y : List ℕ) → IsSound psk s → IsSound psk t → vca_of s.negotiation ++ s.exchange ++ x ≡ vca_of t.negotiation ++ t.exchange ++ y → (s.negotiation ≡ t.negotiation) × (s.exchange ≡ t.exchange) × (x ≡ y)
-began psk s t x y p q e =
-    let one = negotiation_told s.negotiation t.negotiation (s.exchange ++ x) (t.exchange ++ y) p.negotiated q.negotiated (sym (append_assoc (vca_of s.negotiation) s.exchange x) ∙ e ∙ append_assoc (vca_of t.negotiation) t.exchange y) in
-    let read : is_request (hash_len (first_terms s)) t.exchange ≡ true = subst (λ (n : Negotiation). is_request (hash_len (terms_of n)) t.exchange ≡ true) (sym one.0) q.exchange in
-    let two = request_told_by (hash_len (first_terms s)) s.exchange t.exchange x y p.exchange read one.1 in
+pub parts_told : (s t : First) (x y : List ℕ) → is_negotiated s.negotiation ≡ true → is_negotiated t.negotiation ≡ true → is_request (hash_len (first_terms s)) s.exchange ≡ true → is_request (hash_len (first_terms t)) t.exchange ≡ true
+    → vca_of s.negotiation ++ s.exchange ++ x ≡ vca_of t.negotiation ++ t.exchange ++ y → (s.negotiation ≡ t.negotiation) × (s.exchange ≡ t.exchange) × (x ≡ y)
+parts_told s t x y n m a b e =
+    let one = negotiation_told s.negotiation t.negotiation (s.exchange ++ x) (t.exchange ++ y) n m (sym (append_assoc (vca_of s.negotiation) s.exchange x) ∙ e ∙ append_assoc (vca_of t.negotiation) t.exchange y) in
+    let read : is_request (hash_len (first_terms s)) t.exchange ≡ true = subst (λ (n : Negotiation). is_request (hash_len (terms_of n)) t.exchange ≡ true) (sym one.0) b in
+    let two = request_told_by (hash_len (first_terms s)) s.exchange t.exchange x y a read one.1 in
     (one.0, two.0, two.1)
+
+began : (psk : List ℕ) (s t : First) (x y : List ℕ) → IsSound psk s → IsSound psk t → vca_of s.negotiation ++ s.exchange ++ x ≡ vca_of t.negotiation ++ t.exchange ++ y → (s.negotiation ≡ t.negotiation) × (s.exchange ≡ t.exchange) × (x ≡ y)
+began psk s t x y p q e = parts_told s t x y p.negotiated q.negotiated p.exchange q.exchange e
 
 pub transcript_tells : (psk : List ℕ) (s t : First) → is_sound_first psk s ≡ true → is_sound_first psk t ≡ true → transcript_of s ≡ transcript_of t → s ≡ t
 transcript_tells psk s t p q e =
@@ -295,6 +299,10 @@ summary_size size _ = 0
 
 abbrev pub answer_context : First → List ℕ
 answer_context t = drop (12 + summary_size (hash_len (first_terms t)) (exchange_in t)) t.answer
+
+-- The number of the draw in the context of PSK_EXCHANGE_RSP, read off what stands before the verify data.
+abbrev pub front_draw : First → ℕ
+front_draw t = context_number (first_terms t).choice.hash (drop (12 + summary_size (hash_len (first_terms t)) (exchange_in t)) (without_verify (first_hash t) t.answer))
 
 -- Of the text of a record: the type of the inner message, and the code and Param1 of the SPDM message in it.
 abbrev pub is_message : ℕ → List ℕ → Bool

@@ -46,7 +46,7 @@ pub record Grows (r : Reading) (asked : List Asked) (served : List Served) (aske
   pub took : (u : List ℕ) (l : List Exchange) → IsEarlier l (taken u served) → IsEarlier l (taken u served')
 
 backed_as_grows : (r : Reading) (asked : List Asked) (served : List Served) (asked' : List Asked) (served' : List Served) → Grows r asked served asked' served' → (kind : Kind) (direction : Direction) (t1 : List ℕ) (e : ℕ) (i : List ℕ) → IsBackedAs r asked served kind direction t1 e i → IsBackedAs r asked' served' kind direction t1 e i
-backed_as_grows r asked served asked' served' g Verify Request t1 e i b = tt
+backed_as_grows r asked served asked' served' g Verify Request t1 e i b = (b.0, b.1, g.accepted b.0 b.2)
 backed_as_grows r asked served asked' served' g Verify Response t1 e i b = (b.0, b.1, g.begun b.0 b.2)
 backed_as_grows r asked served asked' served' g HandshakeRecord Request t1 e i b = record { first = b.first; is = b.is; story = g.accepted b.first b.story; covers = b.covers }
 backed_as_grows r asked served asked' served' g HandshakeRecord Response t1 e i b = record { first = b.first; is = b.is; reply = b.reply; story = g.replied b.first b.reply b.story; covers = b.covers }
@@ -91,7 +91,7 @@ module _ (r : Reading) (asked : List Asked) (served : List Served) (log : Log) (
   start_keeps id draw new = record {
     asks = asks_start r asked id draw new k.asks;
     serves = k.serves;
-    links = (let l = k.links in record { accepted = l.accepted; finished = l.finished; opened = l.opened; ever = l.ever; order = l.order; ahead = l.ahead });
+    links = (let l = k.links in record { accepted = l.accepted; finished = l.finished; replied = l.replied; opened = l.opened; ever = l.ever; order = l.order; ahead = l.ahead });
     backed = λ p i m own. backed_grows r asked served (Started id draw ∷ asked) served (record { accepted = λ t a. a; opened = λ t u a. a; begun = λ t a. a; finished = λ t u a. a; replied = λ t b a. a; said = λ u b l a. a; took = λ u l a. a }) p i (k.backed p i m own);
   }
 
@@ -103,7 +103,7 @@ module _ (r : Reading) (asked : List Asked) (served : List Served) (log : Log) (
   begin_keeps t well d v = record {
     asks = k.asks;
     serves = serves_begin r served t well d k.serves;
-    links = (let l = k.links in record { accepted = λ s a. inr (l.accepted s a); finished = l.finished; opened = l.opened; ever = l.ever; order = l.order; ahead = l.ahead });
+    links = (let l = k.links in record { accepted = λ s a. inr (l.accepted s a); finished = l.finished; replied = l.replied; opened = l.opened; ever = l.ever; order = l.order; ahead = l.ahead });
     backed = backed_more r asked served asked (Began t ∷ served) (response_verify r t) (r.transcript t) (record { accepted = λ t a. a; opened = λ t u a. a; begun = λ t a. inr a; finished = λ t u a. a; replied = λ t b a. a; said = λ u b l a. a; took = λ u l a. a }) (t, refl, inl refl) k.backed;
   }
 
@@ -115,6 +115,7 @@ module _ (r : Reading) (asked : List Asked) (served : List Served) (log : Log) (
     links = record {
       accepted = λ s a. elim a [ inl e ↦ subst (λ (y : First). HasBegun served y) (sym e) b | inr y ↦ l.accepted s y ];
       finished = λ s f. inr (l.finished s f);
+      replied = λ s b y. inr (l.replied s b y);
       opened = λ id y e. accept_opened _ id y e;
       ever = l.ever;
       order = λ s z a f lt. elim a [
@@ -124,7 +125,7 @@ module _ (r : Reading) (asked : List Asked) (served : List Served) (log : Log) (
       ahead = l.ahead;
     };
     backed = backed_more r asked' served asked' served (request_shake r t) (covered r t (request_shake r t) 0 (r.finish t)) (record { accepted = λ t a. a; opened = λ t u a. a; begun = λ t a. a; finished = λ t u a. a; replied = λ t b a. a; said = λ u b l a. a; took = λ u l a. a }) (record { first = t; is = refl; story = inl refl; covers = refl })
-        (backed_more r asked served asked' served (request_verify r t) input (record { accepted = λ t a. inr a; opened = λ t u a. a; begun = λ t a. a; finished = λ t u a. a; replied = λ t b a. a; said = λ u b l a. a; took = λ u l a. a }) tt k.backed);
+        (backed_more r asked served asked' served (request_verify r t) input (record { accepted = λ t a. inr a; opened = λ t u a. a; begun = λ t a. a; finished = λ t u a. a; replied = λ t b a. a; said = λ u b l a. a; took = λ u l a. a }) (t, refl, inl refl) k.backed);
   }
     where
       l : Linked r asked served
@@ -141,6 +142,7 @@ module _ (r : Reading) (asked : List Asked) (served : List Served) (log : Log) (
     links = record {
       accepted = l.accepted;
       finished = λ s f. elim f [ inl e ↦ subst (λ (y : First). IsAccepted asked y) (sym e) a | inr y ↦ l.finished s y ];
+      replied = λ s b f. elim f [ inl e ↦ subst (λ (y : First). IsAccepted asked y) (sym e.0) a | inr y ↦ l.replied s b y ];
       opened = λ id y e. inr (l.opened id y e);
       ever = λ s v o. inr (l.ever s v o);
       order = λ s z b f lt. elim f [
@@ -160,12 +162,12 @@ module _ (r : Reading) (asked : List Asked) (served : List Served) (log : Log) (
       newest : HasBegun served t × ((s : First) → HasBegun served s → r.responder_draw s ≤ r.responder_draw t) × ((b : Text) → HasReplied r served t b → ⊥)
       newest = k.serves.shakes t w
 
-  pub refuse_keeps : (t : First) (reply : List ℕ) → handshake served ≡ Some t → r.opens reply ≡ false
+  pub refuse_keeps : (t : First) (reply : List ℕ) → handshake served ≡ Some t → IsAccepted asked t → r.opens reply ≡ false
       → (v : List ℕ) → Invariant r asked (Refused t reply ∷ served) (Made (response_shake r t) (covered r t (response_shake r t) 0 reply) v ∷ log)
-  refuse_keeps t reply w closed v = record {
+  refuse_keeps t reply w a closed v = record {
     asks = k.asks;
     serves = serves_refuse r served t reply w closed k.serves;
-    links = (let l = k.links in record { accepted = l.accepted; finished = l.finished; opened = l.opened; ever = l.ever; order = l.order; ahead = l.ahead });
+    links = (let l = k.links in record { accepted = l.accepted; finished = l.finished; replied = λ s b f. elim f [ inl e ↦ subst (λ (y : First). IsAccepted asked y) (sym e.0) a | inr y ↦ l.replied s b y ]; opened = l.opened; ever = l.ever; order = l.order; ahead = l.ahead });
     backed = backed_more r asked served asked (Refused t reply ∷ served) (response_shake r t) (covered r t (response_shake r t) 0 reply) (record { accepted = λ t a. a; opened = λ t u a. a; begun = λ t a. a; finished = λ t u a. a; replied = λ t b a. inr a; said = λ u b l a. a; took = λ u l a. a }) (record { first = t; is = refl; reply = reply; story = inl (refl, refl); covers = refl }) k.backed;
   }
 
@@ -177,7 +179,7 @@ module _ (r : Reading) (asked : List Asked) (served : List Served) (log : Log) (
   open_keeps t u w f right = record {
     asks = asks_open r asked t u w right k.asks;
     serves = k.serves;
-    links = (let l = k.links in record { accepted = l.accepted; finished = l.finished; opened = λ id y e. open_opened _ t u id y f e; ever = λ s v o. elim o [ inl e ↦ subst (λ (z : First). HasFinished served z) (sym e.0) f | inr y ↦ l.ever s v y ]; order = l.order; ahead = l.ahead });
+    links = (let l = k.links in record { accepted = l.accepted; finished = l.finished; replied = l.replied; opened = λ id y e. open_opened _ t u id y f e; ever = λ s v o. elim o [ inl e ↦ subst (λ (z : First). HasFinished served z) (sym e.0) f | inr y ↦ l.ever s v y ]; order = l.order; ahead = l.ahead });
     backed = λ p i m own. backed_grows r asked served (Opened t u ∷ asked) served (record { accepted = λ t a. a; opened = λ t u a. inr a; begun = λ t a. a; finished = λ t u a. a; replied = λ t b a. a; said = λ u b l a. a; took = λ u l a. a }) p i (k.backed p i m own);
   }
 
@@ -195,6 +197,7 @@ module _ (r : Reading) (asked : List Asked) (served : List Served) (log : Log) (
     links = (let l = k.links in record {
       accepted = l.accepted;
       finished = l.finished;
+      replied = l.replied;
       opened = l.opened;
       ever = l.ever;
       order = l.order;
@@ -247,6 +250,7 @@ module _ (r : Reading) (asked : List Asked) (served : List Served) (log : Log) (
     links = (let l = k.links in record {
       accepted = l.accepted;
       finished = l.finished;
+      replied = l.replied;
       opened = l.opened;
       ever = l.ever;
       order = l.order;
@@ -292,6 +296,7 @@ module _ (r : Reading) (asked : List Asked) (served : List Served) (log : Log) (
     links = (let l = k.links in record {
       accepted = l.accepted;
       finished = l.finished;
+      replied = l.replied;
       opened = l.opened;
       ever = l.ever;
       order = l.order;

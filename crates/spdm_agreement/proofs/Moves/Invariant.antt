@@ -60,6 +60,7 @@ pub record ServedWell (r : Reading) (h : List Served) : Type 0 where
 pub record Linked (r : Reading) (asked : List Asked) (served : List Served) : Type 0 where
   pub accepted : (t : First) → IsAccepted asked t → HasBegun served t
   pub finished : (t : First) → HasFinished served t → IsAccepted asked t
+  pub replied : (t : First) (b : Text) → HasReplied r served t b → IsAccepted asked t
   pub opened : (id : ℕ) (x : First × List ℕ) → asked_open r id asked ≡ Some x → HasFinished served x.0
   pub ever : (t : First) (u : List ℕ) → IsOpened asked t u → HasFinished served t
   pub order : (s t : First) → IsAccepted asked s → HasFinished served t → r.requester_draw s < r.requester_draw t → r.responder_draw s < r.responder_draw t
@@ -103,7 +104,7 @@ pub record IsShaken (r : Reading) (served : List Served) (transcript : List ℕ)
 
 -- The story after a tag that was made.
 abbrev pub IsBackedAs : Reading → List Asked → List Served → Kind → Direction → (transcript : List ℕ) → (epoch : ℕ) → (input : List ℕ) → Type 0
-IsBackedAs r asked served Verify Request t1 e i = Unit {0}
+IsBackedAs r asked served Verify Request t1 e i = (t : First) × (r.transcript t ≡ t1) × IsAccepted asked t
 IsBackedAs r asked served Verify Response t1 e i = (t : First) × (r.transcript t ≡ t1) × HasBegun served t
 IsBackedAs r asked served HandshakeRecord Request t1 e i = IsShake r asked t1 i
 IsBackedAs r asked served HandshakeRecord Response t1 e i = IsShaken r served t1 i

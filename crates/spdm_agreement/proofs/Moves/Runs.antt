@@ -61,7 +61,7 @@ refuse_good r s t number b at reply v l k n =
     let is = shaken r s k n t number b l.0 l.1 in
     let then = l.2 is.1 in
     subst (λ (m : ℕ). Invariant r s.asked (Served.Refused t reply ∷ s.served) (Made (response_shake r t) (covered r t (response_shake r t) m reply) v ∷ s.log)) (sym then.0.1)
-    (refuse_keeps r _ _ _ k t reply then.0.0 then.1 v)
+    (refuse_keeps r _ _ _ k t reply then.0.0 is.0 then.1 v)
 
 open_good : (r : Reading) (s : State) (t : First) (u : List ℕ) (b : Text) → IsLegal r (Open t u b) s → Invariant r s.asked s.served s.log → NoChance s.log → Invariant r (Asked.Opened t u ∷ s.asked) s.served s.log
 open_good r s t u b l k n =
@@ -124,7 +124,7 @@ starts_good r = record {
       only = λ t b c a. elim a [ ];
       quiet = λ u n. refl;
     };
-    links = record { accepted = λ t a. elim a [ ]; finished = λ t a. elim a [ ]; opened = λ id x e. absurd (none_some _ e); ever = λ t u a. elim a [ ]; order = λ s t a. elim a [ ]; ahead = λ u. inl refl };
+    links = record { accepted = λ t a. elim a [ ]; finished = λ t a. elim a [ ]; replied = λ t b a. elim a [ ]; opened = λ id x e. absurd (none_some _ e); ever = λ t u a. elim a [ ]; order = λ s t a. elim a [ ]; ahead = λ u. inl refl };
     backed = λ p i m. elim m [ ];
   };
 }

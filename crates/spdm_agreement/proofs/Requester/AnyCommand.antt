@@ -26,6 +26,7 @@ use Rattle.spdm_agreement.proofs.Requester.NegotiationInvariant.{PhaseSound, Ask
 use Rattle.spdm_agreement.proofs.Requester.RecordLeads.{NextRecord}
 use Rattle.spdm_agreement.proofs.Worlds.EndSteps.{AsksWell}
 use Rattle.spdm_agreement.proofs.Messages.Beginnings.{is_negotiated}
+use Rattle.spdm_agreement.specs.Story.{Past}
 
 plain_ask : (n : Negotiation) (o : Option RequestMessage) → NoNegotiation o → AskSound n o
 plain_ask n None k = tt
@@ -73,5 +74,5 @@ pub negotiates : ((q : ReqSetup) → IsRequester q → OwnReads q) → Negotiate
 negotiates own q h setup made e = complete (phase_of h) (negotiation_of h) e (made_sound q (own q setup) h made).0
 
 -- Whatever command comes, where the own requests of a negotiation are read as they were written.
-pub asks_well_by : ((q : ReqSetup) → IsRequester q → OwnReads q) → AsksWell AskedKept
-asks_well_by own = asks_well (negotiates own)
+pub asks_well_by : (prior : Past) → ((q : ReqSetup) → IsRequester q → OwnReads q) → AsksWell prior (AskedKept prior)
+asks_well_by prior own = asks_well prior (negotiates own)

@@ -27,7 +27,7 @@ use Rattle.spdm_machine.specs.Terms.{hash_len, terms_of}
 use Rattle.transcript.specs.Transcripts.{Negotiation}
 use Rattle.spdm_agreement.specs.Marks as marks
 use Rattle.spdm_agreement.specs.Marks.{Served, Text}
-use Rattle.spdm_agreement.specs.Story.{asked_marks, asked_first, clear_marks}
+use Rattle.spdm_agreement.specs.Story.{Past, asked_from, asked_first, clear_marks}
 use Rattle.spdm_agreement.proofs.Requester.ExchangeMoves.{accepts, sound_first, draw_told, finish_inner}
 use Rattle.spdm_agreement.proofs.Requester.Comparisons.{check_leads, clear_is_check}
 use Rattle.spdm_agreement.proofs.Requester.ClearLeads.{NextClear, IsPlain, IsAside}
@@ -66,29 +66,29 @@ next_stays : (id : ℕ) (asked : RequestMessage) (effect : Effect) (next : Optio
 next_stays id asked effect None s k = (refl, refl)
 next_stays id asked effect (Some x) s k = (stays_clear id x.aim x.content s k.1, none_in id x.aim x.content k.1)
 
-pub aside_leads : (q : ReqSetup) (h : History) (asked : RequestMessage) (m : List ℕ) (led : Led) (served : List Served) (log : Log) → IsAside asked led
-    → OwnLeads (sessions.reading_of q.psk) (at (asked_marks q h) served log) (at (clear_marks h led.effect ++ asked_marks q h) served ((answer_made q.psk h led.effect led.next ++ clear_check q h m (outstanding h)) ++ log))
-aside_leads q h asked m led served log a =
+pub aside_leads : (prior : Past) → (q : ReqSetup) (h : History) (asked : RequestMessage) (m : List ℕ) (led : Led) (served : List Served) (log : Log) → IsAside asked led
+    → OwnLeads (sessions.reading_of q.psk) (at (asked_from prior q h) served log) (at (clear_marks h led.effect ++ asked_from prior q h) served ((answer_made q.psk h led.effect led.next ++ clear_check q h m (outstanding h)) ++ log))
+aside_leads prior q h asked m led served log a =
     let r = sessions.reading_of q.psk in
-    subst (λ (l : List marks.Asked). OwnLeads r (at (asked_marks q h) served log) (at (l ++ asked_marks q h) served ((answer_made q.psk h led.effect led.next ++ clear_check q h m (outstanding h)) ++ log))) (sym (plain_marks h led.effect a.effect))
-    (subst (λ (l : List Act). OwnLeads r (at (asked_marks q h) served log) (at (asked_marks q h) served ((l ++ clear_check q h m (outstanding h)) ++ log))) (sym (plain_made q.psk h led.effect led.next a.effect))
-    (check_leads r (asked_marks q h) served (clear_check q h m (outstanding h)) log (clear_is_check q h m (outstanding h))))
+    subst (λ (l : List marks.Asked). OwnLeads r (at (asked_from prior q h) served log) (at (l ++ asked_from prior q h) served ((answer_made q.psk h led.effect led.next ++ clear_check q h m (outstanding h)) ++ log))) (sym (plain_marks h led.effect a.effect))
+    (subst (λ (l : List Act). OwnLeads r (at (asked_from prior q h) served log) (at (asked_from prior q h) served ((l ++ clear_check q h m (outstanding h)) ++ log))) (sym (plain_made q.psk h led.effect led.next a.effect))
+    (check_leads r (asked_from prior q h) served (clear_check q h m (outstanding h)) log (clear_is_check q h m (outstanding h))))
 
 -- Before a clear message no session waits for a record.
 clear_waits : (id : ℕ) (h : History) (x : Sent) (asked : RequestMessage) → outstanding h ≡ Some x → asked_in x.aim ≡ Some asked → waiting_text id (outstanding h) ≡ None
 clear_waits id h x asked waits asks = ap (waiting_text id) waits ∙ none_in id x.aim x.content (clear_aim x.aim asked asks)
 
-rests : (q : ReqSetup) (h : History) (x : Sent) (asked : RequestMessage) (id : ℕ) → outstanding h ≡ Some x → asked_in x.aim ≡ Some asked → AskedKept q h → is_held (session_of id h) ≡ true → HeldWell q.psk (session_of id h) (asked_marks q h) None
-rests q h x asked id waits asks kept held = subst (λ (w : Option Text). HeldWell q.psk (session_of id h) (asked_marks q h) w) (clear_waits id h x asked waits asks) (kept.held id held)
+rests : (prior : Past) → (q : ReqSetup) (h : History) (x : Sent) (asked : RequestMessage) (id : ℕ) → outstanding h ≡ Some x → asked_in x.aim ≡ Some asked → AskedKept prior q h → is_held (session_of id h) ≡ true → HeldWell q.psk (session_of id h) (asked_from prior q h) None
+rests prior q h x asked id waits asks kept held = subst (λ (w : Option Text). HeldWell q.psk (session_of id h) (asked_from prior q h) w) (clear_waits id h x asked waits asks) (kept.held id held)
 
 -- What waited for the answer to a clear request.
-pub waited : (q : ReqSetup) (h : History) (x : Sent) (asked : RequestMessage) → outstanding h ≡ Some x → asked_in x.aim ≡ Some asked → AskedKept q h → ClearKept q h (Some asked)
-waited q h x asked waits asks kept =
-    subst (λ (o : Option RequestMessage). ClearKept q h o) asks
-    (kept_clear q h x.content x.aim (clear_aim x.aim asked asks) (subst (λ (o : Option Sent). WaitingKept q h o) waits kept.waiting))
+pub waited : (prior : Past) → (q : ReqSetup) (h : History) (x : Sent) (asked : RequestMessage) → outstanding h ≡ Some x → asked_in x.aim ≡ Some asked → AskedKept prior q h → ClearKept prior q h (Some asked)
+waited prior q h x asked waits asks kept =
+    subst (λ (o : Option RequestMessage). ClearKept prior q h o) asks
+    (kept_clear prior q h x.content x.aim (clear_aim x.aim asked asks) (subst (λ (o : Option Sent). WaitingKept prior q h o) waits kept.waiting))
 
-started_same : (q : ReqSetup) (h h' : History) (exchange : ExchangeMessage) → asked_marks q h' ≡ asked_marks q h → negotiation_of h' ≡ negotiation_of h → session_of exchange.req_id h' ≡ session_of exchange.req_id h → IsStarted q h exchange → IsStarted q h' exchange
-started_same q h h' exchange m n s k = record {
+started_same : (prior : Past) → (q : ReqSetup) (h h' : History) (exchange : ExchangeMessage) → asked_from prior q h' ≡ asked_from prior q h → negotiation_of h' ≡ negotiation_of h → session_of exchange.req_id h' ≡ session_of exchange.req_id h → IsStarted prior q h exchange → IsStarted prior q h' exchange
+started_same prior q h h' exchange m n s k = record {
   draw = k.draw;
   number = k.number;
   bytes = k.bytes;
@@ -99,9 +99,9 @@ started_same q h h' exchange m n s k = record {
   read = ap (λ (x : Negotiation). request_in (hash_len (terms_of x)) (canonical_request (PskExchange exchange))) n ∙ k.read;
 }
 
-clear_same : (q : ReqSetup) (h h' : History) (asked : RequestMessage) → asked_marks q h' ≡ asked_marks q h → negotiation_of h' ≡ negotiation_of h → ((id : ℕ) → session_of id h' ≡ session_of id h) → ClearKept q h (Some asked) → ClearKept q h' (Some asked)
-clear_same q h h' (PskExchange exchange) m n s k = started_same q h h' exchange m n (s exchange.req_id) k
-clear_same q h h' _ m n s k = tt
+clear_same : (prior : Past) → (q : ReqSetup) (h h' : History) (asked : RequestMessage) → asked_from prior q h' ≡ asked_from prior q h → negotiation_of h' ≡ negotiation_of h → ((id : ℕ) → session_of id h' ≡ session_of id h) → ClearKept prior q h (Some asked) → ClearKept prior q h' (Some asked)
+clear_same prior q h h' (PskExchange exchange) m n s k = started_same prior q h h' exchange m n (s exchange.req_id) k
+clear_same prior q h h' _ m n s k = tt
 
 aside_held : (psk : List ℕ) (id : ℕ) (asked : RequestMessage) (led : Led) (s : Steps) (m : List marks.Asked) → IsAside asked led → (is_held s ≡ true → HeldWell psk s m None) → is_held (with_sent id led.next (after_clear id led.effect s)) ≡ true
     → HeldWell psk (with_sent id led.next (after_clear id led.effect s)) m (waiting_text id led.next)
@@ -113,24 +113,24 @@ aside_held psk id asked led s m a k held =
       | inr gone ↦ (let e : with_sent id led.next (after_clear id led.effect s) ≡ [] = n.0 ∙ gone in absurd (true≢false (sym (subst (λ (x : Steps). is_held x ≡ true) e held))))
     ])
 
-aside_waits : (q : ReqSetup) (h : History) (tag : ℕ) (m : List ℕ) (led : Led) (d : Draw) (asked : RequestMessage) (next : Option Sent) → led.next ≡ next → NextClear asked led.effect next → ClearKept q h (Some asked) → WaitingKept q (TookClear tag m led d ∷ h) next
+aside_waits : (prior : Past) → (q : ReqSetup) (h : History) (tag : ℕ) (m : List ℕ) (led : Led) (d : Draw) (asked : RequestMessage) (next : Option Sent) → led.next ≡ next → NextClear asked led.effect next → ClearKept prior q h (Some asked) → WaitingKept prior q (TookClear tag m led d ∷ h) next
 unfolding session_of
-aside_waits q h tag m led d asked None is k w = tt
-aside_waits q h tag m led d asked (Some x) is k w = clear_kept q (TookClear tag m led d ∷ h) x.content x.aim k.1 (elim k.2 [
-  | inl same ↦ subst (λ (o : Option RequestMessage). ClearKept q (TookClear tag m led d ∷ h) o) (sym same.1)
-      (clear_same q h (TookClear tag m led d ∷ h) asked
-      (ap (λ (e : Effect). clear_marks h e ++ asked_marks q h) same.0)
+aside_waits prior q h tag m led d asked None is k w = tt
+aside_waits prior q h tag m led d asked (Some x) is k w = clear_kept prior q (TookClear tag m led d ∷ h) x.content x.aim k.1 (elim k.2 [
+  | inl same ↦ subst (λ (o : Option RequestMessage). ClearKept prior q (TookClear tag m led d ∷ h) o) (sym same.1)
+      (clear_same prior q h (TookClear tag m led d ∷ h) asked
+      (ap (λ (e : Effect). clear_marks h e ++ asked_from prior q h) same.0)
       (ap (λ (e : Effect). negotiation_after e (negotiation_of h)) same.0)
       (λ id. ap (λ (o : Option Sent). with_sent id o (after_clear id led.effect (session_of id h))) is ∙ stays_clear id x.aim x.content (after_clear id led.effect (session_of id h)) k.1 ∙ ap (λ (e : Effect). after_clear id e (session_of id h)) same.0) w)
-  | inr other ↦ other_kept q (TookClear tag m led d ∷ h) (asked_in x.aim) other.0
+  | inr other ↦ other_kept prior q (TookClear tag m led d ∷ h) (asked_in x.aim) other.0
 ])
 
-pub aside_kept : (q : ReqSetup) (h : History) (tag : ℕ) (m : List ℕ) (led : Led) (d : Draw) (x : Sent) (asked : RequestMessage) → outstanding h ≡ Some x → asked_in x.aim ≡ Some asked → IsAside asked led → AskedKept q h → AskedKept q (TookClear tag m led d ∷ h)
+pub aside_kept : (prior : Past) → (q : ReqSetup) (h : History) (tag : ℕ) (m : List ℕ) (led : Led) (d : Draw) (x : Sent) (asked : RequestMessage) → outstanding h ≡ Some x → asked_in x.aim ≡ Some asked → IsAside asked led → AskedKept prior q h → AskedKept prior q (TookClear tag m led d ∷ h)
 unfolding session_of
-aside_kept q h tag m led d x asked waits asks a kept = record {
-  held = λ id held. subst (λ (l : List marks.Asked). HeldWell q.psk (with_sent id led.next (after_clear id led.effect (session_of id h))) (l ++ asked_marks q h) (waiting_text id led.next)) (sym (plain_marks h led.effect a.effect))
-      (aside_held q.psk id asked led (session_of id h) (asked_marks q h) a (λ k. rests q h x asked id waits asks kept k) held);
-  waiting = aside_waits q h tag m led d asked led.next refl a.next (waited q h x asked waits asks kept);
+aside_kept prior q h tag m led d x asked waits asks a kept = record {
+  held = λ id held. subst (λ (l : List marks.Asked). HeldWell q.psk (with_sent id led.next (after_clear id led.effect (session_of id h))) (l ++ asked_from prior q h) (waiting_text id led.next)) (sym (plain_marks h led.effect a.effect))
+      (aside_held q.psk id asked led (session_of id h) (asked_from prior q h) a (λ k. rests prior q h x asked id waits asks kept k) held);
+  waiting = aside_waits prior q h tag m led d asked led.next refl a.next (waited prior q h x asked waits asks kept);
 }
 
 -- ---- PSK_EXCHANGE_RSP.
@@ -138,11 +138,11 @@ aside_kept q h tag m led d x asked waits asks a kept = record {
 abbrev exchange_led : ReqSetup → History → ExchangeMessage → (answer pad : List ℕ) → Led
 exchange_led q h exchange answer pad = goes_on (Answers (PskExchange exchange) answer) (finish_sent q h exchange.req_id (with_answer h exchange answer) pad)
 
-pub exchanged_leads : (q : ReqSetup) (h : History) (exchange : ExchangeMessage) (answer : List ℕ) (rsp : ExchangeRspMessage) (served : List Served) (log : Log) → IsStarted q h exchange
+pub exchanged_leads : (prior : Past) → (q : ReqSetup) (h : History) (exchange : ExchangeMessage) (answer : List ℕ) (rsp : ExchangeRspMessage) (served : List Served) (log : Log) → IsStarted prior q h exchange
     → reading_of h (PskExchange exchange) answer ≡ Ok (PskExchangeRsp rsp) → rsp.verify ≡ asked.answer_verify q.psk (with_answer h exchange answer)
-    → OwnLeads (sessions.reading_of q.psk) (at (asked_marks q h) served log)
-    (at (clear_marks h (Answers (PskExchange exchange) answer) ++ asked_marks q h) served ((answer_made q.psk h (Answers (PskExchange exchange) answer) (Some (finish_sent q h exchange.req_id (with_answer h exchange answer) [])) ++ answer_check q.psk (with_answer h exchange answer) rsp ∷ []) ++ log))
-exchanged_leads q h exchange answer rsp served log k reads right =
+    → OwnLeads (sessions.reading_of q.psk) (at (asked_from prior q h) served log)
+    (at (clear_marks h (Answers (PskExchange exchange) answer) ++ asked_from prior q h) served ((answer_made q.psk h (Answers (PskExchange exchange) answer) (Some (finish_sent q h exchange.req_id (with_answer h exchange answer) [])) ++ answer_check q.psk (with_answer h exchange answer) rsp ∷ []) ++ log))
+exchanged_leads prior q h exchange answer rsp served log k reads right =
     let r = sessions.reading_of q.psk in
     let s = with_answer h exchange answer in
     let e : s ≡ Accepted answer ∷ Started (negotiation_of h) (canonical_request (PskExchange exchange)) ∷ [] = ap (λ (x : Steps). when_live x (Accepted answer)) k.session in
@@ -150,7 +150,7 @@ exchanged_leads q h exchange answer rsp served log k reads right =
     let own = Accepted answer ∷ Started (negotiation_of h) (canonical_request (PskExchange exchange)) ∷ [] in
     let sound : r.is_sound (asked_first own) ≡ true = sound_first q.psk (asked_first own) (PskExchange exchange) rsp.verify v.0 k.negotiated k.read v.1 v.2 (right ∙ ap (asked.answer_verify q.psk) e) in
     let draws : r.requester_draw (asked_first own) ≡ k.draw.number = draw_told q.psk (asked_first own) exchange k.draw k.read k.context k.number k.bytes in
-    accepts q.psk s (exchange.req_id, k.draw.number) (asked_marks q h) served log rsp (ap stage_of e) (ap request_next e) (ap (λ (x : Steps). r.is_sound (asked_first x)) e ∙ sound) k.waits (ap (λ (x : Steps). r.requester_draw (asked_first x)) e ∙ draws) right
+    accepts q.psk s (exchange.req_id, k.draw.number) (asked_from prior q h) served log rsp (ap stage_of e) (ap request_next e) (ap (λ (x : Steps). r.is_sound (asked_first x)) e ∙ sound) k.waits (ap (λ (x : Steps). r.requester_draw (asked_first x)) e ∙ draws) right
 
 pub exchange_checked : (q : ReqSetup) (h : History) (m : List ℕ) (x : Sent) (exchange : ExchangeMessage) (answer : List ℕ) (place : ℕ) (rsp : ExchangeRspMessage) → outstanding h ≡ Some x → asked_in x.aim ≡ Some (PskExchange exchange)
     → carried_by q h m x.aim ≡ Whole answer place → reading_of h (PskExchange exchange) answer ≡ Ok (PskExchangeRsp rsp)
@@ -174,17 +174,17 @@ finish_session c s answer psk pad n bytes is e =
     ap (λ (x : Bool). shaken x s answer (Asked AskFinish (finish_inner psk (when_live s (Accepted answer))) (sealed_next psk (when_live s (Accepted answer)) (finish_inner psk (when_live s (Accepted answer))) pad))) is
     ∙ ap (λ (x : Steps). when_live (when_live x (Accepted answer)) (Asked AskFinish (finish_inner psk (when_live x (Accepted answer))) (sealed_next psk (when_live x (Accepted answer)) (finish_inner psk (when_live x (Accepted answer))) pad))) e
 
-pub exchanged_kept : (q : ReqSetup) (h : History) (tag : ℕ) (m : List ℕ) (exchange : ExchangeMessage) (answer pad : List ℕ) (d : Draw) (x : Sent) → outstanding h ≡ Some x → asked_in x.aim ≡ Some (PskExchange exchange) → IsStarted q h exchange → AskedKept q h
-    → AskedKept q (TookClear tag m (exchange_led q h exchange answer pad) d ∷ h)
+pub exchanged_kept : (prior : Past) → (q : ReqSetup) (h : History) (tag : ℕ) (m : List ℕ) (exchange : ExchangeMessage) (answer pad : List ℕ) (d : Draw) (x : Sent) → outstanding h ≡ Some x → asked_in x.aim ≡ Some (PskExchange exchange) → IsStarted prior q h exchange → AskedKept prior q h
+    → AskedKept prior q (TookClear tag m (exchange_led q h exchange answer pad) d ∷ h)
 unfolding session_of
-exchanged_kept q h tag m exchange answer pad d x waits asks k kept =
+exchanged_kept prior q h tag m exchange answer pad d x waits asks k kept =
     let n = negotiation_of h in
     let bytes = canonical_request (PskExchange exchange) in
     let s = session_of exchange.req_id h in
     let own = finish_session (exchange.req_id == exchange.req_id) s answer q.psk pad n bytes (eq-eqb exchange.req_id exchange.req_id refl) k.session in
     record {
-      held = λ id held. accepted_held q.psk (session_of id h) answer _ _ (asked_marks q h) (asked_first (with_answer h exchange answer)) _ (exchange.req_id == id) n bytes
-          (λ e. ap (λ (i : ℕ). session_of i h) (sym (eqb-true exchange.req_id id e)) ∙ k.session) (λ held. rests q h x (PskExchange exchange) id waits asks kept held) held;
+      held = λ id held. accepted_held q.psk (session_of id h) answer _ _ (asked_from prior q h) (asked_first (with_answer h exchange answer)) _ (exchange.req_id == id) n bytes
+          (λ e. ap (λ (i : ℕ). session_of i h) (sym (eqb-true exchange.req_id id e)) ∙ k.session) (λ held. rests prior q h x (PskExchange exchange) id waits asks kept held) held;
       waiting = record {
         negotiation = n;
         exchange = bytes;

@@ -28,7 +28,7 @@ use Rattle.requester_machine.specs.Setup.{ReqSetup}
 use Rattle.spdm_agreement.specs.Marks as marks
 use Rattle.spdm_agreement.specs.Marks.{Text, Exchange, heard}
 use Rattle.spdm_agreement.specs.Reading.{First}
-use Rattle.spdm_agreement.specs.Story.{asked_marks, command_marks, clear_marks, taken_marks, next_marks, content_marks, asked_first, request_text, answer_text, ask_in}
+use Rattle.spdm_agreement.specs.Story.{Past, asked_from, command_marks, clear_marks, taken_marks, next_marks, content_marks, asked_first, request_text, answer_text, ask_in}
 use Rattle.spdm_agreement.proofs.Requester.ClearLeads.{IsClear}
 use Rattle.spdm_agreement.proofs.Requester.Entries.{CommandShape, IsAsked, IsTookRecord, told_shape, record_entry}
 use Rattle.spdm_agreement.proofs.Requester.Counts.{is_verifying}
@@ -80,26 +80,26 @@ open_at : (q : ReqSetup) (h : History) (id : ℕ) → IsMade q h → is_some (ou
 open_at q h id made free live = open_by (session_of id h) (outstanding h) id free live (ordered q h id made).fits
 
 -- The stage of a session that is held open is determined by the exchanges under its T2.
-abbrev pub StagesStand : ReqSetup → History → Type 0
-StagesStand q h = (id : ℕ) → is_held (session_of id h) ≡ true → is_verifying (stage_of (session_of id h)) ≡ verifying (heard (t2_of (session_of id h)) (asked_marks q h))
+abbrev pub StagesStand : (prior : Past) → ReqSetup → History → Type 0
+StagesStand prior q h = (id : ℕ) → is_held (session_of id h) ≡ true → is_verifying (stage_of (session_of id h)) ≡ verifying (heard (t2_of (session_of id h)) (asked_from prior q h))
 
-asked_openly : (q : ReqSetup) (h : History) (f : Free) (x : Sent) → IsMade q h → StagesStand q h → IsAsked q h f x → AsksOpenly (asked_marks q h) → AsksOpenly (content_marks (steps_at h x.aim) x.content ++ asked_marks q h)
-asked_openly q h f x made stand k all =
+asked_openly : (prior : Past) → (q : ReqSetup) (h : History) (f : Free) (x : Sent) → IsMade q h → StagesStand prior q h → IsAsked q h f x → AsksOpenly (asked_from prior q h) → AsksOpenly (content_marks (steps_at h x.aim) x.content ++ asked_from prior q h)
+asked_openly prior q h f x made stand k all =
     let s = session_of k.id h in
     let at = open_at q h k.id made k.free k.live in
-    let quiet : verifying (heard (t2_of s) (asked_marks q h)) ≡ false = sym (stand k.id (held_at s k.live (ap is_past_handshake at))) ∙ ap is_verifying at in
-    subst (λ (y : Sent). AsksOpenly (content_marks (steps_at h y.aim) y.content ++ asked_marks q h)) (sym k.is) (sealed_openly (t2_of s) (plain_text k.inner f.pad) (asked_marks q h) (λ is. quiet) all)
+    let quiet : verifying (heard (t2_of s) (asked_from prior q h)) ≡ false = sym (stand k.id (held_at s k.live (ap is_past_handshake at))) ∙ ap is_verifying at in
+    subst (λ (y : Sent). AsksOpenly (content_marks (steps_at h y.aim) y.content ++ asked_from prior q h)) (sym k.is) (sealed_openly (t2_of s) (plain_text k.inner f.pad) (asked_from prior q h) (λ is. quiet) all)
 
-command_openly : (q : ReqSetup) (h : History) (f : Free) (c : Command) (x : Sent) (d : Draw) → IsMade q h → StagesStand q h → CommandShape q h f c x → AsksOpenly (asked_marks q h) → AsksOpenly (command_marks h c x d ++ asked_marks q h)
-command_openly q h f Connect x d made stand k all = clear_openly (steps_at h x.aim) x.content (asked_marks q h) k.content all
-command_openly q h f (Open summary) x d made stand k all = record { asks = all.asks; waits = all.waits }
-command_openly q h f (Measure None op) x d made stand k all = clear_openly (steps_at h x.aim) x.content (asked_marks q h) k.0.content all
-command_openly q h f Retry x d made stand k all = absurd k
-command_openly q h f (Send id bytes) x d made stand k all = asked_openly q h f x made stand k all
-command_openly q h f (Beat id) x d made stand k all = asked_openly q h f x made stand k all
-command_openly q h f (Update id whole) x d made stand k all = asked_openly q h f x made stand k all
-command_openly q h f (Measure (Some id) op) x d made stand k all = asked_openly q h f x made stand k all
-command_openly q h f (End id) x d made stand k all = asked_openly q h f x made stand k all
+command_openly : (prior : Past) → (q : ReqSetup) (h : History) (f : Free) (c : Command) (x : Sent) (d : Draw) → IsMade q h → StagesStand prior q h → CommandShape q h f c x → AsksOpenly (asked_from prior q h) → AsksOpenly (command_marks h c x d ++ asked_from prior q h)
+command_openly prior q h f Connect x d made stand k all = clear_openly (steps_at h x.aim) x.content (asked_from prior q h) k.content all
+command_openly prior q h f (Open summary) x d made stand k all = record { asks = all.asks; waits = all.waits }
+command_openly prior q h f (Measure None op) x d made stand k all = clear_openly (steps_at h x.aim) x.content (asked_from prior q h) k.0.content all
+command_openly prior q h f Retry x d made stand k all = absurd k
+command_openly prior q h f (Send id bytes) x d made stand k all = asked_openly prior q h f x made stand k all
+command_openly prior q h f (Beat id) x d made stand k all = asked_openly prior q h f x made stand k all
+command_openly prior q h f (Update id whole) x d made stand k all = asked_openly prior q h f x made stand k all
+command_openly prior q h f (Measure (Some id) op) x d made stand k all = asked_openly prior q h f x made stand k all
+command_openly prior q h f (End id) x d made stand k all = asked_openly prior q h f x made stand k all
 
 -- ---- Records.
 
@@ -120,31 +120,31 @@ none_openly : (o : Option Sent) (s : Steps) (u b reply : List ℕ) (m : List mar
 none_openly None s u b reply m e k = k
 none_openly (Some x) s u b reply m e k = absurd (none_some x (sym e))
 
-past_openly : (q : ReqSetup) (h : History) (f : Free) (of : ℕ) (sealed inner : List ℕ) (led : Led) → IsMade q h → AskedKept q h → is_past_handshake (stage_of (session_of of h)) ≡ true → IsTookRecord q h f (record_body sealed) of sealed inner led → AsksOpenly (asked_marks q h)
-    → AsksOpenly ((next_marks (Took sealed inner led.effect ∷ session_of of h) led.next ++ marks.Asked.Heard (t2_of (session_of of h)) (request_text (outstanding h)) (answer_text q.psk (session_of of h) (ask_in (outstanding h)) sealed) ∷ []) ++ asked_marks q h)
-past_openly q h f of sealed inner led made kept past k all =
+past_openly : (prior : Past) → (q : ReqSetup) (h : History) (f : Free) (of : ℕ) (sealed inner : List ℕ) (led : Led) → IsMade q h → AskedKept prior q h → is_past_handshake (stage_of (session_of of h)) ≡ true → IsTookRecord q h f (record_body sealed) of sealed inner led → AsksOpenly (asked_from prior q h)
+    → AsksOpenly ((next_marks (Took sealed inner led.effect ∷ session_of of h) led.next ++ marks.Asked.Heard (t2_of (session_of of h)) (request_text (outstanding h)) (answer_text q.psk (session_of of h) (ask_in (outstanding h)) sealed) ∷ []) ++ asked_from prior q h)
+past_openly prior q h f of sealed inner led made kept past k all =
     let s = session_of of h in
     let w = waited_for q h f (record_body sealed) of sealed inner led k made in
-    let waits : marks.outstanding (t2_of s) (asked_marks q h) ≡ Some (request_text (outstanding h)) =
+    let waits : marks.outstanding (t2_of s) (asked_from prior q h) ≡ Some (request_text (outstanding h)) =
     (kept.held of (held_at s w.0 past)).outstanding ∙ own_waits h k.sent of k.ask (waits_aimed h k.sent of k.ask k.waits k.aims) ∙ sym (ap (λ (o : Option Sent). Some (request_text o)) k.waits) in
-    let mark = heard_openly (t2_of s) (request_text (outstanding h)) (answer_text q.psk s (ask_in (outstanding h)) sealed) (asked_marks q h) waits all in
+    let mark = heard_openly (t2_of s) (request_text (outstanding h)) (answer_text q.psk s (ask_in (outstanding h)) sealed) (asked_from prior q h) waits all in
     elim k.led_to [
-      | inl a ↦ next_openly q h f (came_to q h of k.ask sealed) led.effect k.ask led.next (Took sealed inner led.effect ∷ s) _ _ _ (asked_marks q h) a.next mark
-      | inr e ↦ none_openly led.next (Took sealed inner led.effect ∷ s) _ _ _ (asked_marks q h) e.next mark
+      | inl a ↦ next_openly q h f (came_to q h of k.ask sealed) led.effect k.ask led.next (Took sealed inner led.effect ∷ s) _ _ _ (asked_from prior q h) a.next mark
+      | inr e ↦ none_openly led.next (Took sealed inner led.effect ∷ s) _ _ _ (asked_from prior q h) e.next mark
     ]
 
-staged_openly : (g : Stage) (q : ReqSetup) (h : History) (f : Free) (of : ℕ) (sealed inner : List ℕ) (led : Led) → IsMade q h → AskedKept q h → stage_of (session_of of h) ≡ g → IsTookRecord q h f (record_body sealed) of sealed inner led → AsksOpenly (asked_marks q h)
-    → AsksOpenly (taken_marks g q (session_of of h) (outstanding h) sealed inner led ++ asked_marks q h)
-staged_openly stage.Handshake q h f of sealed inner led made kept at k all = shake_openly (finishes led.effect) (asked_first (session_of of h)) (t2_of (Took sealed inner led.effect ∷ session_of of h)) (asked_marks q h) all
-staged_openly stage.Open q h f of sealed inner led made kept at k all = past_openly q h f of sealed inner led made kept (ap is_past_handshake at) k all
-staged_openly stage.Verifying q h f of sealed inner led made kept at k all = past_openly q h f of sealed inner led made kept (ap is_past_handshake at) k all
+staged_openly : (prior : Past) → (g : Stage) (q : ReqSetup) (h : History) (f : Free) (of : ℕ) (sealed inner : List ℕ) (led : Led) → IsMade q h → AskedKept prior q h → stage_of (session_of of h) ≡ g → IsTookRecord q h f (record_body sealed) of sealed inner led → AsksOpenly (asked_from prior q h)
+    → AsksOpenly (taken_marks g q (session_of of h) (outstanding h) sealed inner led ++ asked_from prior q h)
+staged_openly prior stage.Handshake q h f of sealed inner led made kept at k all = shake_openly (finishes led.effect) (asked_first (session_of of h)) (t2_of (Took sealed inner led.effect ∷ session_of of h)) (asked_from prior q h) all
+staged_openly prior stage.Open q h f of sealed inner led made kept at k all = past_openly prior q h f of sealed inner led made kept (ap is_past_handshake at) k all
+staged_openly prior stage.Verifying q h f of sealed inner led made kept at k all = past_openly prior q h f of sealed inner led made kept (ap is_past_handshake at) k all
 
 -- An entry keeps it.
-pub entry_openly : (q : ReqSetup) (h : History) (e : Entry) → IsMade q (e ∷ h) → AskedKept q h → StagesStand q h → AsksOpenly (asked_marks q h) → AsksOpenly (asked_marks q (e ∷ h))
-entry_openly q h (Told c x d) made kept stand all = command_openly q h (command_chosen q h d) c x d made.1 stand (told_shape false q h c c (command_chosen q h d) d d x made.0) all
-entry_openly q h (TookClear tag m led d) made kept stand all = answer_openly h led.effect (asked_marks q h) all
-entry_openly q h (TookRecord tag of sealed inner led d) made kept stand all =
-    staged_openly (stage_of (session_of of h)) q h (body_chosen q h d) of sealed inner led made.1 kept refl
+pub entry_openly : (prior : Past) → (q : ReqSetup) (h : History) (e : Entry) → IsMade q (e ∷ h) → AskedKept prior q h → StagesStand prior q h → AsksOpenly (asked_from prior q h) → AsksOpenly (asked_from prior q (e ∷ h))
+entry_openly prior q h (Told c x d) made kept stand all = command_openly prior q h (command_chosen q h d) c x d made.1 stand (told_shape false q h c c (command_chosen q h d) d d x made.0) all
+entry_openly prior q h (TookClear tag m led d) made kept stand all = answer_openly h led.effect (asked_from prior q h) all
+entry_openly prior q h (TookRecord tag of sealed inner led d) made kept stand all =
+    staged_openly prior (stage_of (session_of of h)) q h (body_chosen q h d) of sealed inner led made.1 kept refl
     (record_entry q h false tag tag (record_body sealed) of sealed inner (body_chosen q h d) led d d made.0) all
 
 pub starts_openly : AsksOpenly []

@@ -24,7 +24,7 @@ use Rattle.transcript.specs.Transcripts.{Negotiation}
 use Rattle.spdm_agreement.specs.Marks.{asked_open}
 use Rattle.spdm_agreement.specs.Marks as marks
 use Rattle.spdm_agreement.specs.Reading.{First}
-use Rattle.spdm_agreement.specs.Story.{asked_marks, asked_first, content_marks, next_marks, command_marks, clear_marks, taken_marks, request_text, ask_in, answer_text}
+use Rattle.spdm_agreement.specs.Story.{Past, asked_from, asked_first, content_marks, next_marks, command_marks, clear_marks, taken_marks, request_text, ask_in, answer_text}
 use Rattle.spdm_agreement.proofs.Messages.Beginnings.{reading_of}
 use Rattle.spdm_basis.proofs.Bools.{and_second}
 
@@ -292,10 +292,10 @@ IsSteady (Told command x d ∷ older) = CommandSteady command x × IsSteady olde
 IsSteady (TookClear tag m led d ∷ older) = ClearSteady older led.effect led.next × IsSteady older
 IsSteady (TookRecord tag of sealed inner led d ∷ older) = RecordSteady (session_of of older) sealed inner led.effect led.next × IsSteady older
 
-pub asked_stands : (psk : List ℕ) (q : ReqSetup) (h : History) → IsSteady h → (id : ℕ) → AskedAt psk id (session_of id h) (asked_marks q h)
+pub asked_stands : (prior : Past) → (psk : List ℕ) (q : ReqSetup) (h : History) → IsSteady h → (id : ℕ) → AskedAt psk id (session_of id h) (asked_from prior q h)
 unfolding session_of
-asked_stands psk q [] steady id = gone psk id []
-asked_stands psk q (Told command x d ∷ older) steady id = commanded psk id (negotiation_of older) older command x d (session_of id older) (asked_marks q older) steady.0 (asked_stands psk q older steady.1 id)
-asked_stands psk q (TookClear tag m led d ∷ older) steady id = cleared psk id older led.effect led.next (asked_marks q older) steady.0 (λ of. asked_stands psk q older steady.1 of)
-asked_stands psk q (TookRecord tag of sealed inner led d ∷ older) steady id =
-    recorded psk q of id (session_of of older) (session_of id older) (outstanding older) sealed inner led (asked_marks q older) (of == id) refl (λ e. ap (λ (n : ℕ). session_of n older) e) steady.0 (asked_stands psk q older steady.1 of) (asked_stands psk q older steady.1 id)
+asked_stands prior psk q [] steady id = gone psk id (prior.asked q)
+asked_stands prior psk q (Told command x d ∷ older) steady id = commanded psk id (negotiation_of older) older command x d (session_of id older) (asked_from prior q older) steady.0 (asked_stands prior psk q older steady.1 id)
+asked_stands prior psk q (TookClear tag m led d ∷ older) steady id = cleared psk id older led.effect led.next (asked_from prior q older) steady.0 (λ of. asked_stands prior psk q older steady.1 of)
+asked_stands prior psk q (TookRecord tag of sealed inner led d ∷ older) steady id =
+    recorded psk q of id (session_of of older) (session_of id older) (outstanding older) sealed inner led (asked_from prior q older) (of == id) refl (λ e. ap (λ (n : ℕ). session_of n older) e) steady.0 (asked_stands prior psk q older steady.1 of) (asked_stands prior psk q older steady.1 id)

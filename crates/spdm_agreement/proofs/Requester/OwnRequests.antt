@@ -19,6 +19,7 @@ use Rattle.spdm_agreement.proofs.Requester.NegotiationInvariant.{OwnReads}
 use Rattle.spdm_agreement.proofs.Requester.AnyCommand.{asks_well_by}
 use Rattle.spdm_agreement.proofs.Worlds.EndSteps.{AsksWell}
 use Rattle.spdm_agreement.proofs.Messages.Beginnings.{is_request}
+use Rattle.spdm_agreement.specs.Story.{Past}
 
 pub at_most : (b : Bool) (x : ℕ) → cond b x 0 ≤ x
 at_most true x = omega arith
@@ -79,5 +80,5 @@ own_reads q setup = record {
 }
 
 -- Whatever command comes.
-pub asks_well_always : AsksWell AskedKept
-asks_well_always = asks_well_by own_reads
+pub asks_well_always : (prior : Past) → AsksWell prior (AskedKept prior)
+asks_well_always prior = asks_well_by prior own_reads

@@ -19,7 +19,7 @@ use Rattle.spdm_machine.specs.TagLog.{Log}
 use Rattle.transcript.specs.Transcripts as transcript
 use Rattle.spdm_agreement.specs.Marks as marks
 use Rattle.spdm_agreement.specs.Marks.{Served, Text, asked_open, finishing}
-use Rattle.spdm_agreement.specs.Story.{asked_marks, asked_first, answer_text, next_marks, taken_marks, sent_text}
+use Rattle.spdm_agreement.specs.Story.{Past, asked_from, asked_first, answer_text, next_marks, taken_marks, sent_text}
 use Rattle.spdm_agreement.proofs.Requester.Comparisons.{check_leads, record_is_check}
 use Rattle.spdm_agreement.proofs.Requester.Entries.{RequestTells}
 use Rattle.spdm_agreement.proofs.Requester.Counts.{HeldWell}
@@ -39,8 +39,8 @@ aimed x id ask = record x { aim = InSession id ask }
 pub waits_aimed : (h : History) (x : Sent) (id : ℕ) (ask : Ask) → outstanding h ≡ Some x → x.aim ≡ InSession id ask → outstanding h ≡ Some (aimed x id ask)
 waits_aimed h x id ask waits aims = waits ∙ ap (λ (a : Aim). Some (record x { aim = a })) aims
 
-pub was_kept : (q : ReqSetup) (h : History) (x : Sent) (id : ℕ) (ask : Ask) → outstanding h ≡ Some (aimed x id ask) → AskedKept q h → RecordKept q h id (sent_text x.content) ask
-was_kept q h x id ask waits kept = subst (WaitingKept q h) waits kept.waiting
+pub was_kept : (prior : Past) → (q : ReqSetup) (h : History) (x : Sent) (id : ℕ) (ask : Ask) → outstanding h ≡ Some (aimed x id ask) → AskedKept prior q h → RecordKept prior q h id (sent_text x.content) ask
+was_kept prior q h x id ask waits kept = subst (WaitingKept prior q h) waits kept.waiting
 
 pub own_waits : (h : History) (x : Sent) (id : ℕ) (ask : Ask) → outstanding h ≡ Some (aimed x id ask) → waiting_text id (outstanding h) ≡ Some (sent_text x.content)
 own_waits h x id ask waits = ap (waiting_text id) waits ∙ ap (λ (c : Bool). cond c (Some (sent_text x.content)) None) (eq-eqb id id refl)
@@ -111,33 +111,33 @@ pub held_at : (s : Steps) → is_live s ≡ true → is_past_handshake (stage_of
 held_at [] l p = l
 held_at (y ∷ ys) l p = p
 
-abbrev pub RecordLeads : ReqSetup → History → List Served → Log → ℕ → Steps → Option Sent → Ask → (sealed inner : List ℕ) → Led → Type 0
-RecordLeads q h served log id s o ask sealed inner led =
-    OwnLeads (reading_of q.psk) (at (asked_marks q h) served log)
-    (at (taken_marks (stage_of s) q s o sealed inner led ++ asked_marks q h) served ((sent_made q.psk (when_live s (Took sealed inner led.effect)) led.next ++ record_check q s ask sealed) ++ log))
+abbrev pub RecordLeads : (prior : Past) → ReqSetup → History → List Served → Log → ℕ → Steps → Option Sent → Ask → (sealed inner : List ℕ) → Led → Type 0
+RecordLeads prior q h served log id s o ask sealed inner led =
+    OwnLeads (reading_of q.psk) (at (asked_from prior q h) served log)
+    (at (taken_marks (stage_of s) q s o sealed inner led ++ asked_from prior q h) served ((sent_made q.psk (when_live s (Took sealed inner led.effect)) led.next ++ record_check q s ask sealed) ++ log))
 
 pub finish_is : (ask : Ask) → is_finish ask ≡ true → ask ≡ AskFinish
 finish_is AskFinish e = refl
 finish_is _ e = absurd (cc)
 
-finish_case : (q : ReqSetup) (h : History) (f : Free) (id : ℕ) (served : List Served) (log : Log) (x : Sent) (ask : Ask) (sealed : List ℕ) (led : Led) → ask ≡ AskFinish → IsFinishing q h id → answer_fault q.psk (session_of id h) ask sealed ≡ None
-    → RecordLed q h f (came_at q id (session_of id h) ask sealed) ask led → RecordLeads q h served log id (session_of id h) (Some (aimed x id ask)) ask sealed (answer_inner q.psk (session_of id h) ask sealed) led
-finish_case q h f id served log x ask sealed led is k opened shape =
+finish_case : (prior : Past) → (q : ReqSetup) (h : History) (f : Free) (id : ℕ) (served : List Served) (log : Log) (x : Sent) (ask : Ask) (sealed : List ℕ) (led : Led) → ask ≡ AskFinish → IsFinishing prior q h id → answer_fault q.psk (session_of id h) ask sealed ≡ None
+    → RecordLed q h f (came_at q id (session_of id h) ask sealed) ask led → RecordLeads prior q h served log id (session_of id h) (Some (aimed x id ask)) ask sealed (answer_inner q.psk (session_of id h) ask sealed) led
+finish_case prior q h f id served log x ask sealed led is k opened shape =
     let s = shaken q.psk k.negotiation k.exchange k.answer k.sealed in
-    subst (λ (a : Ask). RecordLeads q h served log id (session_of id h) (Some (aimed x id a)) a sealed (answer_inner q.psk (session_of id h) a sealed) led) (sym is)
-    (subst (λ (z : Steps). RecordLeads q h served log id z (Some (aimed x id AskFinish)) AskFinish sealed (answer_inner q.psk z AskFinish sealed) led) (sym k.session)
-    (finish_leads q h f id k.negotiation k.exchange k.answer k.sealed (asked_marks q h) served log x sealed led (k.waits ∙ ap (λ (z : Steps). Some (asked_first z)) k.session)
+    subst (λ (a : Ask). RecordLeads prior q h served log id (session_of id h) (Some (aimed x id a)) a sealed (answer_inner q.psk (session_of id h) a sealed) led) (sym is)
+    (subst (λ (z : Steps). RecordLeads prior q h served log id z (Some (aimed x id AskFinish)) AskFinish sealed (answer_inner q.psk z AskFinish sealed) led) (sym k.session)
+    (finish_leads q h f id k.negotiation k.exchange k.answer k.sealed (asked_from prior q h) served log x sealed led (k.waits ∙ ap (λ (z : Steps). Some (asked_first z)) k.session)
     (subst (λ (z : Steps). answer_fault q.psk z AskFinish sealed ≡ None) k.session (subst (λ (a : Ask). answer_fault q.psk (session_of id h) a sealed ≡ None) is opened))
     (subst (λ (z : Steps). RecordLed q h f (came_at q id z AskFinish sealed) AskFinish led) k.session (subst (λ (a : Ask). RecordLed q h f (came_at q id (session_of id h) a sealed) a led) is shape))))
 
-pub record_leads : (q : ReqSetup) (h : History) (f : Free) (id : ℕ) (served : List Served) (log : Log) (x : Sent) (ask : Ask) (sealed : List ℕ) (led : Led) → outstanding h ≡ Some (aimed x id ask) → AskedKept q h → is_live (session_of id h) ≡ true → stage_of (session_of id h) ≡ stage_for ask
-    → (is_finish ask ≡ false → asked_open (reading_of q.psk) id (asked_marks q h) ≡ Some (asked_first (session_of id h), t2_of (session_of id h))) → answer_fault q.psk (session_of id h) ask sealed ≡ None
-    → RecordLed q h f (came_at q id (session_of id h) ask sealed) ask led → RecordLeads q h served log id (session_of id h) (Some (aimed x id ask)) ask sealed (answer_inner q.psk (session_of id h) ask sealed) led
-record_leads q h f id served log x ask sealed led waits kept live g is opened shape = go (is_finish ask) refl
+pub record_leads : (prior : Past) → (q : ReqSetup) (h : History) (f : Free) (id : ℕ) (served : List Served) (log : Log) (x : Sent) (ask : Ask) (sealed : List ℕ) (led : Led) → outstanding h ≡ Some (aimed x id ask) → AskedKept prior q h → is_live (session_of id h) ≡ true → stage_of (session_of id h) ≡ stage_for ask
+    → (is_finish ask ≡ false → asked_open (reading_of q.psk) id (asked_from prior q h) ≡ Some (asked_first (session_of id h), t2_of (session_of id h))) → answer_fault q.psk (session_of id h) ask sealed ≡ None
+    → RecordLed q h f (came_at q id (session_of id h) ask sealed) ask led → RecordLeads prior q h served log id (session_of id h) (Some (aimed x id ask)) ask sealed (answer_inner q.psk (session_of id h) ask sealed) led
+record_leads prior q h f id served log x ask sealed led waits kept live g is opened shape = go (is_finish ask) refl
   where
-    go : (c : Bool) → is_finish ask ≡ c → RecordLeads q h served log id (session_of id h) (Some (aimed x id ask)) ask sealed (answer_inner q.psk (session_of id h) ask sealed) led
-    go true e = finish_case q h f id served log x ask sealed led (finish_is ask e) (kept_finish q h id (sent_text x.content) ask e (was_kept q h x id ask waits kept)) opened shape
+    go : (c : Bool) → is_finish ask ≡ c → RecordLeads prior q h served log id (session_of id h) (Some (aimed x id ask)) ask sealed (answer_inner q.psk (session_of id h) ask sealed) led
+    go true e = finish_case prior q h f id served log x ask sealed led (finish_is ask e) (kept_finish prior q h id (sent_text x.content) ask e (was_kept prior q h x id ask waits kept)) opened shape
     go false e =
-        past_leads q h f id (session_of id h) (asked_marks q h) served log x ask sealed led live e g (is e)
-        (subst (λ (w : Option Text). HeldWell q.psk (session_of id h) (asked_marks q h) w) (own_waits h x id ask waits) (kept.held id (held_at (session_of id h) live (ap is_past_handshake g ∙ asks_past ask e))))
-        (kept_record q h id (sent_text x.content) ask e (was_kept q h x id ask waits kept)) opened shape
+        past_leads q h f id (session_of id h) (asked_from prior q h) served log x ask sealed led live e g (is e)
+        (subst (λ (w : Option Text). HeldWell q.psk (session_of id h) (asked_from prior q h) w) (own_waits h x id ask waits) (kept.held id (held_at (session_of id h) live (ap is_past_handshake g ∙ asks_past ask e))))
+        (kept_record prior q h id (sent_text x.content) ask e (was_kept prior q h x id ask waits kept)) opened shape

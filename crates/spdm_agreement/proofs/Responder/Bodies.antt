@@ -30,7 +30,7 @@ use Rattle.spdm_agreement.specs.Marks.{Asked, Served, next_served, taken}
 use Rattle.spdm_agreement.specs.Marks.Served.{Finished, Refused}
 use Rattle.spdm_agreement.specs.Moves.{State, Move, nothing_yet}
 use Rattle.spdm_agreement.specs.Reading.{Reading}
-use Rattle.spdm_agreement.specs.Story.{served_marks, served_first, served_turn, record_marks, reply_text, taken_text}
+use Rattle.spdm_agreement.specs.Story.{Past, served_from, served_first, served_turn, record_marks, reply_text, taken_text}
 use Rattle.spdm_agreement.proofs.Moves.Invariant.{Invariant}
 use Rattle.spdm_agreement.proofs.Worlds.EndSteps.{IsDraw, OwnLeads, serves_state, ServedReady, ServedStep, ServedStarts, Waits}
 use Rattle.spdm_agreement.proofs.Moves.Runs.{run_good, starts_good, shaken, untaken}
@@ -48,8 +48,8 @@ use Rattle.spdm_agreement.proofs.Responder.Counts.{IsCounted, cleared, ticked, o
 use Rattle.spdm_grammar.specs.declared.names.request_code.TheConstants.{GET_MEASUREMENTS, PSK_EXCHANGE, PSK_FINISH}
 
 -- What is kept of a history: the sessions are counted.
-abbrev pub AreCounted : RspSetup → History → Type 0
-AreCounted r h = (id : ℕ) → IsCounted r.psk (session_of id h) (served_marks r h)
+abbrev pub AreCounted : (prior : Past) → RspSetup → History → Type 0
+AreCounted prior r h = (id : ℕ) → IsCounted r.psk (session_of id h) (served_from prior r h)
 
 -- The turn of a clear message.
 abbrev pub clear_turn : RspSetup → History → List ℕ → Draw → Turn
@@ -67,67 +67,67 @@ leads_by r s z m = (m.moves, m.own, m.run)
 
 -- ---- Nothing is added.
 
-same : (r : RspSetup) (h : History) (asked : List Asked) (log : Log) (body : List ℕ) (d : Draw) (reply : List ℕ) → ServedReady AreCounted r h asked log d → ServedStep AreCounted r h asked log body d (Same reply)
-same r h asked log body d reply ready = record {
-  leads = leads_by (reading_of r.psk) _ _ (stays (reading_of r.psk) (serves_state r h asked log));
+same : (prior : Past) → (r : RspSetup) (h : History) (asked : List Asked) (log : Log) (body : List ℕ) (d : Draw) (reply : List ℕ) → ServedReady prior (AreCounted prior) r h asked log d → ServedStep prior (AreCounted prior) r h asked log body d (Same reply)
+same prior r h asked log body d reply ready = record {
+  leads = leads_by (reading_of r.psk) _ _ (stays (reading_of r.psk) (serves_state prior r h asked log));
   keeps = λ reached. ready.kept;
   draws = let l = ready.fresh in omega arith;
 }
 
-unopened : (r : RspSetup) (h : History) (asked : List Asked) (log : Log) (body : List ℕ) (d : Draw) (reply : List ℕ) → ServedReady AreCounted r h asked log d → ServedStep AreCounted r h asked log body d (Unopened reply)
-unopened r h asked log body d reply ready =
+unopened : (prior : Past) → (r : RspSetup) (h : History) (asked : List Asked) (log : Log) (body : List ℕ) (d : Draw) (reply : List ℕ) → ServedReady prior (AreCounted prior) r h asked log d → ServedStep prior (AreCounted prior) r h asked log body d (Unopened reply)
+unopened prior r h asked log body d reply ready =
     let s = session_of (id_in_record (drop 1 body)) h in
     record {
-      leads = leads_by (reading_of r.psk) _ _ (checks (reading_of r.psk) asked (served_marks r h) (unopened_acts r s (drop 1 body)) log (unopened_checks r s (drop 1 body)));
+      leads = leads_by (reading_of r.psk) _ _ (checks (reading_of r.psk) asked (served_from prior r h) (unopened_acts r s (drop 1 body)) log (unopened_checks r s (drop 1 body)));
       keeps = λ reached. ready.kept;
       draws = let l = ready.fresh in omega arith;
     }
 
 -- ---- In the clear.
 
-begins : (r : RspSetup) (h : History) (asked : List Asked) (log : Log) (m : List ℕ) (d : Draw) (b : Bool) → takes PSK_EXCHANGE (clear_turn r h m d) ≡ b → BeginsWell r → ServedReady AreCounted r h asked log d
-    → IsMoved (reading_of r.psk) (serves_state r h asked log)
-    (state asked (cond b (Served.Began (served_first (began_by h (clear_turn r h m d))) ∷ []) [] ++ served_marks r h) (cond b (response_made r (began_by h (clear_turn r h m d)) ∷ []) [] ++ log))
-begins r h asked log m d false is well ready = stays (reading_of r.psk) (serves_state r h asked log)
-begins r h asked log m d true is well ready =
+begins : (prior : Past) → (r : RspSetup) (h : History) (asked : List Asked) (log : Log) (m : List ℕ) (d : Draw) (b : Bool) → takes PSK_EXCHANGE (clear_turn r h m d) ≡ b → BeginsWell r → ServedReady prior (AreCounted prior) r h asked log d
+    → IsMoved (reading_of r.psk) (serves_state prior r h asked log)
+    (state asked (cond b (Served.Began (served_first (began_by h (clear_turn r h m d))) ∷ []) [] ++ served_from prior r h) (cond b (response_made r (began_by h (clear_turn r h m d)) ∷ []) [] ++ log))
+begins prior r h asked log m d false is well ready = stays (reading_of r.psk) (serves_state prior r h asked log)
+begins prior r h asked log m d true is well ready =
     let t = clear_turn r h m d in
     let s = began_by h t in
     let w = well.begins h ready.made m d ready.draw is in
     moves_by (reading_of r.psk) (Move.Begin (served_first s) (verify_data (session_terms s).choice r.psk (t1_of s) Response (t1_of s))) _ _ tt
-    (w.0, subst (λ (n : ℕ). next_served (reading_of r.psk) (served_marks r h) ≤ n) (sym w.1) ready.fresh) refl
+    (w.0, subst (λ (n : ℕ). next_served (reading_of r.psk) (served_from prior r h) ≤ n) (sym w.1) ready.fresh) refl
 
-clear_draws : (r : RspSetup) (h : History) (asked : List Asked) (log : Log) (m : List ℕ) (d : Draw) (b c : Bool) → takes PSK_EXCHANGE (clear_turn r h m d) ≡ b → BeginsWell r → ServedReady AreCounted r h asked log d
-    → next_served (reading_of r.psk) (cond b (Served.Began (served_first (began_by h (clear_turn r h m d))) ∷ []) [] ++ served_marks r h) + draws_of h ≤ d.number + cond (b || c) (draws_of h + 1) (draws_of h)
-clear_draws r h asked log m d true c is well ready =
+clear_draws : (prior : Past) → (r : RspSetup) (h : History) (asked : List Asked) (log : Log) (m : List ℕ) (d : Draw) (b c : Bool) → takes PSK_EXCHANGE (clear_turn r h m d) ≡ b → BeginsWell r → ServedReady prior (AreCounted prior) r h asked log d
+    → next_served (reading_of r.psk) (cond b (Served.Began (served_first (began_by h (clear_turn r h m d))) ∷ []) [] ++ served_from prior r h) + draws_of h ≤ d.number + cond (b || c) (draws_of h + 1) (draws_of h)
+clear_draws prior r h asked log m d true c is well ready =
     let w = (well.begins h ready.made m d ready.draw is).1 in
     let n = (reading_of r.psk).responder_draw (served_first (began_by h (clear_turn r h m d))) in
     let e : n ≡ d.number = w in
     let k = draws_of h in
     let goal : (n + 1) + k ≤ d.number + (k + 1) = omega arith in goal
-clear_draws r h asked log m d false true is well ready = let l = ready.fresh in omega arith
-clear_draws r h asked log m d false false is well ready = let l = ready.fresh in omega arith
+clear_draws prior r h asked log m d false true is well ready = let l = ready.fresh in omega arith
+clear_draws prior r h asked log m d false false is well ready = let l = ready.fresh in omega arith
 
-clear_kept : (r : RspSetup) (h : History) (tag : ℕ) (t : Turn) (d : Draw) → AreCounted r h → AreCounted r (Clear tag t d ∷ h)
+clear_kept : (prior : Past) → (r : RspSetup) (h : History) (tag : ℕ) (t : Turn) (d : Draw) → AreCounted prior r h → AreCounted prior r (Clear tag t d ∷ h)
 unfolding session_of
-clear_kept r h tag t d kept = λ id. cleared r.psk id (session_of id h) h t (served_marks r h) (kept id)
+clear_kept prior r h tag t d kept = λ id. cleared r.psk id (session_of id h) h t (served_from prior r h) (kept id)
 
-adds_clear : (r : RspSetup) (h : History) (asked : List Asked) (log : Log) (body : List ℕ) (tag : ℕ) (m : List ℕ) (d : Draw) → BeginsWell r → ServedReady AreCounted r h asked log d
-    → ServedStep AreCounted r h asked log body d (Adds (Clear tag (clear_turn r h m d) d))
-adds_clear r h asked log body tag m d well ready = record {
-  leads = leads_by (reading_of r.psk) _ _ (begins r h asked log m d (takes PSK_EXCHANGE (clear_turn r h m d)) refl well ready);
-  keeps = λ reached. clear_kept r h tag (clear_turn r h m d) d ready.kept;
-  draws = clear_draws r h asked log m d (takes PSK_EXCHANGE (clear_turn r h m d)) (takes GET_MEASUREMENTS (clear_turn r h m d)) refl well ready;
+adds_clear : (prior : Past) → (r : RspSetup) (h : History) (asked : List Asked) (log : Log) (body : List ℕ) (tag : ℕ) (m : List ℕ) (d : Draw) → BeginsWell r → ServedReady prior (AreCounted prior) r h asked log d
+    → ServedStep prior (AreCounted prior) r h asked log body d (Adds (Clear tag (clear_turn r h m d) d))
+adds_clear prior r h asked log body tag m d well ready = record {
+  leads = leads_by (reading_of r.psk) _ _ (begins prior r h asked log m d (takes PSK_EXCHANGE (clear_turn r h m d)) refl well ready);
+  keeps = λ reached. clear_kept prior r h tag (clear_turn r h m d) d ready.kept;
+  draws = clear_draws prior r h asked log m d (takes PSK_EXCHANGE (clear_turn r h m d)) (takes GET_MEASUREMENTS (clear_turn r h m d)) refl well ready;
 }
 
-clear_by : (r : RspSetup) (h : History) (asked : List Asked) (log : Log) (body : List ℕ) (tag : ℕ) (m : List ℕ) (d : Draw) (b : Bool) → BeginsWell r → ServedReady AreCounted r h asked log d
-    → ServedStep AreCounted r h asked log body d (cond b (Same (clear_body (kept_reply (kept_of h)))) (Adds (Clear tag (clear_turn r h m d) d)))
-clear_by r h asked log body tag m d true well ready = same r h asked log body d _ ready
-clear_by r h asked log body tag m d false well ready = adds_clear r h asked log body tag m d well ready
+clear_by : (prior : Past) → (r : RspSetup) (h : History) (asked : List Asked) (log : Log) (body : List ℕ) (tag : ℕ) (m : List ℕ) (d : Draw) (b : Bool) → BeginsWell r → ServedReady prior (AreCounted prior) r h asked log d
+    → ServedStep prior (AreCounted prior) r h asked log body d (cond b (Same (clear_body (kept_reply (kept_of h)))) (Adds (Clear tag (clear_turn r h m d) d)))
+clear_by prior r h asked log body tag m d true well ready = same prior r h asked log body d _ ready
+clear_by prior r h asked log body tag m d false well ready = adds_clear prior r h asked log body tag m d well ready
 
-clear_step : (r : RspSetup) (h : History) (asked : List Asked) (log : Log) (body : List ℕ) (tag : ℕ) (m : List ℕ) (d : Draw) → BeginsWell r → ServedReady AreCounted r h asked log d
-    → ServedStep AreCounted r h asked log body d (clear_does r h tag m d)
+clear_step : (prior : Past) → (r : RspSetup) (h : History) (asked : List Asked) (log : Log) (body : List ℕ) (tag : ℕ) (m : List ℕ) (d : Draw) → BeginsWell r → ServedReady prior (AreCounted prior) r h asked log d
+    → ServedStep prior (AreCounted prior) r h asked log body d (clear_does r h tag m d)
 unfolding on_clear
-clear_step r h asked log body tag m d well ready = clear_by r h asked log body tag m d (is_repeat (kept_of h) tag m) well ready
+clear_step prior r h asked log body tag m d well ready = clear_by prior r h asked log body tag m d (is_repeat (kept_of h) tag m) well ready
 
 -- ---- In a session.
 
@@ -152,14 +152,14 @@ more_draws : (b : Bool) (n : ℕ) → n ≤ cond b (n + 1) n
 more_draws true n = omega arith
 more_draws false n = omega arith
 
-sealed_draws : (r : RspSetup) (h : History) (asked : List Asked) (log : Log) (s : Events) (sealed : List ℕ) (t : Turn) (reply : List ℕ) (d : Draw) → ServedReady AreCounted r h asked log d
-    → next_served (reading_of r.psk) (record_marks r s sealed t reply ++ served_marks r h) + draws_of h ≤ d.number + cond (takes_draw t) (draws_of h + 1) (draws_of h)
-sealed_draws r h asked log s sealed t reply d ready =
+sealed_draws : (prior : Past) → (r : RspSetup) (h : History) (asked : List Asked) (log : Log) (s : Events) (sealed : List ℕ) (t : Turn) (reply : List ℕ) (d : Draw) → ServedReady prior (AreCounted prior) r h asked log d
+    → next_served (reading_of r.psk) (record_marks r s sealed t reply ++ served_from prior r h) + draws_of h ≤ d.number + cond (takes_draw t) (draws_of h + 1) (draws_of h)
+sealed_draws prior r h asked log s sealed t reply d ready =
     let l = ready.fresh in
     let more = more_draws (takes_draw t) (draws_of h) in
-    let new = next_served (reading_of r.psk) (record_marks r s sealed t reply ++ served_marks r h) in
-    let old = next_served (reading_of r.psk) (served_marks r h) in
-    let e : new ≡ old = next_record (reading_of r.psk) r s sealed t reply (served_marks r h) in
+    let new = next_served (reading_of r.psk) (record_marks r s sealed t reply ++ served_from prior r h) in
+    let old = next_served (reading_of r.psk) (served_from prior r h) in
+    let e : new ≡ old = next_record (reading_of r.psk) r s sealed t reply (served_from prior r h) in
     let k = draws_of h in
     let j = cond (takes_draw t) (draws_of h + 1) (draws_of h) in
     let goal : new + k ≤ d.number + j = omega arith in goal
@@ -186,32 +186,32 @@ compared_keeps r s sealed asked m log reached n =
     (run_good (reading_of r.psk) moved.moves (state asked m log) (state asked m (compared r s sealed ++ log)) moved.run
     (run_good (reading_of r.psk) reached.moves nothing_yet (state asked m log) reached.run (starts_good (reading_of r.psk)))).holds n
 
-kept_by : (r : RspSetup) (h : History) (id of : ℕ) (e : Event) (s : Events) (f : Free) (sealed : List ℕ) (t : Turn) (reply : List ℕ) (asked : List Asked) (log : Log) (b : Bool) → (of == id) ≡ b → session_of of h ≡ e ∷ s
-    → Opens r (e ∷ s) f sealed t reply → EndsByFinish (stage_of (e ∷ s)) (e ∷ s) sealed t reply → ShakesAt (e ∷ s) (served_marks r h) → ServedAt r.psk of (e ∷ s) (served_marks r h) → ServedAt r.psk id (session_of id h) (served_marks r h)
-    → Invariant (reading_of r.psk) asked (served_marks r h) (compared r (e ∷ s) sealed ++ log) → NoChance (compared r (e ∷ s) sealed ++ log) → AreCounted r h
-    → IsCounted r.psk (cond b (after_record (session_of id h) sealed t reply) (session_of id h)) (record_marks r (e ∷ s) sealed t reply ++ served_marks r h)
-kept_by r h id of e s f sealed t reply asked log true is own o steady at served other k n kept =
+kept_by : (prior : Past) → (r : RspSetup) (h : History) (id of : ℕ) (e : Event) (s : Events) (f : Free) (sealed : List ℕ) (t : Turn) (reply : List ℕ) (asked : List Asked) (log : Log) (b : Bool) → (of == id) ≡ b → session_of of h ≡ e ∷ s
+    → Opens r (e ∷ s) f sealed t reply → EndsByFinish (stage_of (e ∷ s)) (e ∷ s) sealed t reply → ShakesAt (e ∷ s) (served_from prior r h) → ServedAt r.psk of (e ∷ s) (served_from prior r h) → ServedAt r.psk id (session_of id h) (served_from prior r h)
+    → Invariant (reading_of r.psk) asked (served_from prior r h) (compared r (e ∷ s) sealed ++ log) → NoChance (compared r (e ∷ s) sealed ++ log) → AreCounted prior r h
+    → IsCounted r.psk (cond b (after_record (session_of id h) sealed t reply) (session_of id h)) (record_marks r (e ∷ s) sealed t reply ++ served_from prior r h)
+kept_by prior r h id of e s f sealed t reply asked log true is own o steady at served other k n kept =
     let here : session_of id h ≡ e ∷ s = sym (ap (λ (i : ℕ). session_of i h) (eqb-true of id is)) ∙ own in
-    subst (λ (x : Events). IsCounted r.psk (after_record x sealed t reply) (record_marks r (e ∷ s) sealed t reply ++ served_marks r h)) (sym here)
-    (own_record r e s f sealed t reply (served_marks r h) o steady (untaken_yet r (e ∷ s) f sealed t reply asked (served_marks r h) log o at k n)
-    (subst (λ (x : Events). IsCounted r.psk x (served_marks r h)) own (kept of)))
-kept_by r h id of e s f sealed t reply asked log false is own o steady at served other k n kept =
-    elsewhere r id of e s (session_of id h) sealed t reply asked (served_marks r h) (compared r (e ∷ s) sealed ++ log) k (λ same. true≢false (sym (eq-eqb of id same) ∙ is)) served other (kept id)
+    subst (λ (x : Events). IsCounted r.psk (after_record x sealed t reply) (record_marks r (e ∷ s) sealed t reply ++ served_from prior r h)) (sym here)
+    (own_record r e s f sealed t reply (served_from prior r h) o steady (untaken_yet r (e ∷ s) f sealed t reply asked (served_from prior r h) log o at k n)
+    (subst (λ (x : Events). IsCounted r.psk x (served_from prior r h)) own (kept of)))
+kept_by prior r h id of e s f sealed t reply asked log false is own o steady at served other k n kept =
+    elsewhere r id of e s (session_of id h) sealed t reply asked (served_from prior r h) (compared r (e ∷ s) sealed ++ log) k (λ same. true≢false (sym (eq-eqb of id same) ∙ is)) served other (kept id)
 
 -- What is known of the session of a record.
-pub record IsSession (r : RspSetup) (h : History) (of : ℕ) (e : Event) (s : Events) : Type 0 where
+pub record IsSession (prior : Past) (r : RspSetup) (h : History) (of : ℕ) (e : Event) (s : Events) : Type 0 where
   pub is : session_of of h ≡ e ∷ s
-  pub at : ShakesAt (e ∷ s) (served_marks r h)
-  pub served : ServedAt r.psk of (e ∷ s) (served_marks r h)
+  pub at : ShakesAt (e ∷ s) (served_from prior r h)
+  pub served : ServedAt r.psk of (e ∷ s) (served_from prior r h)
   pub room : IsRoomy (e ∷ s)
 
-session_at : (r : RspSetup) (h : History) (of : ℕ) (e : Event) (s : Events) → IsMade r h → BeginsWell r → session_of of h ≡ e ∷ s → IsSession r h of e s
-session_at r h of e s made well is =
+session_at : (prior : Past) → (r : RspSetup) (h : History) (of : ℕ) (e : Event) (s : Events) → IsMade r h → BeginsWell r → session_of of h ≡ e ∷ s → IsSession prior r h of e s
+session_at prior r h of e s made well is =
     let steady = made_steady r h made in
     record {
       is = is;
-      at = subst (λ (x : Events). ShakesAt x (served_marks r h)) is (shakes_stand r h steady of);
-      served = subst (λ (x : Events). ServedAt r.psk of x (served_marks r h)) is (served_stands r.psk r h steady of);
+      at = subst (λ (x : Events). ShakesAt x (served_from prior r h)) is (shakes_stand prior r h steady of);
+      served = subst (λ (x : Events). ServedAt r.psk of x (served_from prior r h)) is (served_stands prior r.psk r h steady of);
       room = subst IsRoomy is (well.room h made of (ap is_live is));
     }
 
@@ -222,9 +222,9 @@ record_turn r h s sealed d = session_turn r s (opened r.psk s sealed) (record_ch
 abbrev record_reply : RspSetup → History → Events → List ℕ → Draw → List ℕ
 record_reply r h s sealed d = reply_record r.psk s (record_turn r h s sealed d) (inner_reply (record_turn r h s sealed d)) (record_chosen r h sealed d).pad
 
-record_opens : (r : RspSetup) (h : History) (e : Event) (s : Events) (sealed : List ℕ) (d : Draw) → IsSession r h (id_in_record sealed) e s → opening_fault r.psk (e ∷ s) sealed ≡ None
+record_opens : (prior : Past) → (r : RspSetup) (h : History) (e : Event) (s : Events) (sealed : List ℕ) (d : Draw) → IsSession prior r h (id_in_record sealed) e s → opening_fault r.psk (e ∷ s) sealed ≡ None
     → Opens r (e ∷ s) (record_chosen r h sealed d) sealed (record_turn r h (e ∷ s) sealed d) (record_reply r h (e ∷ s) sealed d)
-record_opens r h e s sealed d x none =
+record_opens prior r h e s sealed d x none =
     let f = record_chosen r h sealed d in
     let t = record_turn r h (e ∷ s) sealed d in
     record {
@@ -235,19 +235,19 @@ record_opens r h e s sealed d x none =
       answers = ap (λ (pad : List ℕ). reply_record r.psk (e ∷ s) t (inner_reply t) pad) (no_pad r h sealed d);
     }
 
-record_leads : (r : RspSetup) (h : History) (asked : List Asked) (log : Log) (e : Event) (s : Events) (sealed : List ℕ) (d : Draw) → AreCounted r h → IsSession r h (id_in_record sealed) e s → opening_fault r.psk (e ∷ s) sealed ≡ None
-    → IsMoved (reading_of r.psk) (serves_state r h asked log)
-    (state asked (record_marks r (e ∷ s) sealed (record_turn r h (e ∷ s) sealed d) (record_reply r h (e ∷ s) sealed d) ++ served_marks r h) (opened_acts r (e ∷ s) sealed (record_turn r h (e ∷ s) sealed d) (record_reply r h (e ∷ s) sealed d) ++ log))
-record_leads r h asked log e s sealed d kept x none =
+record_leads : (prior : Past) → (r : RspSetup) (h : History) (asked : List Asked) (log : Log) (e : Event) (s : Events) (sealed : List ℕ) (d : Draw) → AreCounted prior r h → IsSession prior r h (id_in_record sealed) e s → opening_fault r.psk (e ∷ s) sealed ≡ None
+    → IsMoved (reading_of r.psk) (serves_state prior r h asked log)
+    (state asked (record_marks r (e ∷ s) sealed (record_turn r h (e ∷ s) sealed d) (record_reply r h (e ∷ s) sealed d) ++ served_from prior r h) (opened_acts r (e ∷ s) sealed (record_turn r h (e ∷ s) sealed d) (record_reply r h (e ∷ s) sealed d) ++ log))
+record_leads prior r h asked log e s sealed d kept x none =
     let of = id_in_record sealed in
-    record_moves r of (e ∷ s) (record_chosen r h sealed d) sealed (record_turn r h (e ∷ s) sealed d) (record_reply r h (e ∷ s) sealed d) asked (served_marks r h) log (record_opens r h e s sealed d x none) x.at
-    (λ past. (x.served.told past, (subst (λ (y : Events). IsCounted r.psk y (served_marks r h)) x.is (kept of)).counts past))
+    record_moves r of (e ∷ s) (record_chosen r h sealed d) sealed (record_turn r h (e ∷ s) sealed d) (record_reply r h (e ∷ s) sealed d) asked (served_from prior r h) log (record_opens prior r h e s sealed d x none) x.at
+    (λ past. (x.served.told past, (subst (λ (y : Events). IsCounted r.psk y (served_from prior r h)) x.is (kept of)).counts past))
 
-record_kept : (r : RspSetup) (h : History) (asked : List Asked) (log : Log) (tag : ℕ) (e : Event) (s : Events) (sealed : List ℕ) (d : Draw) → ServedReady AreCounted r h asked log d → IsSession r h (id_in_record sealed) e s → opening_fault r.psk (e ∷ s) sealed ≡ None
+record_kept : (prior : Past) → (r : RspSetup) (h : History) (asked : List Asked) (log : Log) (tag : ℕ) (e : Event) (s : Events) (sealed : List ℕ) (d : Draw) → ServedReady prior (AreCounted prior) r h asked log d → IsSession prior r h (id_in_record sealed) e s → opening_fault r.psk (e ∷ s) sealed ≡ None
     → NoChance (opened_acts r (e ∷ s) sealed (record_turn r h (e ∷ s) sealed d) (record_reply r h (e ∷ s) sealed d) ++ log)
-    → AreCounted r (Sealed tag sealed (record_turn r h (e ∷ s) sealed d) (record_reply r h (e ∷ s) sealed d) d ∷ h)
+    → AreCounted prior r (Sealed tag sealed (record_turn r h (e ∷ s) sealed d) (record_reply r h (e ∷ s) sealed d) d ∷ h)
 unfolding session_of
-record_kept r h asked log tag e s sealed d ready x none chance = λ id.
+record_kept prior r h asked log tag e s sealed d ready x none chance = λ id.
     (let of = id_in_record sealed in
     let f = record_chosen r h sealed d in
     let t = record_turn r h (e ∷ s) sealed d in
@@ -255,68 +255,68 @@ record_kept r h asked log tag e s sealed d ready x none chance = λ id.
     let inner = opened r.psk (e ∷ s) sealed in
     let steady = ends r (e ∷ s) (drop 1 inner) sealed t reply (stage_of (e ∷ s)) refl (takes_session r (e ∷ s) inner f) in
     let n = chance.1 in
-    let k = compared_keeps r (e ∷ s) sealed asked (served_marks r h) log ready.reached n in
-    subst (λ (y : Events). IsCounted r.psk (cond (of == id) (after_record (session_of id h) sealed t reply) (session_of id h)) (record_marks r y sealed t reply ++ served_marks r h)) (sym x.is)
-    (kept_by r h id of e s f sealed t reply asked log (of == id) refl x.is (record_opens r h e s sealed d x none) steady x.at x.served (served_stands r.psk r h (made_steady r h ready.made) id) k n ready.kept))
+    let k = compared_keeps r (e ∷ s) sealed asked (served_from prior r h) log ready.reached n in
+    subst (λ (y : Events). IsCounted r.psk (cond (of == id) (after_record (session_of id h) sealed t reply) (session_of id h)) (record_marks r y sealed t reply ++ served_from prior r h)) (sym x.is)
+    (kept_by prior r h id of e s f sealed t reply asked log (of == id) refl x.is (record_opens prior r h e s sealed d x none) steady x.at x.served (served_stands prior r.psk r h (made_steady r h ready.made) id) k n ready.kept))
 
-adds_record : (r : RspSetup) (h : History) (asked : List Asked) (log : Log) (body : List ℕ) (tag : ℕ) (e : Event) (s : Events) (sealed : List ℕ) (d : Draw) → ServedReady AreCounted r h asked log d → IsSession r h (id_in_record sealed) e s → opening_fault r.psk (e ∷ s) sealed ≡ None
-    → ServedStep AreCounted r h asked log body d (Adds (Sealed tag sealed (record_turn r h (e ∷ s) sealed d) (record_reply r h (e ∷ s) sealed d) d))
-adds_record r h asked log body tag e s sealed d ready x none =
+adds_record : (prior : Past) → (r : RspSetup) (h : History) (asked : List Asked) (log : Log) (body : List ℕ) (tag : ℕ) (e : Event) (s : Events) (sealed : List ℕ) (d : Draw) → ServedReady prior (AreCounted prior) r h asked log d → IsSession prior r h (id_in_record sealed) e s → opening_fault r.psk (e ∷ s) sealed ≡ None
+    → ServedStep prior (AreCounted prior) r h asked log body d (Adds (Sealed tag sealed (record_turn r h (e ∷ s) sealed d) (record_reply r h (e ∷ s) sealed d) d))
+adds_record prior r h asked log body tag e s sealed d ready x none =
     let t = record_turn r h (e ∷ s) sealed d in
     let reply = record_reply r h (e ∷ s) sealed d in
     let of = id_in_record sealed in
     record {
-      leads = subst (λ (y : Events). OwnLeads (reading_of r.psk) (serves_state r h asked log) (state asked (record_marks r y sealed t reply ++ served_marks r h) (opened_acts r y sealed t reply ++ log))) (sym x.is)
-          (leads_by (reading_of r.psk) _ _ (record_leads r h asked log e s sealed d ready.kept x none));
-      keeps = λ reached. record_kept r h asked log tag e s sealed d ready x none (subst (λ (y : Events). NoChance (opened_acts r y sealed t reply ++ log)) x.is reached.no_chance);
-      draws = sealed_draws r h asked log (session_of of h) sealed t reply d ready;
+      leads = subst (λ (y : Events). OwnLeads (reading_of r.psk) (serves_state prior r h asked log) (state asked (record_marks r y sealed t reply ++ served_from prior r h) (opened_acts r y sealed t reply ++ log))) (sym x.is)
+          (leads_by (reading_of r.psk) _ _ (record_leads prior r h asked log e s sealed d ready.kept x none));
+      keeps = λ reached. record_kept prior r h asked log tag e s sealed d ready x none (subst (λ (y : Events). NoChance (opened_acts r y sealed t reply ++ log)) x.is reached.no_chance);
+      draws = sealed_draws prior r h asked log (session_of of h) sealed t reply d ready;
     }
 
-in_session_step : (r : RspSetup) (h : History) (asked : List Asked) (log : Log) (body : List ℕ) (tag : ℕ) (phase : Phase) (e : Event) (s : Events) (sealed : List ℕ) (d : Draw) (o : Option RecordFault) → opening_fault r.psk (e ∷ s) sealed ≡ o
-    → ServedReady AreCounted r h asked log d → IsSession r h (id_in_record sealed) e s → ServedStep AreCounted r h asked log body d (in_session_by r phase (e ∷ s) (record_chosen r h sealed d) tag sealed d o)
-in_session_step r h asked log body tag phase e s sealed d (Some fault) is ready x = unopened r h asked log body d (decrypt_error phase) ready
-in_session_step r h asked log body tag phase e s sealed d None is ready x = adds_record r h asked log body tag e s sealed d ready x is
+in_session_step : (prior : Past) → (r : RspSetup) (h : History) (asked : List Asked) (log : Log) (body : List ℕ) (tag : ℕ) (phase : Phase) (e : Event) (s : Events) (sealed : List ℕ) (d : Draw) (o : Option RecordFault) → opening_fault r.psk (e ∷ s) sealed ≡ o
+    → ServedReady prior (AreCounted prior) r h asked log d → IsSession prior r h (id_in_record sealed) e s → ServedStep prior (AreCounted prior) r h asked log body d (in_session_by r phase (e ∷ s) (record_chosen r h sealed d) tag sealed d o)
+in_session_step prior r h asked log body tag phase e s sealed d (Some fault) is ready x = unopened prior r h asked log body d (decrypt_error phase) ready
+in_session_step prior r h asked log body tag phase e s sealed d None is ready x = adds_record prior r h asked log body tag e s sealed d ready x is
 
-live_step : (r : RspSetup) (h : History) (asked : List Asked) (log : Log) (body : List ℕ) (tag : ℕ) (phase : Phase) (e : Event) (s : Events) (sealed : List ℕ) (d : Draw) (b : Bool)
-    → ServedReady AreCounted r h asked log d → IsSession r h (id_in_record sealed) e s
-    → ServedStep AreCounted r h asked log body d (cond b (Same (record_body (kept_record (last_of (e ∷ s))))) (in_session r phase (e ∷ s) (record_chosen r h sealed d) tag sealed d))
+live_step : (prior : Past) → (r : RspSetup) (h : History) (asked : List Asked) (log : Log) (body : List ℕ) (tag : ℕ) (phase : Phase) (e : Event) (s : Events) (sealed : List ℕ) (d : Draw) (b : Bool)
+    → ServedReady prior (AreCounted prior) r h asked log d → IsSession prior r h (id_in_record sealed) e s
+    → ServedStep prior (AreCounted prior) r h asked log body d (cond b (Same (record_body (kept_record (last_of (e ∷ s))))) (in_session r phase (e ∷ s) (record_chosen r h sealed d) tag sealed d))
 unfolding in_session
-live_step r h asked log body tag phase e s sealed d true ready x = same r h asked log body d _ ready
-live_step r h asked log body tag phase e s sealed d false ready x = in_session_step r h asked log body tag phase e s sealed d (opening_fault r.psk (e ∷ s) sealed) refl ready x
+live_step prior r h asked log body tag phase e s sealed d true ready x = same prior r h asked log body d _ ready
+live_step prior r h asked log body tag phase e s sealed d false ready x = in_session_step prior r h asked log body tag phase e s sealed d (opening_fault r.psk (e ∷ s) sealed) refl ready x
 
-session_step : (r : RspSetup) (h : History) (asked : List Asked) (log : Log) (body : List ℕ) (tag : ℕ) (phase : Phase) (s : Events) (sealed : List ℕ) (d : Draw) → session_of (id_in_record sealed) h ≡ s → BeginsWell r
-    → ServedReady AreCounted r h asked log d → ServedStep AreCounted r h asked log body d (to_session r phase s (record_chosen r h sealed d) tag sealed d)
-session_step r h asked log body tag phase [] sealed d is well ready = unopened r h asked log body d (decrypt_error phase) ready
-session_step r h asked log body tag phase (e ∷ s) sealed d is well ready =
-    live_step r h asked log body tag phase e s sealed d (repeats (last_of (e ∷ s)) sealed) ready (session_at r h (id_in_record sealed) e s ready.made well is)
+session_step : (prior : Past) → (r : RspSetup) (h : History) (asked : List Asked) (log : Log) (body : List ℕ) (tag : ℕ) (phase : Phase) (s : Events) (sealed : List ℕ) (d : Draw) → session_of (id_in_record sealed) h ≡ s → BeginsWell r
+    → ServedReady prior (AreCounted prior) r h asked log d → ServedStep prior (AreCounted prior) r h asked log body d (to_session r phase s (record_chosen r h sealed d) tag sealed d)
+session_step prior r h asked log body tag phase [] sealed d is well ready = unopened prior r h asked log body d (decrypt_error phase) ready
+session_step prior r h asked log body tag phase (e ∷ s) sealed d is well ready =
+    live_step prior r h asked log body tag phase e s sealed d (repeats (last_of (e ∷ s)) sealed) ready (session_at prior r h (id_in_record sealed) e s ready.made well is)
 
-record_by : (r : RspSetup) (h : History) (asked : List Asked) (log : Log) (body : List ℕ) (tag : ℕ) (sealed : List ℕ) (d : Draw) (b : Bool) → BeginsWell r → ServedReady AreCounted r h asked log d
-    → ServedStep AreCounted r h asked log body d (cond b (Same (record_body (kept_record (ended_of h)))) (to_session r (phase_of (clear_turns h)) (session_of (id_in_record sealed) h) (record_chosen r h sealed d) tag sealed d))
-record_by r h asked log body tag sealed d true well ready = same r h asked log body d _ ready
-record_by r h asked log body tag sealed d false well ready = session_step r h asked log body tag (phase_of (clear_turns h)) (session_of (id_in_record sealed) h) sealed d refl well ready
+record_by : (prior : Past) → (r : RspSetup) (h : History) (asked : List Asked) (log : Log) (body : List ℕ) (tag : ℕ) (sealed : List ℕ) (d : Draw) (b : Bool) → BeginsWell r → ServedReady prior (AreCounted prior) r h asked log d
+    → ServedStep prior (AreCounted prior) r h asked log body d (cond b (Same (record_body (kept_record (ended_of h)))) (to_session r (phase_of (clear_turns h)) (session_of (id_in_record sealed) h) (record_chosen r h sealed d) tag sealed d))
+record_by prior r h asked log body tag sealed d true well ready = same prior r h asked log body d _ ready
+record_by prior r h asked log body tag sealed d false well ready = session_step prior r h asked log body tag (phase_of (clear_turns h)) (session_of (id_in_record sealed) h) sealed d refl well ready
 
-record_step : (r : RspSetup) (h : History) (asked : List Asked) (log : Log) (body : List ℕ) (tag : ℕ) (sealed : List ℕ) (d : Draw) → BeginsWell r → ServedReady AreCounted r h asked log d
-    → ServedStep AreCounted r h asked log body d (record_does r h tag sealed d)
+record_step : (prior : Past) → (r : RspSetup) (h : History) (asked : List Asked) (log : Log) (body : List ℕ) (tag : ℕ) (sealed : List ℕ) (d : Draw) → BeginsWell r → ServedReady prior (AreCounted prior) r h asked log d
+    → ServedStep prior (AreCounted prior) r h asked log body d (record_does r h tag sealed d)
 unfolding on_record
-record_step r h asked log body tag sealed d well ready = record_by r h asked log body tag sealed d (repeats (ended_of h) sealed) well ready
+record_step prior r h asked log body tag sealed d well ready = record_by prior r h asked log body tag sealed d (repeats (ended_of h) sealed) well ready
 
 -- ---- All bodies.
 
-does_by : (r : RspSetup) (h : History) (asked : List Asked) (log : Log) (tag : ℕ) (body : List ℕ) (d : Draw) (b : Bool) → BeginsWell r → ServedReady AreCounted r h asked log d
-    → ServedStep AreCounted r h asked log body d (cond b (clear_does r h tag (drop 1 body) d) (record_does r h tag (drop 1 body) d))
-does_by r h asked log tag body d true well ready = clear_step r h asked log body tag (drop 1 body) d well ready
-does_by r h asked log tag body d false well ready = record_step r h asked log body tag (drop 1 body) d well ready
+does_by : (prior : Past) → (r : RspSetup) (h : History) (asked : List Asked) (log : Log) (tag : ℕ) (body : List ℕ) (d : Draw) (b : Bool) → BeginsWell r → ServedReady prior (AreCounted prior) r h asked log d
+    → ServedStep prior (AreCounted prior) r h asked log body d (cond b (clear_does r h tag (drop 1 body) d) (record_does r h tag (drop 1 body) d))
+does_by prior r h asked log tag body d true well ready = clear_step prior r h asked log body tag (drop 1 body) d well ready
+does_by prior r h asked log tag body d false well ready = record_step prior r h asked log body tag (drop 1 body) d well ready
 
-pub does_where : (r : RspSetup) (h : History) (asked : List Asked) (log : Log) (tag : ℕ) (body : List ℕ) (d : Draw) → BeginsWell r → ServedReady AreCounted r h asked log d
-    → ServedStep AreCounted r h asked log body d (responder_does r h tag body d)
-does_where r h asked log tag body d well ready = does_by r h asked log tag body d (slice_index body 0 == 5) well ready
+pub does_where : (prior : Past) → (r : RspSetup) (h : History) (asked : List Asked) (log : Log) (tag : ℕ) (body : List ℕ) (d : Draw) → BeginsWell r → ServedReady prior (AreCounted prior) r h asked log d
+    → ServedStep prior (AreCounted prior) r h asked log body d (responder_does r h tag body d)
+does_where prior r h asked log tag body d well ready = does_by prior r h asked log tag body d (slice_index body 0 == 5) well ready
 
 -- ---- The beginning, queued data and time.
 
-pub served_starts : ServedStarts AreCounted
+pub served_starts : (prior : Past) → ServedStarts (AreCounted prior)
 unfolding session_of
-served_starts r = λ id. record { counts = λ e. absurd (true≢false (sym e)) }
+served_starts prior r = λ id. record { counts = λ e. absurd (true≢false (sym e)) }
 
-pub waits : Waits AreCounted
+pub waits : (prior : Past) → Waits (AreCounted prior)
 unfolding session_of
-waits r h made kept = (λ bytes id. kept id, λ seconds id. ticked r.psk (session_of id h) seconds (served_marks r h) (kept id))
+waits prior r h made kept = (λ bytes id. kept id, λ seconds id. ticked r.psk (session_of id h) seconds (served_from prior r h) (kept id))

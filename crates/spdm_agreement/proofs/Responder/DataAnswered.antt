@@ -14,7 +14,7 @@ use Rattle.responder_machine.specs.Setup.{RspSetup}
 use Rattle.responder_machine.specs.Turn.{Turn, takes}
 use Rattle.spdm_agreement.specs.Marks.{Served, Exchange, taken}
 use Rattle.spdm_agreement.specs.Reading.{First}
-use Rattle.spdm_agreement.specs.Story.{served_marks, served_first, served_turn, record_marks, taken_text, reply_text}
+use Rattle.spdm_agreement.specs.Story.{Past, no_past, served_from, served_first, served_turn, record_marks, taken_text, reply_text}
 use Rattle.spdm_agreement.proofs.Delivery.Data.{is_data_inner, is_data_text, verifying, AnsweredDuly, ServesDuly}
 use Rattle.spdm_agreement.proofs.Responder.RecordMoves.{is_verifying}
 use Rattle.spdm_agreement.proofs.Responder.Counts.{IsCounted}
@@ -72,43 +72,51 @@ cleared x m false all = all
 
 -- ---- What is kept of a history: its sessions are counted, and data are answered duly.
 
-pub record IsKept (r : RspSetup) (h : History) : Type 0 where
-  pub counted : AreCounted r h
-  pub duly : ServesDuly (served_marks r h)
+pub record IsKept (prior : Past) (r : RspSetup) (h : History) : Type 0 where
+  pub counted : AreCounted prior r h
+  pub duly : ServesDuly (served_from prior r h)
 
-after_duly : (r : RspSetup) (h : History) (o : Outcome) → IsMade r (after h o) → AreCounted r h → ServesDuly (served_marks r h) → ServesDuly (served_marks r (after h o))
-after_duly r h (Outcome.Same body) made counted all = all
-after_duly r h (Outcome.Unopened body) made counted all = all
-after_duly r h (Outcome.Adds (Clear tag t d)) made counted all = cleared _ (served_marks r h) (takes PSK_EXCHANGE t) all
-after_duly r h (Outcome.Adds (Sealed tag sealed t reply d)) made counted all =
+after_duly : (prior : Past) → (r : RspSetup) (h : History) (o : Outcome) → IsMade r (after h o) → AreCounted prior r h → ServesDuly (served_from prior r h) → ServesDuly (served_from prior r (after h o))
+after_duly prior r h (Outcome.Same body) made counted all = all
+after_duly prior r h (Outcome.Unopened body) made counted all = all
+after_duly prior r h (Outcome.Adds (Clear tag t d)) made counted all = cleared _ (served_from prior r h) (takes PSK_EXCHANGE t) all
+after_duly prior r h (Outcome.Adds (Sealed tag sealed t reply d)) made counted all =
     let of = id_in_record sealed in
     let s = session_of of h in
     let f = record_chosen r h sealed d in
-    recorded r s f sealed t reply (served_marks r h) (chosen_short r h sealed d made.1)
+    recorded r s f sealed t reply (served_from prior r h) (chosen_short r h sealed d made.1)
     (subst (DataTurn (stage_of s) (opened r.psk s sealed) f) (sym (record_entry r h f tag tag sealed sealed t reply d d made.0)) (data_turn_is r s (opened r.psk s sealed) f)) (counted of) all
-after_duly r h (Outcome.Adds (Queued bytes)) made counted all = all
-after_duly r h (Outcome.Adds (Ticked seconds)) made counted all = all
-after_duly r h (Outcome.Adds (Dropped id)) made counted all = all
+after_duly prior r h (Outcome.Adds (Queued bytes)) made counted all = all
+after_duly prior r h (Outcome.Adds (Ticked seconds)) made counted all = all
+after_duly prior r h (Outcome.Adds (Dropped id)) made counted all = all
 
 -- ---- What a responder owes.
 
-pub does_well : DoesWell IsKept
-does_well r h asked log tag body d ready =
-    let step = begins.does_well r h asked log tag body d (record { setup = ready.setup; made = ready.made; kept = ready.kept.counted; reached = ready.reached; fresh = ready.fresh; draw = ready.draw }) in
+pub does_well : (prior : Past) → DoesWell prior (IsKept prior)
+does_well prior r h asked log tag body d ready =
+    let step = begins.does_well prior r h asked log tag body d (record { setup = ready.setup; made = ready.made; kept = ready.kept.counted; reached = ready.reached; fresh = ready.fresh; draw = ready.draw }) in
     let o = responder_does r h tag body d in
     record {
       leads = step.leads;
-      keeps = λ reached. record { counted = step.keeps reached; duly = after_duly r h o (does_made r h tag body d ready.made).made ready.kept.counted ready.kept.duly };
+      keeps = λ reached. record { counted = step.keeps reached; duly = after_duly prior r h o (does_made r h tag body d ready.made).made ready.kept.counted ready.kept.duly };
       draws = step.draws;
     }
 
-pub served_starts : ServedStarts IsKept
-served_starts r = record { counted = does.served_starts r; duly = record { duly = λ u. tt } }
+-- A responder may go on from here.
+abbrev pub BeginsDuly : Past → Type 0
+BeginsDuly prior = (r : RspSetup) → ServesDuly (prior.served r)
 
-pub waits : Waits IsKept
-waits r h made kept =
-    let l = does.waits r h made kept.counted in
+pub served_starts : (prior : Past) → BeginsDuly prior → ServedStarts (IsKept prior)
+served_starts prior from r = record { counted = does.served_starts prior r; duly = from r }
+
+-- Where nothing was before, it may begin.
+pub begins_duly : BeginsDuly no_past
+begins_duly r = record { duly = λ u. tt }
+
+pub waits : (prior : Past) → Waits (IsKept prior)
+waits prior r h made kept =
+    let l = does.waits prior r h made kept.counted in
     (λ bytes. record { counted = l.0 bytes; duly = record { duly = kept.duly.duly } }, λ seconds. record { counted = l.1 seconds; duly = record { duly = kept.duly.duly } })
 
-pub serves_duly : (r : RspSetup) (h : History) → IsKept r h → ServesDuly (served_marks r h)
-serves_duly r h kept = kept.duly
+pub serves_duly : (prior : Past) → (r : RspSetup) (h : History) → IsKept prior r h → ServesDuly (served_from prior r h)
+serves_duly prior r h kept = kept.duly

@@ -31,6 +31,7 @@ use Rattle.responder_machine.specs.History.Entry.{Clear, Sealed, Queued, Ticked,
 use Rattle.spdm_machine.specs.Keys.{Draw, context_of, verify_data}
 use Rattle.responder_machine.specs.Place.{Place, place_terms}
 use Rattle.responder_machine.specs.Refusal.{phase_allows, has_pending}
+use Rattle.responder_machine.specs.ResponderLog.{began_by}
 use Rattle.responder_machine.specs.Session.{Event, Events, session_of, is_live, stage_of, session_negotiation, after_tick, when_live, id_in_record, gives_id}
 use Rattle.spdm_machine.specs.Sessions.{is_past_handshake, id_in_exchange}
 use Rattle.responder_machine.specs.Session.Event.{Began, Heard, Waited}
@@ -45,7 +46,7 @@ use Rattle.spdm_agreement.specs.Reading.{First}
 use Rattle.spdm_agreement.proofs.Messages.RequestCodes.{code_read, second_byte}
 use Rattle.spdm_agreement.proofs.Worlds.EndSteps.{IsDraw, DoesWell}
 use Rattle.responder_machine.proofs.VerifyLength.{length_blocks, length_verify}
-use Rattle.spdm_agreement.proofs.Messages.Beginnings.{reading_of, is_sound_first, is_negotiated, first_hash, transcript_of, answer_verify, context_number, summary_size, answer_context}
+use Rattle.spdm_agreement.proofs.Messages.Beginnings.{reading_of, is_sound_first, is_negotiated, first_hash, transcript_of, answer_verify, context_number, summary_size, answer_context, front_draw}
 use Rattle.spdm_agreement.proofs.Responder.ClearTurns.{TakesClear, clear_case}
 use Rattle.spdm_agreement.proofs.Responder.Negotiation.{HasVersion, HasCaps, HasAlgorithms, IsKnown, answered, entry_turn, known, common_in}
 use Rattle.spdm_agreement.proofs.Responder.Replies.{IsRoomy}
@@ -53,6 +54,7 @@ use Rattle.spdm_agreement.proofs.Responder.Bodies.{AreCounted, BeginsWell, clear
 use Rattle.spdm_grammar.specs.declared.names.request_code.TheConstants.{GET_VERSION, PSK_EXCHANGE, END_SESSION}
 use Rattle.spdm_grammar.specs.declared.names.response_code.TheConstants.{PSK_EXCHANGE_RSP}
 use Rattle.spdm_grammar.specs.declared.names.spdm_version.TheConstants.{V1_2}
+use Rattle.spdm_agreement.specs.Story.{Past, served_first}
 
 -- ---- PSK_EXCHANGE comes where all is negotiated.
 
@@ -269,6 +271,23 @@ holds_draw r p m a f exchange d i context spelled is =
     ap (λ (n : ℕ). drop (12 + n) a) size ∙ sym (drop-drop (length s) 12 a) ∙ ap (drop (length s)) twelve ∙ drop-append_seam s (f.context ++ rest) in
     ap (context_number hash) (here ∙ ap (λ (l : List ℕ). l ++ rest) context) ∙ context_begins hash d rest i
 
+-- So does what stands before the verify data.
+front_holds : (r : RspSetup) (p : Place) (m a : List ℕ) (f : Free) (exchange : ExchangeMessage) (d : Draw) → IsDraw d → f.context ≡ context_of (place_terms p).choice.hash d → request_at p m ≡ Some (PskExchange exchange)
+    → a ≡ canonical_response (exchange_answer r p m f exchange) → front_draw (first_of p m a) ≡ d.number
+front_holds r p m a f exchange d i context spelled is =
+    let hash = (place_terms p).choice.hash in
+    let v = own_verify r p m f exchange in
+    let s = summary_answer r p exchange.summary in
+    let front = front_of r p f exchange in
+    let rest = f.exchange_opaque ++ [] in
+    let size : summary_size (hash_len (place_terms p)) (request_at p m) ≡ length s = ap (summary_size (hash_len (place_terms p))) spelled ∙ sym (length_summary r p m exchange spelled) in
+    let front_is : without_verify (hash_of hash) a ≡ front =
+    ap (without_verify (hash_of hash)) (is ∙ answer_parts r p f exchange v) ∙ before_verify hash front v (length_verify (place_terms p).choice r.psk (t1_with r p m f exchange) Response (t1_with r p m f exchange)) in
+    let twelve : drop 12 (without_verify (hash_of hash) a) ≡ s ++ (f.context ++ rest) = ap (drop 12) front_is ∙ behind_fields s f.context f.exchange_opaque [] in
+    let here : drop (12 + summary_size (hash_len (place_terms p)) (request_at p m)) (without_verify (hash_of hash) a) ≡ f.context ++ rest =
+    ap (λ (n : ℕ). drop (12 + n) (without_verify (hash_of hash) a)) size ∙ sym (drop-drop (length s) 12 (without_verify (hash_of hash) a)) ∙ ap (drop (length s)) twelve ∙ drop-append_seam s (f.context ++ rest) in
+    ap (context_number hash) (here ∙ ap (λ (l : List ℕ). l ++ rest) context) ∙ context_begins hash d rest i
+
 -- ---- Together.
 
 own_context : (r : RspSetup) (h : History) (d : Draw) → (clear_chosen r h d).context ≡ context_of (terms_of (negotiation_of (clear_turns h))).choice.hash d
@@ -292,6 +311,19 @@ begins_well r setup = record {
   room = λ h made id live. roomy (session_of id h) (rooms r h setup made id) live;
 }
 
+-- A session that begins holds the number of the draw before the verify data.
+pub begins_in_front : (r : RspSetup) → IsResponder r → (h : History) → IsMade r h → (m : List ℕ) (d : Draw) → IsDraw d → takes PSK_EXCHANGE (clear_turn r h m d) ≡ true → front_draw (served_first (began_by h (clear_turn r h m d))) ≡ d.number
+begins_in_front r setup h made m d i code =
+    let n = negotiation_of (clear_turns h) in
+    let f = clear_chosen r h d in
+    let e = (clear_turn r h m d).effect in
+    let x = exchanges r h m d setup made code in
+    let place : Negotiation → Place = λ k. record x.place { negotiation = k } in
+    let spelled : request_at (place n) (request_bytes e) ≡ Some (PskExchange x.exchange) = subst (λ (k : Negotiation). request_at (place k) (request_bytes e) ≡ Some (PskExchange x.exchange)) x.negotiation x.spelled in
+    let answer : answer_in e ≡ canonical_response (exchange_answer r (place n) (request_bytes e) f x.exchange) =
+    subst (λ (k : Negotiation). answer_in e ≡ canonical_response (exchange_answer r (place k) (request_bytes e) f x.exchange)) x.negotiation x.answer in
+    front_holds r (place n) (request_bytes e) (answer_in e) f x.exchange d i (own_context r h d) spelled answer
+
 -- Whatever a responder does, it does well.
-pub does_well : DoesWell AreCounted
-does_well r h asked log tag body d ready = does_where r h asked log tag body d (begins_well r ready.setup) ready
+pub does_well : (prior : Past) → DoesWell prior (AreCounted prior)
+does_well prior r h asked log tag body d ready = does_where prior r h asked log tag body d (begins_well r ready.setup) ready

@@ -15,7 +15,7 @@ use Rattle.responder_machine.specs.Turn.Effect.{NoEffect, Took, TookData}
 use Rattle.spdm_agreement.specs.Marks.{Served, HasBegun, handshake}
 use Rattle.spdm_agreement.specs.Marks.Served.{Finished, Refused}
 use Rattle.spdm_agreement.specs.Reading.{First}
-use Rattle.spdm_agreement.specs.Story.{served_marks, served_first, served_turn, record_marks, reply_text}
+use Rattle.spdm_agreement.specs.Story.{Past, served_from, served_first, served_turn, record_marks, reply_text}
 use Rattle.spdm_agreement.proofs.Responder.OpenSessions.{IsSteady, served_stands}
 use Rattle.spdm_agreement.proofs.Responder.Replies.{updates_in}
 use Rattle.spdm_grammar.specs.declared.names.request_code.TheConstants.{GET_VERSION, PSK_EXCHANGE, PSK_FINISH, KEY_UPDATE, END_SESSION}
@@ -172,14 +172,14 @@ sealed_by r id of own s sealed t reply m true is same own_id s_id a b =
     subst (λ (x : Events). ShakesAt (after_record x sealed t reply) (record_marks r own sealed t reply ++ m)) (same (eqb-true of id is)) (heard r own sealed t reply m a)
 sealed_by r id of own s sealed t reply m false is same own_id s_id a b = elsewhere r id of own s sealed t reply m (λ e. true≢false (sym (eq-eqb of id e) ∙ is)) own_id s_id a b
 
-pub shakes_stand : (r : RspSetup) (h : History) → IsSteady h → (id : ℕ) → ShakesAt (session_of id h) (served_marks r h)
+pub shakes_stand : (prior : Past) → (r : RspSetup) (h : History) → IsSteady h → (id : ℕ) → ShakesAt (session_of id h) (served_from prior r h)
 unfolding session_of
-shakes_stand r [] steady id = gone []
-shakes_stand r (Clear tag t d ∷ older) steady id = cleared_by id (session_of id older) older t (served_marks r older) (takes GET_VERSION t) (takes PSK_EXCHANGE t) (shakes_stand r older steady id)
-shakes_stand r (Sealed tag sealed t reply d ∷ older) steady id =
+shakes_stand prior r [] steady id = gone (prior.served r)
+shakes_stand prior r (Clear tag t d ∷ older) steady id = cleared_by id (session_of id older) older t (served_from prior r older) (takes GET_VERSION t) (takes PSK_EXCHANGE t) (shakes_stand prior r older steady id)
+shakes_stand prior r (Sealed tag sealed t reply d ∷ older) steady id =
     let of = id_in_record sealed in
-    sealed_by r id of (session_of of older) (session_of id older) sealed t reply (served_marks r older) (of == id) refl (λ e. ap (λ (n : ℕ). session_of n older) e)
-    (served_stands r.psk r older steady.1 of).own (served_stands r.psk r older steady.1 id).own (shakes_stand r older steady.1 of) (shakes_stand r older steady.1 id)
-shakes_stand r (Queued bytes ∷ older) steady id = shakes_stand r older steady id
-shakes_stand r (Ticked seconds ∷ older) steady id = ticked (session_of id older) seconds (served_marks r older) (shakes_stand r older steady id)
-shakes_stand r (Dropped which ∷ older) steady id = dropped (session_of id older) (served_marks r older) (which == id) (shakes_stand r older steady id)
+    sealed_by r id of (session_of of older) (session_of id older) sealed t reply (served_from prior r older) (of == id) refl (λ e. ap (λ (n : ℕ). session_of n older) e)
+    (served_stands prior r.psk r older steady.1 of).own (served_stands prior r.psk r older steady.1 id).own (shakes_stand prior r older steady.1 of) (shakes_stand prior r older steady.1 id)
+shakes_stand prior r (Queued bytes ∷ older) steady id = shakes_stand prior r older steady id
+shakes_stand prior r (Ticked seconds ∷ older) steady id = ticked (session_of id older) seconds (served_from prior r older) (shakes_stand prior r older steady id)
+shakes_stand prior r (Dropped which ∷ older) steady id = dropped (session_of id older) (served_from prior r older) (which == id) (shakes_stand prior r older steady id)

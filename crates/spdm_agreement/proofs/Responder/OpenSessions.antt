@@ -15,7 +15,7 @@ use Rattle.responder_machine.specs.Turn.{Turn, takes, answer_in, request_in}
 use Rattle.spdm_agreement.specs.Marks.{Served, served_open}
 use Rattle.spdm_agreement.specs.Marks.Served.{Finished, Refused, Took}
 use Rattle.spdm_agreement.specs.Reading.{First}
-use Rattle.spdm_agreement.specs.Story.{served_marks, served_first, served_turn, record_marks, reply_text, taken_text}
+use Rattle.spdm_agreement.specs.Story.{Past, served_from, served_first, served_turn, record_marks, reply_text, taken_text}
 use Rattle.spdm_agreement.proofs.Messages.Beginnings.{reading_of}
 use Rattle.transcript.specs.Transcripts as transcript
 use Rattle.spdm_grammar.specs.declared.names.request_code.TheConstants.{GET_VERSION, PSK_EXCHANGE, PSK_FINISH, END_SESSION}
@@ -163,13 +163,13 @@ sealed_by psk r id of own s sealed t reply m true is same steady o i =
     (heard psk r id own sealed t reply m steady (subst (λ (x : Events). ServedAt psk id x m) (sym (same (eqb-true of id is))) i))
 sealed_by psk r id of own s sealed t reply m false is same steady o i = past psk id s m _ (elsewhere psk r id of own sealed t reply m is o.own) i
 
-pub served_stands : (psk : List ℕ) (r : RspSetup) (h : History) → IsSteady h → (id : ℕ) → ServedAt psk id (session_of id h) (served_marks r h)
+pub served_stands : (prior : Past) → (psk : List ℕ) (r : RspSetup) (h : History) → IsSteady h → (id : ℕ) → ServedAt psk id (session_of id h) (served_from prior r h)
 unfolding session_of
-served_stands psk r [] steady id = gone psk id []
-served_stands psk r (Clear tag t d ∷ older) steady id = cleared_by psk id (session_of id older) older t (served_marks r older) (takes GET_VERSION t) (takes PSK_EXCHANGE t) (λ zero. ap (λ (n : ℕ). session_of n older) zero ∙ no_session older) (served_stands psk r older steady id)
-served_stands psk r (Sealed tag sealed t reply d ∷ older) steady id =
-    sealed_by psk r id (id_in_record sealed) (session_of (id_in_record sealed) older) (session_of id older) sealed t reply (served_marks r older) (id_in_record sealed == id) refl
-    (λ e. ap (λ (n : ℕ). session_of n older) e) steady.0 (served_stands psk r older steady.1 (id_in_record sealed)) (served_stands psk r older steady.1 id)
-served_stands psk r (Queued bytes ∷ older) steady id = served_stands psk r older steady id
-served_stands psk r (Ticked seconds ∷ older) steady id = ticked psk id (session_of id older) seconds (served_marks r older) (served_stands psk r older steady id)
-served_stands psk r (Dropped which ∷ older) steady id = dropped psk id (session_of id older) (served_marks r older) (which == id) (served_stands psk r older steady id)
+served_stands prior psk r [] steady id = gone psk id (prior.served r)
+served_stands prior psk r (Clear tag t d ∷ older) steady id = cleared_by psk id (session_of id older) older t (served_from prior r older) (takes GET_VERSION t) (takes PSK_EXCHANGE t) (λ zero. ap (λ (n : ℕ). session_of n older) zero ∙ no_session older) (served_stands prior psk r older steady id)
+served_stands prior psk r (Sealed tag sealed t reply d ∷ older) steady id =
+    sealed_by psk r id (id_in_record sealed) (session_of (id_in_record sealed) older) (session_of id older) sealed t reply (served_from prior r older) (id_in_record sealed == id) refl
+    (λ e. ap (λ (n : ℕ). session_of n older) e) steady.0 (served_stands prior psk r older steady.1 (id_in_record sealed)) (served_stands prior psk r older steady.1 id)
+served_stands prior psk r (Queued bytes ∷ older) steady id = served_stands prior psk r older steady id
+served_stands prior psk r (Ticked seconds ∷ older) steady id = ticked psk id (session_of id older) seconds (served_from prior r older) (served_stands prior psk r older steady id)
+served_stands prior psk r (Dropped which ∷ older) steady id = dropped psk id (session_of id older) (served_from prior r older) (which == id) (served_stands prior psk r older steady id)

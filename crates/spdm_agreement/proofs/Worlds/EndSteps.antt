@@ -22,7 +22,7 @@ use Rattle.spdm_agreement.specs.Configured.{IsRequester, IsResponder}
 use Rattle.spdm_agreement.specs.Marks.{Asked, Served, next_asked, next_served}
 use Rattle.spdm_agreement.specs.Moves.{Move, State, IsRun}
 use Rattle.spdm_agreement.specs.Reading.{Reading}
-use Rattle.spdm_agreement.specs.Story.{asked_marks, served_marks}
+use Rattle.spdm_agreement.specs.Story.{Past, asked_from, served_from}
 use Rattle.spdm_agreement.proofs.Requester.OpenSessions as requester_sessions
 use Rattle.spdm_agreement.proofs.Delivery.Data.{AsksOpenly, ServesDuly}
 use Rattle.spdm_agreement.proofs.Moves.Foreign.{AreOwn}
@@ -40,34 +40,34 @@ pub record IsDraw (d : Draw) : Type 0 where
 -- ---- The requester. What is kept of its history is left open.
 
 -- What its history stands for, beside any marks of its responder.
-abbrev pub asks_state : ReqSetup → asked.History → List Served → Log → State
-asks_state q h served log = record { asked = asked_marks q h; served = served; log = log }
+abbrev pub asks_state : (prior : Past) → ReqSetup → asked.History → List Served → Log → State
+asks_state prior q h served log = record { asked = asked_from prior q h; served = served; log = log }
 
 -- What holds before a step.
-pub record AskedReady (Kept : ReqSetup → asked.History → Type 0) (q : ReqSetup) (h : asked.History) (served : List Served) (log : Log) (d : Draw) : Type 0 where
+pub record AskedReady (prior : Past) (Kept : ReqSetup → asked.History → Type 0) (q : ReqSetup) (h : asked.History) (served : List Served) (log : Log) (d : Draw) : Type 0 where
   pub setup : IsRequester q
   pub made : asking.IsMade q h
   pub kept : Kept q h
-  pub reached : IsReached (reading_of q.psk) (asks_state q h served log)
-  pub fresh : next_asked (asked_marks q h) ≤ d.number
+  pub reached : IsReached (reading_of q.psk) (asks_state prior q h served log)
+  pub fresh : next_asked (asked_from prior q h) ≤ d.number
   pub draw : IsDraw d
 
 -- What an outcome comes to: a run of moves; what is kept stays so where the new state is reached too; and a context
 -- that goes out holds the number of a draw that is used up.
-pub record AskedStep (Kept : ReqSetup → asked.History → Type 0) (q : ReqSetup) (h : asked.History) (served : List Served) (log : Log) (body : List ℕ) (d : Draw) (o : Outcome) : Type 0 where
-  pub leads : OwnLeads (reading_of q.psk) (asks_state q h served log) (asks_state q (asked_shown.after h o) served (asked_log.acts_of q h body o ++ log))
-  pub keeps : IsReached (reading_of q.psk) (asks_state q (asked_shown.after h o) served (asked_log.acts_of q h body o ++ log)) → Kept q (asked_shown.after h o)
-  pub draws : next_asked (asked_marks q (asked_shown.after h o)) + asked.draws_of q h ≤ d.number + asked.draws_of q (asked_shown.after h o)
+pub record AskedStep (prior : Past) (Kept : ReqSetup → asked.History → Type 0) (q : ReqSetup) (h : asked.History) (served : List Served) (log : Log) (body : List ℕ) (d : Draw) (o : Outcome) : Type 0 where
+  pub leads : OwnLeads (reading_of q.psk) (asks_state prior q h served log) (asks_state prior q (asked_shown.after h o) served (asked_log.acts_of q h body o ++ log))
+  pub keeps : IsReached (reading_of q.psk) (asks_state prior q (asked_shown.after h o) served (asked_log.acts_of q h body o ++ log)) → Kept q (asked_shown.after h o)
+  pub draws : next_asked (asked_from prior q (asked_shown.after h o)) + asked.draws_of q h ≤ d.number + asked.draws_of q (asked_shown.after h o)
 
-abbrev pub AsksWell : (Kept : ReqSetup → asked.History → Type 0) → Type 0
-AsksWell Kept =
+abbrev pub AsksWell : (prior : Past) → (Kept : ReqSetup → asked.History → Type 0) → Type 0
+AsksWell prior Kept =
     (q : ReqSetup) (h : asked.History) (served : List Served) (log : Log) (command : Command) (d : Draw)
-    → AskedReady Kept q h served log d → AskedStep Kept q h served log [] d (requester_asks false q h command d)
+    → AskedReady prior Kept q h served log d → AskedStep prior Kept q h served log [] d (requester_asks false q h command d)
 
-abbrev pub HearsWell : (Kept : ReqSetup → asked.History → Type 0) → Type 0
-HearsWell Kept =
+abbrev pub HearsWell : (prior : Past) → (Kept : ReqSetup → asked.History → Type 0) → Type 0
+HearsWell prior Kept =
     (q : ReqSetup) (h : asked.History) (served : List Served) (log : Log) (owner : Bool) (tag : ℕ) (body : List ℕ) (d : Draw)
-    → AskedReady Kept q h served log d → AskedStep Kept q h served log body d (requester_hears q h owner tag body d)
+    → AskedReady prior Kept q h served log d → AskedStep prior Kept q h served log body d (requester_hears q h owner tag body d)
 
 abbrev pub AskedStarts : (Kept : ReqSetup → asked.History → Type 0) → Type 0
 AskedStarts Kept = (q : ReqSetup) → Kept q []
@@ -78,26 +78,26 @@ AskedSteady = (q : ReqSetup) (h : asked.History) → asking.IsMade q h → reque
 
 -- ---- The responder. What is kept of its history is left open.
 
-abbrev pub serves_state : RspSetup → served.History → List Asked → Log → State
-serves_state r h asked log = record { asked = asked; served = served_marks r h; log = log }
+abbrev pub serves_state : (prior : Past) → RspSetup → served.History → List Asked → Log → State
+serves_state prior r h asked log = record { asked = asked; served = served_from prior r h; log = log }
 
-pub record ServedReady (Kept : RspSetup → served.History → Type 0) (r : RspSetup) (h : served.History) (asked : List Asked) (log : Log) (d : Draw) : Type 0 where
+pub record ServedReady (prior : Past) (Kept : RspSetup → served.History → Type 0) (r : RspSetup) (h : served.History) (asked : List Asked) (log : Log) (d : Draw) : Type 0 where
   pub setup : IsResponder r
   pub made : serving.IsMade r h
   pub kept : Kept r h
-  pub reached : IsReached (reading_of r.psk) (serves_state r h asked log)
-  pub fresh : next_served (reading_of r.psk) (served_marks r h) ≤ d.number
+  pub reached : IsReached (reading_of r.psk) (serves_state prior r h asked log)
+  pub fresh : next_served (reading_of r.psk) (served_from prior r h) ≤ d.number
   pub draw : IsDraw d
 
-pub record ServedStep (Kept : RspSetup → served.History → Type 0) (r : RspSetup) (h : served.History) (asked : List Asked) (log : Log) (body : List ℕ) (d : Draw) (o : responder.Outcome) : Type 0 where
-  pub leads : OwnLeads (reading_of r.psk) (serves_state r h asked log) (serves_state r (responder.after h o) asked (served_log.acts_of r h body o ++ log))
-  pub keeps : IsReached (reading_of r.psk) (serves_state r (responder.after h o) asked (served_log.acts_of r h body o ++ log)) → Kept r (responder.after h o)
-  pub draws : next_served (reading_of r.psk) (served_marks r (responder.after h o)) + served.draws_of h ≤ d.number + served.draws_of (responder.after h o)
+pub record ServedStep (prior : Past) (Kept : RspSetup → served.History → Type 0) (r : RspSetup) (h : served.History) (asked : List Asked) (log : Log) (body : List ℕ) (d : Draw) (o : responder.Outcome) : Type 0 where
+  pub leads : OwnLeads (reading_of r.psk) (serves_state prior r h asked log) (serves_state prior r (responder.after h o) asked (served_log.acts_of r h body o ++ log))
+  pub keeps : IsReached (reading_of r.psk) (serves_state prior r (responder.after h o) asked (served_log.acts_of r h body o ++ log)) → Kept r (responder.after h o)
+  pub draws : next_served (reading_of r.psk) (served_from prior r (responder.after h o)) + served.draws_of h ≤ d.number + served.draws_of (responder.after h o)
 
-abbrev pub DoesWell : (Kept : RspSetup → served.History → Type 0) → Type 0
-DoesWell Kept =
+abbrev pub DoesWell : (prior : Past) → (Kept : RspSetup → served.History → Type 0) → Type 0
+DoesWell prior Kept =
     (r : RspSetup) (h : served.History) (asked : List Asked) (log : Log) (tag : ℕ) (body : List ℕ) (d : Draw)
-    → ServedReady Kept r h asked log d → ServedStep Kept r h asked log body d (responder_does r h tag body d)
+    → ServedReady prior Kept r h asked log d → ServedStep prior Kept r h asked log body d (responder_does r h tag body d)
 
 abbrev pub ServedStarts : (Kept : RspSetup → served.History → Type 0) → Type 0
 ServedStarts Kept = (r : RspSetup) → Kept r []
@@ -112,8 +112,8 @@ Waits Kept =
 
 -- A requester asks with application data under a verified key alone, and a responder answers such a request with
 -- application data.
-abbrev pub KeepsOpenly : (Kept : ReqSetup → asked.History → Type 0) → Type 0
-KeepsOpenly Kept = (q : ReqSetup) (h : asked.History) → Kept q h → AsksOpenly (asked_marks q h)
+abbrev pub KeepsOpenly : (prior : Past) → (Kept : ReqSetup → asked.History → Type 0) → Type 0
+KeepsOpenly prior Kept = (q : ReqSetup) (h : asked.History) → Kept q h → AsksOpenly (asked_from prior q h)
 
-abbrev pub KeepsDuly : (Kept : RspSetup → served.History → Type 0) → Type 0
-KeepsDuly Kept = (r : RspSetup) (h : served.History) → Kept r h → ServesDuly (served_marks r h)
+abbrev pub KeepsDuly : (prior : Past) → (Kept : RspSetup → served.History → Type 0) → Type 0
+KeepsDuly prior Kept = (r : RspSetup) (h : served.History) → Kept r h → ServesDuly (served_from prior r h)

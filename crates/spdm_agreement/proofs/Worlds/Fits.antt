@@ -18,7 +18,7 @@ use Rattle.spdm_agreement.specs.Configured.{IsRequester, IsResponder}
 use Rattle.spdm_agreement.specs.Marks.{Asked, Served, next_asked, next_served}
 use Rattle.spdm_agreement.specs.Moves.{State}
 use Rattle.spdm_agreement.specs.Reading.{Reading}
-use Rattle.spdm_agreement.specs.Story.{asked_marks, served_marks}
+use Rattle.spdm_agreement.specs.Story.{Past, asked_from, served_from}
 use Rattle.responder_machine.proofs.Connected.{PeersDiffer}
 use Rattle.spdm_agreement.proofs.Moves.Foreign.{Leads, join, theirs}
 use Rattle.spdm_machine.proofs.Members.{IsIn}
@@ -49,12 +49,12 @@ same_key rs cs apart a c pair =
     b.3 ∙ ap (λ (x : Requesting). x.setup.psk) (same_requester rs cs apart b.0 a b.1 pair.requester (sym b.2 ∙ pair.peer))
 
 -- The laws below stand over whatever is kept of histories.
-module _ (KeptAsked : ReqSetup → asked.History → Type 0) (KeptServed : RspSetup → served.History → Type 0) where
+module _ (prior : Past) (KeptAsked : ReqSetup → asked.History → Type 0) (KeptServed : RspSetup → served.History → Type 0) where
   pub record IsAsking (a : Requesting) : Type 0 where
     pub setup : IsRequester a.setup
     pub made : asking.IsMade a.setup a.history
     pub kept : KeptAsked a.setup a.history
-    pub fresh : next_asked (asked_marks a.setup a.history) ≤ a.first + asked.draws_of a.setup a.history
+    pub fresh : next_asked (asked_from prior a.setup a.history) ≤ a.first + asked.draws_of a.setup a.history
     pub draws : a.first + wear_limit ≤ 2 ^ 64
     pub wear : asked.draws_of a.setup a.history ≤ a.commands
 
@@ -62,7 +62,7 @@ module _ (KeptAsked : ReqSetup → asked.History → Type 0) (KeptServed : RspSe
     pub setup : IsResponder c.setup
     pub made : serving.IsMade c.setup c.history
     pub kept : KeptServed c.setup c.history
-    pub fresh : next_served (reading_of c.setup.psk) (served_marks c.setup c.history) ≤ next
+    pub fresh : next_served (reading_of c.setup.psk) (served_from prior c.setup c.history) ≤ next
 
   pub record Fits (world : World) : Type 0 where
     pub apart : Apart world.requesters world.responder.connections
@@ -71,7 +71,7 @@ module _ (KeptAsked : ReqSetup → asked.History → Type 0) (KeptServed : RspSe
     pub wear : all_draws world.responder.connections ≤ length world.responder.given
     pub draws : world.responder.first + wear_limit ≤ 2 ^ 64
     pub owned : (p : Purpose) (i : List ℕ) → IsMade p i world.log → (a : Requesting) × IsIn world.requesters a × (p.psk ≡ a.setup.psk)
-    pub pairs : (a : Requesting) (c : Connection) → IsPair world.requesters world.responder.connections a c → IsReached (reading_of a.setup.psk) (state_of a c world.log)
+    pub pairs : (a : Requesting) (c : Connection) → IsPair world.requesters world.responder.connections a c → IsReached (reading_of a.setup.psk) (state_of prior a c world.log)
 
 -- ---- Steps that lead on.
 

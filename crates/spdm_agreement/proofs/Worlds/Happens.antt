@@ -35,6 +35,7 @@ use Rattle.spdm_agreement.proofs.Worlds.EndSteps.{IsDraw, AskedReady, AskedStep,
 use Rattle.spdm_agreement.proofs.Worlds.Pairs.{state_of}
 use Rattle.spdm_agreement.proofs.Worlds.RequesterChanges as requester_changes
 use Rattle.spdm_agreement.proofs.Worlds.RequesterChanges.{renewed, requester_goes}
+use Rattle.spdm_agreement.specs.Story.{Past}
 
 -- ---- Draws.
 
@@ -49,25 +50,25 @@ good_draw seed number less = record { number = less; bytes = draw_length seed nu
 pub below : (first wear n m : ℕ) → first + wear ≤ 2 ^ 64 → n ≤ m → nat_le wear m ≡ false → first + n < 2 ^ 64
 below first wear n m all few fresh = (let less : m < wear = leb-false wear m fresh in omega arith)
 
-module _ (KeptAsked : ReqSetup → asked.History → Type 0) (KeptServed : RspSetup → served.History → Type 0) (world : World) (k : Fits KeptAsked KeptServed world) (asks_well : AsksWell KeptAsked) (hears_well : HearsWell KeptAsked) where
+module _ (prior : Past) (KeptAsked : ReqSetup → asked.History → Type 0) (KeptServed : RspSetup → served.History → Type 0) (world : World) (k : Fits prior KeptAsked KeptServed world) (asks_well : AsksWell prior KeptAsked) (hears_well : HearsWell prior KeptAsked) where
   -- ---- A requester.
 
   -- A requester may go on like this.
   abbrev Goes : List Act → Requesting → Type 0
   Goes acts after = (sent : List SentPacket) → NoChance (acts ++ world.log)
-      → Fits KeptAsked KeptServed (record { requesters = with_requester after world.requesters; responder = world.responder; sent = sent; log = acts ++ world.log })
+      → Fits prior KeptAsked KeptServed (record { requesters = with_requester after world.requesters; responder = world.responder; sent = sent; log = acts ++ world.log })
 
   -- Nothing but its counts changes.
   rests : (a : Requesting) → IsIn world.requesters a → (given : List (List ℕ)) (commands : ℕ) → a.commands ≤ commands → Goes [] (renewed a given commands a.history)
   rests a is given commands more sent n =
       let old = k.asks a is in
       let wear = old.wear in
-      requester_goes KeptAsked KeptServed world k a is given commands a.history [] n sent
+      requester_goes prior KeptAsked KeptServed world k a is given commands a.history [] n sent
       (record { setup = old.setup; made = old.made; kept = old.kept; fresh = old.fresh; draws = old.draws; wear = omega arith })
       (λ x pair. ([], tt, refl))
 
   ready : (a : Requesting) (x : Connection) → IsPair world.requesters world.responder.connections a x → requesting.is_worn a ≡ false
-      → AskedReady KeptAsked a.setup a.history (state_of a x world.log).served world.log (requesting.next_draw a)
+      → AskedReady prior KeptAsked a.setup a.history (state_of prior a x world.log).served world.log (requesting.next_draw a)
   unfolding requesting.next_draw
   ready a x pair fresh =
       let old = k.asks a pair.requester in
@@ -89,7 +90,7 @@ module _ (KeptAsked : ReqSetup → asked.History → Type 0) (KeptServed : RspSe
   -- It goes on by an outcome that is a run of moves.
   goes_by : (a : Requesting) (is : IsIn world.requesters a) (given : List (List ℕ)) (commands : ℕ) (body : List ℕ) (o : asking.Outcome)
       → asking_made.IsMade a.setup (asked_shown.after a.history o) → asked.draws_of a.setup (asked_shown.after a.history o) ≤ commands
-      → ((x : Connection) → IsPair world.requesters world.responder.connections a x → AskedStep KeptAsked a.setup a.history (state_of a x world.log).served world.log body (requesting.next_draw a) o)
+      → ((x : Connection) → IsPair world.requesters world.responder.connections a x → AskedStep prior KeptAsked a.setup a.history (state_of prior a x world.log).served world.log body (requesting.next_draw a) o)
       → Goes (asked_log.acts_of a.setup a.history body o) (renewed a given commands (asked_shown.after a.history o))
   goes_by a is given commands body o made wear steps sent n =
       let old = k.asks a is in
@@ -99,11 +100,11 @@ module _ (KeptAsked : ReqSetup → asked.History → Type 0) (KeptServed : RspSe
       let runs = λ (y : Connection) (its : IsPair world.requesters world.responder.connections a y). (steps y its).leads in
       let draws = step.draws in
       let number = draw_number a in
-      requester_goes KeptAsked KeptServed world k a is given commands (asked_shown.after a.history o) (asked_log.acts_of a.setup a.history body o) n sent
+      requester_goes prior KeptAsked KeptServed world k a is given commands (asked_shown.after a.history o) (asked_log.acts_of a.setup a.history body o) n sent
       (record {
         setup = old.setup;
         made = made;
-        kept = step.keeps (requester_changes.now_reached KeptAsked KeptServed world k a is given commands (asked_shown.after a.history o) (asked_log.acts_of a.setup a.history body o) n runs x.0 pair);
+        kept = step.keeps (requester_changes.now_reached prior KeptAsked KeptServed world k a is given commands (asked_shown.after a.history o) (asked_log.acts_of a.setup a.history body o) n runs x.0 pair);
         fresh = omega arith;
         draws = old.draws;
         wear = wear;
@@ -120,7 +121,7 @@ module _ (KeptAsked : ReqSetup → asked.History → Type 0) (KeptServed : RspSe
       let wear = (k.asks a is).wear in
       subst (λ (x : CommandStep). Goes x.acts x.after) (sym same)
       (goes_by a is a.given (a.commands + 1) [] (requester_asks false a.setup a.history command (requesting.next_draw a)) made.made (omega arith)
-      (λ x pair. asks_well a.setup a.history (state_of a x world.log).served world.log command (requesting.next_draw a) (ready a x pair e)))
+      (λ x pair. asks_well a.setup a.history (state_of prior a x world.log).served world.log command (requesting.next_draw a) (ready a x pair e)))
 
   pub told_goes : (a : Requesting) → IsIn world.requesters a → (command : Command) → Goes (requester_told a command).acts (requester_told a command).after
   unfolding requester_told
@@ -135,7 +136,7 @@ module _ (KeptAsked : ReqSetup → asked.History → Type 0) (KeptServed : RspSe
       let same = made.same in
       let wear = (k.asks a is).wear in
       goes_by a is (packet ∷ a.given) a.commands body (requester_hears a.setup a.history route.owner route.tag body (requesting.next_draw a)) made.made (omega arith)
-      (λ x pair. hears_well a.setup a.history (state_of a x world.log).served world.log route.owner route.tag body (requesting.next_draw a) (ready a x pair e))
+      (λ x pair. hears_well a.setup a.history (state_of prior a x world.log).served world.log route.owner route.tag body (requesting.next_draw a) (ready a x pair e))
   gathered_goes a is packet More e = rests a is (packet ∷ a.given) a.commands (omega arith)
   gathered_goes a is packet (Dropped cause) e = rests a is (packet ∷ a.given) a.commands (omega arith)
 

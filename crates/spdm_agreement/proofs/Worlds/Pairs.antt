@@ -23,14 +23,15 @@ use Rattle.responder_machine.specs.Turn.{Turn, takes, code_in}
 use Rattle.spdm_grammar.specs.declared.told.phase.Stage.{Stage}
 use Rattle.spdm_grammar.specs.declared.told.phase.Stage.TheVariants as stage
 use Rattle.spdm_agreement.specs.Claims.{IsReached}
-use Rattle.spdm_agreement.specs.Marks.{Served, asked_open, served_open}
+use Rattle.spdm_agreement.specs.Marks.{Asked, Served, OpenedApart, asked_open, served_open}
 use Rattle.spdm_agreement.specs.Marks as marks
 use Rattle.spdm_agreement.specs.Marks.Served.{Began, Finished, Refused, Took}
 use Rattle.spdm_agreement.specs.Moves.{State}
 use Rattle.spdm_agreement.specs.Reading.{First}
-use Rattle.spdm_agreement.specs.Story.{asked_marks, served_marks, asked_first, served_first, served_turn, record_marks, reply_text}
+use Rattle.spdm_agreement.specs.Story.{Past, no_past, asked_from, asked_marks, served_from, served_marks, asked_first, served_first, served_turn, record_marks, reply_text}
 use Rattle.spdm_agreement.proofs.Requester.EverOpened.{opened_told, apart_told}
-use Rattle.spdm_agreement.proofs.Requester.OpenSessions.{IsSteady}
+use Rattle.spdm_agreement.proofs.Requester.OpenSessions.{IsSteady, asked_stands}
+use Rattle.spdm_agreement.proofs.Worlds.Behind.{asked_behind, served_behind, apart_new, open_opened, opened_new, served_in}
 use Rattle.spdm_agreement.proofs.Moves.Runs.{holds, agrees, opened_matches, ever_matches, one_beginning, one_id, one_sealed}
 use Rattle.spdm_agreement.proofs.Messages.Beginnings.{reading_of}
 use Rattle.world_machine.specs.Agreement as world
@@ -40,16 +41,16 @@ use Rattle.responder_machine.specs.Responding.{Connection}
 use Rattle.spdm_grammar.specs.declared.names.request_code.TheConstants.{PSK_EXCHANGE, PSK_FINISH, END_SESSION}
 
 -- The state of the machine of moves that a requester and its connection stand for.
-abbrev pub state_of : Requesting → Connection → Log → State
-state_of a c log = record { asked = asked_marks a.setup a.history; served = served_marks c.setup c.history; log = log }
+abbrev pub state_of : (prior : Past) → Requesting → Connection → Log → State
+state_of prior a c log = record { asked = asked_from prior a.setup a.history; served = served_from prior c.setup c.history; log = log }
 
 -- It is reached by moves, and the sessions that are held open are those that the marks tell.
-pub record Stands (a : Requesting) (c : Connection) (log : Log) : Type 0 where
-  pub reached : IsReached (reading_of a.setup.psk) (state_of a c log)
+pub record Stands (prior : Past) (a : Requesting) (c : Connection) (log : Log) : Type 0 where
+  pub reached : IsReached (reading_of a.setup.psk) (state_of prior a c log)
   pub asked : (id : ℕ) → world.holds a.history id ≡ true
-      → asked_open (reading_of a.setup.psk) id (asked_marks a.setup a.history) ≡ Some (asked_first (requester.session_of id a.history), requester.t2_of (requester.session_of id a.history))
+      → asked_open (reading_of a.setup.psk) id (asked_from prior a.setup a.history) ≡ Some (asked_first (requester.session_of id a.history), requester.t2_of (requester.session_of id a.history))
   pub served : (id : ℕ) → is_held c.history id ≡ true
-      → served_open (reading_of a.setup.psk) id (served_marks c.setup c.history) ≡ Some (served_first (responder.session_of id c.history), responder.t2_of (responder.session_of id c.history))
+      → served_open (reading_of a.setup.psk) id (served_from prior c.setup c.history) ≡ Some (served_first (responder.session_of id c.history), responder.t2_of (responder.session_of id c.history))
 
 -- ---- One transcript.
 
@@ -61,14 +62,14 @@ ids_told a b c d e =
     let e3 : b / 256 ≡ d / 256 = cc in
     ((omega arith), (omega arith))
 
-pub one : (a : Requesting) (c : Connection) (log : Log) → Stands a c log → (req rsp : ℕ) → world.holds a.history req ≡ true → is_held c.history rsp ≡ true
+pub one : (prior : Past) → (a : Requesting) (c : Connection) (log : Log) → Stands prior a c log → (req rsp : ℕ) → world.holds a.history req ≡ true → is_held c.history rsp ≡ true
     → requester.id_bytes (requester.session_of req a.history) ≡ responder.id_bytes (responder.session_of rsp c.history)
     → AreOne (requester.session_of req a.history) (responder.session_of rsp c.history)
-one a c log stands req rsp live held ids =
+one prior a c log stands req rsp live held ids =
     let s = requester.session_of req a.history in
     let t = responder.session_of rsp c.history in
     let r = reading_of a.setup.psk in
-    let k = holds r (state_of a c log) stands.reached in
+    let k = holds r (state_of prior a c log) stands.reached in
     let mine = stands.asked req live in
     let theirs = stands.served rsp held in
     let own = (k.asks.opens req (asked_first s, requester.t2_of s) mine).1 in
@@ -131,55 +132,60 @@ opened_there r (Queued bytes ∷ older) first u h = opened_there r older first u
 opened_there r (Ticked seconds ∷ older) first u h = opened_there r older first u h
 opened_there r (Dropped id ∷ older) first u h = opened_there r older first u h
 
--- What was ever opened at the requester was finished at the responder.
-ever_there : (a : Requesting) (c : Connection) (log : Log) → Stands a c log → IsSteady a.history → (t2 : List ℕ) → WasOpened t2 a.history → HasOpened t2 c.history
-ever_there a c log stands steady t2 was =
-    let r = reading_of a.setup.psk in
-    let k = holds r (state_of a c log) stands.reached in
-    let o = opened_told a.setup a.history steady t2 was in
-    opened_there c.setup c.history o.0 t2 (ever_matches r _ _ _ k o.0 t2 o.1)
+-- No session that the requester opened by its history was opened at the responder before.
+abbrev pub OpensNew : Past → Requesting → Connection → Type 0
+OpensNew prior a c = (t : First) (u : List ℕ) → marks.IsOpened (asked_marks a.setup a.history) t u → marks.HasOpened (prior.served c.setup) t u → ⊥
 
-pub matched : (a : Requesting) (c : Connection) (log : Log) → Stands a c log → IsSteady a.history → IsMatched a c
-matched a c log stands steady =
+-- A session that the requester opened by its history, and that opened at the responder, opened there by its history.
+there : (prior : Past) (a : Requesting) (c : Connection) (t : First) (u : List ℕ) → OpensNew prior a c → marks.IsOpened (asked_marks a.setup a.history) t u → marks.HasOpened (served_from prior c.setup c.history) t u → HasOpened u c.history
+there prior a c t u new here o = elim (served_in (served_marks c.setup c.history) (prior.served c.setup) t u (subst (λ (m : List Served). marks.HasOpened m t u) (served_behind prior c.setup c.history) o)) [
+  | inl x ↦ opened_there c.setup c.history t u x
+  | inr y ↦ absurd (new t u here y)
+]
+
+pub matched : (prior : Past) → (a : Requesting) (c : Connection) (log : Log) → Stands prior a c log → IsSteady a.history → OpensNew prior a c → IsMatched a c
+matched prior a c log stands steady new =
     let r = reading_of a.setup.psk in
-    let k = holds r (state_of a c log) stands.reached in record {
+    let k = holds r (state_of prior a c log) stands.reached in record {
       held = λ req live. (let s = requester.session_of req a.history in
-          opened_there c.setup c.history (asked_first s) (requester.t2_of s) (opened_matches r _ _ _ k req (asked_first s) (requester.t2_of s) (stands.asked req live)));
+          there prior a c (asked_first s) (requester.t2_of s) new (open_opened r req (asked_marks a.setup a.history) (asked_first s) (requester.t2_of s) ((asked_stands no_past a.setup.psk a.setup a.history steady req).told live))
+          (opened_matches r _ _ _ k req (asked_first s) (requester.t2_of s) (stands.asked req live)));
       ids = λ req other live its same. (let s = requester.session_of req a.history in let o = requester.session_of other a.history in
           one_id r _ _ _ k other req (asked_first o) (asked_first s) (requester.t2_of s)
-          (subst (λ (u : List ℕ). asked_open r other (asked_marks a.setup a.history) ≡ Some (asked_first o, u)) same (stands.asked other its)) (stands.asked req live));
-      opened = ever_there a c log stands steady;
-      apart = apart_told a.setup a.history steady k.asks.seconds;
+          (subst (λ (u : List ℕ). asked_open r other (asked_from prior a.setup a.history) ≡ Some (asked_first o, u)) same (stands.asked other its)) (stands.asked req live));
+      opened = λ t2 was. (let o = opened_told a.setup a.history steady t2 was in
+          there prior a c o.0 t2 new o.1 (ever_matches r _ _ _ k o.0 t2 (subst (λ (m : List Asked). marks.IsOpened m o.0 t2) (sym (asked_behind prior a.setup a.history)) (opened_new (asked_marks a.setup a.history) (prior.asked a.setup) o.0 t2 o.1))));
+      apart = apart_told a.setup a.history steady (apart_new (asked_marks a.setup a.history) (prior.asked a.setup) (subst OpenedApart (asked_behind prior a.setup a.history) k.asks.seconds));
     }
 
 -- ---- Hashes.
 
 -- Sessions that are held open at both ends, with one T2, began with the same messages.
-one_first : (a : Requesting) (c : Connection) (log : Log) → Stands a c log → (req rsp : ℕ) → world.holds a.history req ≡ true → is_held c.history rsp ≡ true
+one_first : (prior : Past) → (a : Requesting) (c : Connection) (log : Log) → Stands prior a c log → (req rsp : ℕ) → world.holds a.history req ≡ true → is_held c.history rsp ≡ true
     → requester.t2_of (requester.session_of req a.history) ≡ responder.t2_of (responder.session_of rsp c.history)
     → asked_first (requester.session_of req a.history) ≡ served_first (responder.session_of rsp c.history)
-one_first a c log stands req rsp live held same =
+one_first prior a c log stands req rsp live held same =
     let s = requester.session_of req a.history in
     let t = responder.session_of rsp c.history in
     let r = reading_of a.setup.psk in
-    let k = holds r (state_of a c log) stands.reached in
+    let k = holds r (state_of prior a c log) stands.reached in
     one_beginning r _ _ _ k (asked_first s) (served_first t) (requester.t2_of s)
     (k.asks.opens req (asked_first s, requester.t2_of s) (stands.asked req live)).0
-    (subst (λ (u : List ℕ). marks.HasOpened (served_marks c.setup c.history) (served_first t) u) (sym same) (k.serves.opens rsp (served_first t, responder.t2_of t) (stands.served rsp held)).0)
+    (subst (λ (u : List ℕ). marks.HasOpened (served_from prior c.setup c.history) (served_first t) u) (sym same) (k.serves.opens rsp (served_first t, responder.t2_of t) (stands.served rsp held)).0)
 
 past_shown : (g : Stage) (t1 t2 : List ℕ) → is_past_handshake g ≡ true → transcript_in g t1 t2 ≡ t2
 past_shown stage.Handshake t1 t2 past = absurd (true≢false (sym past))
 past_shown stage.Open t1 t2 past = refl
 past_shown stage.Verifying t1 t2 past = refl
 
-pub hashes : (a : Requesting) (c : Connection) (log : Log) → Stands a c log → (req rsp : ℕ) → world.holds a.history req ≡ true → is_held c.history rsp ≡ true
+pub hashes : (prior : Past) → (a : Requesting) (c : Connection) (log : Log) → Stands prior a c log → (req rsp : ℕ) → world.holds a.history req ≡ true → is_held c.history rsp ≡ true
     → requester.t2_of (requester.session_of req a.history) ≡ responder.t2_of (responder.session_of rsp c.history)
     → (asked_shown.view_of (requester.session_of req a.history)).hash ≡ (served_shown.view_of (responder.session_of rsp c.history)).hash
 unfolding asked_shown.view_of served_shown.view_of
-hashes a c log stands req rsp live held same =
+hashes prior a c log stands req rsp live held same =
     let s = requester.session_of req a.history in
     let t = responder.session_of rsp c.history in
-    let first = one_first a c log stands req rsp live held same in
+    let first = one_first prior a c log stands req rsp live held same in
     ap (λ (x : List ℕ). (requester.session_hash s).digest x) (past_shown (requester.stage_of s) (requester.t1_of s) (requester.t2_of s) (and_parts _ _ live).1)
     ∙ ap (λ (x : First). (hash_of (terms_of x.negotiation).choice.hash).digest (requester.t2_of s)) first
     ∙ ap (λ (x : List ℕ). (responder.session_hash t).digest x) same
@@ -187,8 +193,8 @@ hashes a c log stands req rsp live held same =
 
 -- ---- Numbers.
 
-pub once : (a : Requesting) (c : Connection) (log : Log) → Stands a c log → (p : Purpose) (number : ℕ) (x y : List ℕ) → is_record p.kind ≡ true → p.psk ≡ a.setup.psk → IsMade p (number ∷ x) log → IsMade p (number ∷ y) log → x ≡ y
-once a c log stands p number x y is own m n =
+pub once : (prior : Past) → (a : Requesting) (c : Connection) (log : Log) → Stands prior a c log → (p : Purpose) (number : ℕ) (x y : List ℕ) → is_record p.kind ≡ true → p.psk ≡ a.setup.psk → IsMade p (number ∷ x) log → IsMade p (number ∷ y) log → x ≡ y
+once prior a c log stands p number x y is own m n =
     let r = reading_of a.setup.psk in
-    let k = holds r (state_of a c log) stands.reached in
+    let k = holds r (state_of prior a c log) stands.reached in
     one_sealed r _ _ _ k p number x y is (k.backed p _ m own) (k.backed p _ n own)

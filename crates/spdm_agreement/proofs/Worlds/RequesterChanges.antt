@@ -18,6 +18,7 @@ use Rattle.spdm_agreement.proofs.Worlds.EndSteps.{OwnLeads}
 use Rattle.spdm_agreement.proofs.Worlds.Owners.{own_made}
 use Rattle.spdm_agreement.proofs.Worlds.Pairs.{state_of}
 use Rattle.spdm_agreement.proofs.Messages.Beginnings.{reading_of}
+use Rattle.spdm_agreement.specs.Story.{Past}
 
 -- A requester after something: its set-up stays.
 abbrev pub renewed : Requesting → List (List ℕ) → ℕ → asked.History → Requesting
@@ -101,7 +102,7 @@ module _ (rs : List Requesting) (cs : List Connection) (apart : Apart rs cs) (a 
     served = λ x m. (let p = stays x m in let c = apart.served p.old p.in_old in (c.0, c.1, c.2 ∙ sym (ap (λ (s : ReqSetup). s.eid) p.setup)));
   }
 
-module _ (KeptAsked : ReqSetup → asked.History → Type 0) (KeptServed : RspSetup → served.History → Type 0) (world : World) (k : Fits KeptAsked KeptServed world)
+module _ (prior : Past) (KeptAsked : ReqSetup → asked.History → Type 0) (KeptServed : RspSetup → served.History → Type 0) (world : World) (k : Fits prior KeptAsked KeptServed world)
     (a : Requesting) (is : IsIn world.requesters a) (given : List (List ℕ)) (commands : ℕ) (history : asked.History) (acts : List Act) (n : NoChance (acts ++ world.log)) where
   abbrev next : Requesting
   next = renewed a given commands history
@@ -111,35 +112,35 @@ module _ (KeptAsked : ReqSetup → asked.History → Type 0) (KeptServed : RspSe
 
   -- The run of this requester and its connection.
   abbrev Runs : Type 0
-  Runs = (c : Connection) → IsPair world.requesters world.responder.connections a c → OwnLeads (reading_of a.setup.psk) (state_of a c world.log) (state_of next c (acts ++ world.log))
+  Runs = (c : Connection) → IsPair world.requesters world.responder.connections a c → OwnLeads (reading_of a.setup.psk) (state_of prior a c world.log) (state_of prior next c (acts ++ world.log))
 
-  pub now_reached : Runs → (c : Connection) → IsPair world.requesters world.responder.connections a c → IsReached (reading_of a.setup.psk) (state_of next c (acts ++ world.log))
-  now_reached runs c pair = own_reach (reading_of a.setup.psk) (state_of a c world.log) (state_of next c (acts ++ world.log)) (k.pairs a c pair) (runs c pair) n
+  pub now_reached : Runs → (c : Connection) → IsPair world.requesters world.responder.connections a c → IsReached (reading_of a.setup.psk) (state_of prior next c (acts ++ world.log))
+  now_reached runs c pair = own_reach (reading_of a.setup.psk) (state_of prior a c world.log) (state_of prior next c (acts ++ world.log)) (k.pairs a c pair) (runs c pair) n
 
-  all_ask : IsAsking KeptAsked KeptServed next → (x : Requesting) → IsIn (with_requester next world.requesters) x → IsAsking KeptAsked KeptServed x
+  all_ask : IsAsking prior KeptAsked KeptServed next → (x : Requesting) → IsIn (with_requester next world.requesters) x → IsAsking prior KeptAsked KeptServed x
   all_ask well x m =
       let p = stays world.requesters world.responder.connections k.apart a is given commands history x m in
       elim p.same [
-        | inl s ↦ subst (IsAsking KeptAsked KeptServed) (sym s.1) well
-        | inr s ↦ subst (IsAsking KeptAsked KeptServed) (sym s.1) (k.asks p.old p.in_old)
+        | inl s ↦ subst (IsAsking prior KeptAsked KeptServed) (sym s.1) well
+        | inr s ↦ subst (IsAsking prior KeptAsked KeptServed) (sym s.1) (k.asks p.old p.in_old)
       ]
 
-  other_pair : Runs → (o : Requesting) (c : Connection) → IsPair world.requesters world.responder.connections o c → o.setup.eid ≢ a.setup.eid → IsReached (reading_of o.setup.psk) (state_of o c (acts ++ world.log))
+  other_pair : Runs → (o : Requesting) (c : Connection) → IsPair world.requesters world.responder.connections o c → o.setup.eid ≢ a.setup.eid → IsReached (reading_of o.setup.psk) (state_of prior o c (acts ++ world.log))
   other_pair runs o c pair differ =
       let own = k.apart.served a is in
-      others_reach (reading_of a.setup.psk) (reading_of o.setup.psk) (state_of a own.0 world.log) (state_of next own.0 (acts ++ world.log)) (state_of o c world.log).asked (state_of o c world.log).served
+      others_reach (reading_of a.setup.psk) (reading_of o.setup.psk) (state_of prior a own.0 world.log) (state_of prior next own.0 (acts ++ world.log)) (state_of prior o c world.log).asked (state_of prior o c world.log).served
       (λ e. differ (sym (k.apart.keys a o is pair.requester e)))
       (runs own.0 (record { requester = is; connection = own.1; peer = own.2 }))
       (k.pairs o c pair) n
 
-  all_reached : Runs → (x : Requesting) (c : Connection) → IsPair (with_requester next world.requesters) world.responder.connections x c → IsReached (reading_of x.setup.psk) (state_of x c (acts ++ world.log))
+  all_reached : Runs → (x : Requesting) (c : Connection) → IsPair (with_requester next world.requesters) world.responder.connections x c → IsReached (reading_of x.setup.psk) (state_of prior x c (acts ++ world.log))
   all_reached runs x c pair =
       let p = stays world.requesters world.responder.connections k.apart a is given commands history x pair.requester in
       let peer : c.setup.peer ≡ p.old.setup.eid = pair.peer ∙ ap (λ (s : ReqSetup). s.eid) p.setup in
       elim p.same [
-        | inl s ↦ subst (λ (y : Requesting). IsReached (reading_of y.setup.psk) (state_of y c (acts ++ world.log))) (sym s.1)
+        | inl s ↦ subst (λ (y : Requesting). IsReached (reading_of y.setup.psk) (state_of prior y c (acts ++ world.log))) (sym s.1)
             (now_reached runs c (record { requester = is; connection = pair.connection; peer = peer ∙ ap (λ (y : Requesting). y.setup.eid) s.0 }))
-        | inr s ↦ subst (λ (y : Requesting). IsReached (reading_of y.setup.psk) (state_of y c (acts ++ world.log))) (sym s.1)
+        | inr s ↦ subst (λ (y : Requesting). IsReached (reading_of y.setup.psk) (state_of prior y c (acts ++ world.log))) (sym s.1)
             (other_pair runs p.old c (record { requester = p.in_old; connection = pair.connection; peer = peer }) s.0)
       ]
 
@@ -147,12 +148,12 @@ module _ (KeptAsked : ReqSetup → asked.History → Type 0) (KeptServed : RspSe
   all_owned runs p i made =
       let own = k.apart.served a is in
       let pair : IsPair world.requesters world.responder.connections a own.0 = record { requester = is; connection = own.1; peer = own.2 } in
-      elim (own_made (reading_of a.setup.psk) (state_of a own.0 world.log) (state_of next own.0 (acts ++ world.log)) p i (runs own.0 pair) made) [
+      elim (own_made (reading_of a.setup.psk) (state_of prior a own.0 world.log) (state_of prior next own.0 (acts ++ world.log)) p i (runs own.0 pair) made) [
         | inl e ↦ (let x = placed_by world.requesters world.responder.connections k.apart a is given commands history a is in (x.0, x.1, e ∙ sym (ap (λ (s : ReqSetup). s.psk) x.2)))
         | inr l ↦ (let o = k.owned p i l in let x = placed_by world.requesters world.responder.connections k.apart a is given commands history o.0 o.1 in (x.0, x.1, o.2 ∙ sym (ap (λ (s : ReqSetup). s.psk) x.2)))
       ]
 
-  pub requester_goes : (sent : List SentPacket) → IsAsking KeptAsked KeptServed next → Runs → Fits KeptAsked KeptServed (later sent)
+  pub requester_goes : (sent : List SentPacket) → IsAsking prior KeptAsked KeptServed next → Runs → Fits prior KeptAsked KeptServed (later sent)
   requester_goes sent well runs = record {
     apart = still_apart world.requesters world.responder.connections k.apart a is given commands history;
     asks = all_ask well;

@@ -41,15 +41,16 @@ use Rattle.spdm_agreement.proofs.Worlds.ResponderChanges.{responder_goes, still_
 use Rattle.responder_machine.proofs.Making.{does_made}
 use Rattle.spdm_agreement.proofs.Messages.Beginnings.{reading_of}
 use Rattle.responder_machine.proofs.Runs.{ticked_draws}
+use Rattle.spdm_agreement.specs.Story.{Past}
 
-module _ (KeptAsked : ReqSetup → asked.History → Type 0) (KeptServed : RspSetup → served.History → Type 0) (world : World) (k : Fits KeptAsked KeptServed world) (does_well : DoesWell KeptServed) (waits : Waits KeptServed) where
+module _ (prior : Past) (KeptAsked : ReqSetup → asked.History → Type 0) (KeptServed : RspSetup → served.History → Type 0) (world : World) (k : Fits prior KeptAsked KeptServed world) (does_well : DoesWell prior KeptServed) (waits : Waits KeptServed) where
   abbrev connections : List Connection
   connections = world.responder.connections
 
   -- The responder may go on like this.
   abbrev Goes : List Act → Responding → Type 0
   Goes acts after = (sent : List SentPacket) → NoChance (acts ++ world.log)
-      → Fits KeptAsked KeptServed (record { requesters = world.requesters; responder = after; sent = sent; log = acts ++ world.log })
+      → Fits prior KeptAsked KeptServed (record { requesters = world.requesters; responder = after; sent = sent; log = acts ++ world.log })
 
   -- Nothing but the count of packets changes.
   rests : (given : List (List ℕ)) → length world.responder.given ≤ length given → Goes [] (record world.responder { given = given })
@@ -58,7 +59,7 @@ module _ (KeptAsked : ReqSetup → asked.History → Type 0) (KeptServed : RspSe
       record { apart = k.apart; asks = k.asks; serves = k.serves; wear = omega arith; draws = k.draws; owned = k.owned; pairs = k.pairs }
 
   ready : (x : Connection) (a : Requesting) → IsPair world.requesters connections a x → responding.is_worn world.responder ≡ false
-      → ServedReady KeptServed x.setup x.history (state_of a x world.log).asked world.log (responding.next_draw world.responder)
+      → ServedReady prior KeptServed x.setup x.history (state_of prior a x world.log).asked world.log (responding.next_draw world.responder)
   unfolding responding.next_draw
   ready x a pair fresh =
       let old = k.serves x pair.connection in
@@ -66,7 +67,7 @@ module _ (KeptAsked : ReqSetup → asked.History → Type 0) (KeptServed : RspSe
         setup = old.setup;
         made = old.made;
         kept = old.kept;
-        reached = subst (λ (psk : List ℕ). IsReached (reading_of psk) (state_of a x world.log)) (sym (same_key world.requesters connections k.apart a x pair)) (k.pairs a x pair);
+        reached = subst (λ (psk : List ℕ). IsReached (reading_of psk) (state_of prior a x world.log)) (sym (same_key world.requesters connections k.apart a x pair)) (k.pairs a x pair);
         fresh = old.fresh;
         draw = good_draw world.responder.seed (world.responder.first + all_draws connections)
             (below world.responder.first wear_limit (all_draws connections) (length world.responder.given) k.draws k.wear fresh);
@@ -79,7 +80,7 @@ module _ (KeptAsked : ReqSetup → asked.History → Type 0) (KeptServed : RspSe
   -- It goes on by an outcome that is a run of moves.
   goes_by : (x : Connection) → IsIn connections x → (packet body : List ℕ) (o : Outcome) → serving_made.IsMade x.setup (after x.history o)
       → draws_of x.history ≤ draws_of (after x.history o) → draws_of (after x.history o) ≤ draws_of x.history + 1
-      → ((a : Requesting) → IsPair world.requesters connections a x → ServedStep KeptServed x.setup x.history (state_of a x world.log).asked world.log body (responding.next_draw world.responder) o)
+      → ((a : Requesting) → IsPair world.requesters connections a x → ServedStep prior KeptServed x.setup x.history (state_of prior a x world.log).asked world.log body (responding.next_draw world.responder) o)
       → Goes (acts_of x.setup x.history body o) (record world.responder { given = packet ∷ world.responder.given; taken = with_taken (responding.data_of o) world.responder.taken; connections = with_history x.setup.peer (λ h. after h o) connections })
   goes_by x is packet body o made more most steps sent n =
       let old = k.serves x is in
@@ -91,13 +92,13 @@ module _ (KeptAsked : ReqSetup → asked.History → Type 0) (KeptServed : RspSe
       let number = draw_number in
       let count = count_changed draws_of (λ h. after h o) connections x k.apart.peers is in
       let wear = k.wear in
-      responder_goes KeptAsked KeptServed world k x is (packet ∷ world.responder.given) (with_taken (responding.data_of o) world.responder.taken) (λ h. after h o) (acts_of x.setup x.history body o) n sent
+      responder_goes prior KeptAsked KeptServed world k x is (packet ∷ world.responder.given) (with_taken (responding.data_of o) world.responder.taken) (λ h. after h o) (acts_of x.setup x.history body o) n sent
       (omega arith)
       (omega arith)
       (record {
         setup = old.setup;
         made = made;
-        kept = step.keeps (changes.now_reached KeptAsked KeptServed world k x is (packet ∷ world.responder.given) (with_taken (responding.data_of o) world.responder.taken) (λ h. after h o) (acts_of x.setup x.history body o) n runs a.0 pair);
+        kept = step.keeps (changes.now_reached prior KeptAsked KeptServed world k x is (packet ∷ world.responder.given) (with_taken (responding.data_of o) world.responder.taken) (λ h. after h o) (acts_of x.setup x.history body o) n runs a.0 pair);
         fresh = omega arith;
       })
       runs
@@ -117,7 +118,7 @@ module _ (KeptAsked : ReqSetup → asked.History → Type 0) (KeptServed : RspSe
   answers_goes x is packet route body fresh =
       let made = does_made x.setup x.history route.tag body (responding.next_draw world.responder) (k.serves x is).made in
       goes_by x is packet body (responder_does x.setup x.history route.tag body (responding.next_draw world.responder)) made.made made.more made.most
-      (λ a pair. does_well x.setup x.history (state_of a x world.log).asked world.log route.tag body (responding.next_draw world.responder) (ready x a pair fresh))
+      (λ a pair. does_well x.setup x.history (state_of prior a x world.log).asked world.log route.tag body (responding.next_draw world.responder) (ready x a pair fresh))
 
   gathered_goes : (x : Connection) → IsIn connections x → (packet : List ℕ) (g : Gathered) → responding.is_worn world.responder ≡ false → GoesOn (responding.hears_gathered world.responder (responding.next_draw world.responder) x packet g)
   gathered_goes x is packet (Whole route body) fresh =
@@ -147,19 +148,19 @@ module _ (KeptAsked : ReqSetup → asked.History → Type 0) (KeptServed : RspSe
   -- Data that are queued for one connection.
   queued_at : (x : Connection) → IsIn connections x → (bytes : List ℕ) → length bytes ≤ 1024 → length (queue_of x.history) < 16
       → (n : NoChance world.log) → (sent : List SentPacket)
-      → Fits KeptAsked KeptServed (record { requesters = world.requesters; responder = record world.responder { connections = with_history x.setup.peer (λ h. Queued bytes ∷ h) connections }; sent = sent; log = world.log })
+      → Fits prior KeptAsked KeptServed (record { requesters = world.requesters; responder = record world.responder { connections = with_history x.setup.peer (λ h. Queued bytes ∷ h) connections }; sent = sent; log = world.log })
   queued_at x is bytes short room n sent =
       let old = k.serves x is in
       let count = count_changed draws_of (λ h. Queued bytes ∷ h) connections x k.apart.peers is in
       let wear = k.wear in
       let fresh = old.fresh in
-      responder_goes KeptAsked KeptServed world k x is world.responder.given world.responder.taken (λ h. Queued bytes ∷ h) [] n sent
+      responder_goes prior KeptAsked KeptServed world k x is world.responder.given world.responder.taken (λ h. Queued bytes ∷ h) [] n sent
       (omega arith)
       (omega arith)
       (record { setup = old.setup; made = (short, room, old.made); kept = (waits x.setup x.history old.made old.kept).0 bytes; fresh = omega arith })
       (λ a pair. ([], tt, refl))
 
-  stays : (sent : List SentPacket) → Fits KeptAsked KeptServed (record world { sent = sent })
+  stays : (sent : List SentPacket) → Fits prior KeptAsked KeptServed (record world { sent = sent })
   stays sent = record { apart = k.apart; asks = k.asks; serves = k.serves; wear = k.wear; draws = k.draws; owned = k.owned; pairs = k.pairs }
 
   -- The tests of queued data.
@@ -172,35 +173,35 @@ module _ (KeptAsked : ReqSetup → asked.History → Type 0) (KeptServed : RspSe
       (omega arith, leb-false 16 (length (queue_of x.history)) q)
 
   queues_by : (eid : ℕ) (bytes : List ℕ) (x : Connection) → IsIn connections x → x.setup.peer ≡ eid → (fault : Option ReplyFault) → reply_fault_of (Some x) bytes ≡ fault
-      → NoChance world.log → Fits KeptAsked KeptServed (record world { responder = queues fault world.responder eid bytes })
+      → NoChance world.log → Fits prior KeptAsked KeptServed (record world { responder = queues fault world.responder eid bytes })
   queues_by eid bytes x is peer (Some fault) e n = stays world.sent
   queues_by eid bytes x is peer None e n =
       let room = roomy x bytes (nat_lt 1024 (length bytes)) (nat_le 16 (length (queue_of x.history))) refl refl e in
-      subst (λ (p : ℕ). Fits KeptAsked KeptServed (record world { responder = record world.responder { connections = with_history p (λ h. Queued bytes ∷ h) connections } })) peer
+      subst (λ (p : ℕ). Fits prior KeptAsked KeptServed (record world { responder = record world.responder { connections = with_history p (λ h. Queued bytes ∷ h) connections } })) peer
       (queued_at x is bytes room.0 room.1 n world.sent)
 
   pub queues_goes : (eid : ℕ) (bytes : List ℕ) (o : Option Connection) → connection_of eid connections ≡ o → NoChance world.log
-      → Fits KeptAsked KeptServed (record world { responder = queues (reply_fault_of o bytes) world.responder eid bytes })
+      → Fits prior KeptAsked KeptServed (record world { responder = queues (reply_fault_of o bytes) world.responder eid bytes })
   queues_goes eid bytes None is n = stays world.sent
   queues_goes eid bytes (Some x) is n =
       let there = found_in (λ (y : Connection). y.setup.peer == eid) connections x is in
       queues_by eid bytes x there.0 (eqb-true _ _ there.1) (reply_fault_of (Some x) bytes) refl n
 
-  pub sent_stays : (sent : List SentPacket) → Fits KeptAsked KeptServed (record world { sent = sent })
+  pub sent_stays : (sent : List SentPacket) → Fits prior KeptAsked KeptServed (record world { sent = sent })
   sent_stays sent = stays sent
 
-module _ (KeptAsked : ReqSetup → asked.History → Type 0) (KeptServed : RspSetup → served.History → Type 0) (world : World) (k : Fits KeptAsked KeptServed world) (waits : Waits KeptServed) (seconds : ℕ) where
+module _ (prior : Past) (KeptAsked : ReqSetup → asked.History → Type 0) (KeptServed : RspSetup → served.History → Type 0) (world : World) (k : Fits prior KeptAsked KeptServed world) (waits : Waits KeptServed) (seconds : ℕ) where
   abbrev cs : List Connection
   cs = world.responder.connections
 
   abbrev later : Connection → Connection
   later = changed (λ h. Ticked seconds ∷ h)
 
-  serves_later : (x : Connection) → IsIn (map later cs) x → IsServing KeptAsked KeptServed (world.responder.first + all_draws (map later cs)) x
+  serves_later : (x : Connection) → IsIn (map later cs) x → IsServing prior KeptAsked KeptServed (world.responder.first + all_draws (map later cs)) x
   serves_later x m =
       let o = in_map later cs x m in
       let old = k.serves o.0 o.1 in
-      subst (IsServing KeptAsked KeptServed (world.responder.first + all_draws (map later cs))) (sym o.2)
+      subst (IsServing prior KeptAsked KeptServed (world.responder.first + all_draws (map later cs))) (sym o.2)
       (record {
         setup = old.setup;
         made = old.made;
@@ -208,13 +209,13 @@ module _ (KeptAsked : ReqSetup → asked.History → Type 0) (KeptServed : RspSe
         fresh = (let fresh = old.fresh in let count = ticked_draws seconds cs in omega arith);
       })
 
-  pairs_later : (a : Requesting) (x : Connection) → IsPair world.requesters (map later cs) a x → IsReached (reading_of a.setup.psk) (state_of a x world.log)
+  pairs_later : (a : Requesting) (x : Connection) → IsPair world.requesters (map later cs) a x → IsReached (reading_of a.setup.psk) (state_of prior a x world.log)
   pairs_later a x pair =
       let o = in_map later cs x pair.connection in
-      subst (λ (y : Connection). IsReached (reading_of a.setup.psk) (state_of a y world.log)) (sym o.2)
+      subst (λ (y : Connection). IsReached (reading_of a.setup.psk) (state_of prior a y world.log)) (sym o.2)
       (k.pairs a o.0 (record { requester = pair.requester; connection = o.1; peer = sym (ap (λ (y : Connection). y.setup.peer) o.2) ∙ pair.peer }))
 
-  pub ticks_goes : Fits KeptAsked KeptServed (record world { responder = ticks world.responder seconds })
+  pub ticks_goes : Fits prior KeptAsked KeptServed (record world { responder = ticks world.responder seconds })
   ticks_goes = record {
     apart = still_apart world.requesters cs later (λ x. refl) k.apart;
     asks = k.asks;

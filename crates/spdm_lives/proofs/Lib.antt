@@ -1,0 +1,5 @@
+pub mod RequesterSessions
+pub mod ResponderSessions
+pub mod RequesterDraws
+pub mod ResponderDraws
+pub mod Checks

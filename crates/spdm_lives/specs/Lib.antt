@@ -1,0 +1,4 @@
+pub mod Lives
+pub mod Apart
+pub mod Fresh
+pub mod Laws

@@ -1,0 +1,4 @@
+//! x
+
+/// Nothing.
+pub fn lives_hold() {}
