@@ -25,7 +25,7 @@ use Rattle.spdm_agreement.proofs.Worlds.EndSteps.{DoesWell, ServedStarts, Waits,
 use Rattle.spdm_agreement.specs.Claims.{IsReached}
 use Rattle.spdm_agreement.specs.Configured.{IsResponder}
 use Rattle.spdm_agreement.specs.Marks.{Asked, Exchange, Served}
-use Rattle.spdm_agreement.specs.Story.{record_marks, served_marks}
+use Rattle.spdm_agreement.specs.Story.{no_past, record_marks, served_marks}
 use Rattle.spdm_basis.specs.declared.causes.record_fault.RecordFault.{RecordFault}
 use Rattle.spdm_grammar.specs.declared.names.request_code.TheConstants.{END_SESSION, GET_VERSION, PSK_EXCHANGE}
 use Rattle.spdm_grammar.specs.declared.told.phase.Phase.{Phase}
@@ -99,7 +99,7 @@ recorded r h tag sealed t reply d setup made drawn live =
       steady = (made_steady r (Sealed tag sealed t reply d ∷ h) made).0;
     }
 
-module _ (r : RspSetup) (h : History) (asked : List Asked) (log : Log) (made : IsMade r h) (reached : IsReached (reading_of r.psk) (serves_state r h asked log)) (old : IsKept r h) (sealed : List ℕ) (t : Turn) (reply : List ℕ) where
+module _ (r : RspSetup) (h : History) (asked : List Asked) (log : Log) (made : IsMade r h) (reached : IsReached (reading_of r.psk) (serves_state no_past r h asked log)) (old : IsKept r h) (sealed : List ℕ) (t : Turn) (reply : List ℕ) where
   abbrev of : ℕ
   of = id_in_record sealed
 
@@ -107,7 +107,7 @@ module _ (r : RspSetup) (h : History) (asked : List Asked) (log : Log) (made : I
   marks = served_marks r h
 
   stands : (id : ℕ) → ServedAt r.psk id (session_of id h) marks
-  stands id = served_stands r.psk r h (made_steady r h made) id
+  stands id = served_stands no_past r.psk r h (made_steady r h made) id
 
   module _ (e : Event) (s : Events) (is : session_of of h ≡ e ∷ s) (k : IsRecorded r (e ∷ s) sealed t reply) where
     shown : IsShown r (e ∷ s) marks
@@ -117,7 +117,7 @@ module _ (r : RspSetup) (h : History) (asked : List Asked) (log : Log) (made : I
     elsewhere id other =
         past_marks r (session_of id h) marks _
         (λ held. other_stage r (e ∷ s) sealed t reply (t2_of (session_of id h)) marks (stage_of (e ∷ s))
-        (λ past same. other_second r.psk id of (e ∷ s) (session_of id h) asked marks log (holds (reading_of r.psk) (serves_state r h asked log) reached) (λ one. true≢false (sym (eq-eqb of id one) ∙ other))
+        (λ past same. other_second r.psk id of (e ∷ s) (session_of id h) asked marks log (holds (reading_of r.psk) (serves_state no_past r h asked log) reached) (λ one. true≢false (sym (eq-eqb of id one) ∙ other))
         ((subst (λ (x : Events). ServedAt r.psk of x marks) is (stands of)).told past) ((stands id).told held) same))
         (old.held id)
 
@@ -154,7 +154,7 @@ module _ (r : RspSetup) (h : History) (asked : List Asked) (log : Log) (made : I
   all_after (e ∷ s) is k = all_stage r e s sealed t reply marks (stage_of (e ∷ s)) refl (k refl).steady (k refl) (shown e s is (k refl)) old.all
 
 sealed_kept : (r : RspSetup) (h : History) (asked : List Asked) (log : Log) (tag : ℕ) (sealed : List ℕ) (t : Turn) (reply : List ℕ) (d : Draw) → IsResponder r → IsMade r (Sealed tag sealed t reply d ∷ h) → length d.bytes ≡ 32
-    → IsReached (reading_of r.psk) (serves_state r h asked log) → IsKept r h → serves.IsKept r (Sealed tag sealed t reply d ∷ h) → IsKept r (Sealed tag sealed t reply d ∷ h)
+    → IsReached (reading_of r.psk) (serves_state no_past r h asked log) → IsKept r h → serves.IsKept no_past r (Sealed tag sealed t reply d ∷ h) → IsKept r (Sealed tag sealed t reply d ∷ h)
 unfolding session_of
 sealed_kept r h asked log tag sealed t reply d setup made drawn reached old new =
     let s = session_of (id_in_record sealed) h in record {
@@ -165,7 +165,7 @@ sealed_kept r h asked log tag sealed t reply d setup made drawn reached old new 
 
 -- ---- In the clear.
 
-clear_kept : (r : RspSetup) (h : History) (tag : ℕ) (t : Turn) (d : Draw) → IsKept r h → serves.IsKept r (Clear tag t d ∷ h) → IsKept r (Clear tag t d ∷ h)
+clear_kept : (r : RspSetup) (h : History) (tag : ℕ) (t : Turn) (d : Draw) → IsKept r h → serves.IsKept no_past r (Clear tag t d ∷ h) → IsKept r (Clear tag t d ∷ h)
 unfolding session_of
 clear_kept r h tag t d old new = record {
   kept = new;
@@ -176,7 +176,7 @@ clear_kept r h tag t d old new = record {
 -- ---- Whatever a responder does.
 
 after_kept : (r : RspSetup) (h : History) (asked : List Asked) (log : Log) (d : Draw) (o : Outcome) → IsResponder r → IsMade r (after h o) → length d.bytes ≡ 32 → HasDraw d o
-    → IsReached (reading_of r.psk) (serves_state r h asked log) → IsKept r h → serves.IsKept r (after h o) → IsKept r (after h o)
+    → IsReached (reading_of r.psk) (serves_state no_past r h asked log) → IsKept r h → serves.IsKept no_past r (after h o) → IsKept r (after h o)
 after_kept r h asked log d (Same body) setup made drawn has reached old new = record { kept = new; held = old.held; all = old.all }
 after_kept r h asked log d (Unopened body) setup made drawn has reached old new = record { kept = new; held = old.held; all = old.all }
 after_kept r h asked log d (Adds (Clear tag t d')) setup made drawn has reached old new = clear_kept r h tag t d' old new
@@ -186,9 +186,9 @@ after_kept r h asked log d (Adds (Queued bytes)) setup made drawn has reached ol
 after_kept r h asked log d (Adds (Ticked seconds)) setup made drawn has reached old new = absurd has
 after_kept r h asked log d (Adds (Dropped id)) setup made drawn has reached old new = absurd has
 
-pub does_well : DoesWell IsKept
+pub does_well : DoesWell no_past IsKept
 does_well r h asked log tag body d ready =
-    let step = serves.does_well r h asked log tag body d (record { setup = ready.setup; made = ready.made; kept = ready.kept.kept; reached = ready.reached; fresh = ready.fresh; draw = ready.draw }) in
+    let step = serves.does_well no_past r h asked log tag body d (record { setup = ready.setup; made = ready.made; kept = ready.kept.kept; reached = ready.reached; fresh = ready.fresh; draw = ready.draw }) in
     let o = responder_does r h tag body d in
     record {
       leads = step.leads;
@@ -198,12 +198,12 @@ does_well r h asked log tag body d ready =
 
 pub served_starts : ServedStarts IsKept
 unfolding session_of
-served_starts r = record { kept = serves.served_starts r; held = λ id. gone r []; all = λ u. record { negotiation = no_negotiation; turns = []; are = tt } }
+served_starts r = record { kept = serves.served_starts no_past serves.begins_duly r; held = λ id. gone r []; all = λ u. record { negotiation = no_negotiation; turns = []; are = tt } }
 
 pub waits : Waits IsKept
 unfolding session_of
 waits r h made old =
-    let l = serves.waits r h made old.kept in (
+    let l = serves.waits no_past r h made old.kept in (
       λ bytes. record { kept = l.0 bytes; held = old.held; all = old.all },
       λ seconds. record { kept = l.1 seconds; held = λ id. ticked r (session_of id h) seconds (served_marks r h) (old.held id); all = old.all },
     )

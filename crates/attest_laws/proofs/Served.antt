@@ -14,7 +14,7 @@ use Rattle.spdm_agreement.proofs.Responder.OpenSessions.{EndsByFinish, same_seco
 use Rattle.spdm_agreement.specs.Marks.{Exchange, Served, count_of, taken}
 use Rattle.spdm_agreement.specs.Marks.Served.{Finished, Refused, Took}
 use Rattle.spdm_agreement.specs.Reading.{First}
-use Rattle.spdm_agreement.specs.Story.{reply_text, served_first, served_marks, served_turn, taken_text}
+use Rattle.spdm_agreement.specs.Story.{no_past, reply_text, served_first, served_marks, served_turn, taken_text}
 use Rattle.spdm_grammar.specs.declared.names.request_code.TheConstants.{PSK_FINISH}
 use Rattle.spdm_grammar.specs.declared.told.phase.Stage.{Stage}
 use Rattle.spdm_grammar.specs.declared.told.phase.Stage.TheVariants as stage
@@ -134,6 +134,6 @@ all_stage r e s sealed t reply m stage.Verifying is steady k i all = all_took r 
 -- ---- What a responder keeps.
 
 pub record IsKept (r : RspSetup) (h : History) : Type 0 where
-  pub kept : serves.IsKept r h
+  pub kept : serves.IsKept no_past r h
   pub held : (id : ℕ) → IsShown r (session_of id h) (served_marks r h)
   pub all : AllServed r (served_marks r h)

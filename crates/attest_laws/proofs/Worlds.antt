@@ -13,12 +13,12 @@ use Rattle.spdm_agreement.proofs.Moves.Earlier.{IsEarlier, earlier_if, earlier_s
 use Rattle.spdm_agreement.proofs.Moves.Runs.{heard_was_taken, holds}
 use Rattle.spdm_agreement.proofs.Requester.AfterBody as bodies
 use Rattle.spdm_agreement.proofs.Requester.Whole as asks
-use Rattle.spdm_agreement.proofs.Worlds.AllEvents.{after_good}
+use Rattle.spdm_agreement.proofs.Worlds.AllEvents.{after_fits}
 use Rattle.spdm_agreement.proofs.Worlds.Fits.{Fits, IsPair}
 use Rattle.spdm_agreement.proofs.Worlds.Pairs.{state_of}
 use Rattle.spdm_agreement.specs.Marks as marks
 use Rattle.spdm_agreement.specs.Marks.{Asked, Exchange, heard, outstanding, taken}
-use Rattle.spdm_agreement.specs.Story.{asked_marks, clear_marks, command_marks, taken_marks}
+use Rattle.spdm_agreement.specs.Story.{no_past, asked_marks, clear_marks, command_marks, taken_marks}
 use Rattle.spdm_grammar.specs.declared.told.block_spec.BlockSpec.{BlockSpec}
 use Rattle.spdm_machine.proofs.Members.{in_contained}
 use Rattle.spdm_progress.specs.Measuring.{record_for}
@@ -73,12 +73,12 @@ module _ (part : RspPart) (r : RspSetup) (blocks : r.blocks ≡ part.blocks) (q 
 
 -- ---- All requesters.
 
-measure : (world : World) → Fits asks.IsKept IsKept world → IsSetUp world.responder.part world.responder → AllMeasureAsConfigured world
+measure : (world : World) → Fits no_past (asks.IsKept no_past) IsKept world → IsSetUp world.responder.part world.responder → AllMeasureAsConfigured world
 measure world k setup a contained =
     let is = in_contained world.requesters a contained in
     let x = k.apart.served a is in
     let pair : IsPair world.requesters world.responder.connections a x.0 = record { requester = is; connection = x.1; peer = x.2 } in
-    let s = state_of a x.0 world.log in
+    let s = state_of no_past a x.0 world.log in
     let links = (holds (reading_of a.setup.psk) s (k.pairs a x.0 pair)).links in
     let serving = k.serves x.0 x.1 in
     all_measured world.responder.part x.0.setup (setup.blocks x.0 x.1) a.setup a.history (takes x.0.setup a.setup a.history (k.asks a is).made).1
@@ -88,5 +88,5 @@ pub worlds_measure : WorldsMeasureAsConfigured
 worlds_measure w c entries chance =
     let world = world_after w entries in
     let setup = stays_set_up w entries in
-    measure world ((after_good asks.IsKept IsKept asks.starts asks.asks_well asks.hears_well bodies.steady serves.served_starts serves.does_well serves.waits w c entries).fits chance)
+    measure world (after_fits (asks.IsKept no_past) IsKept (asks.starts no_past asks.begins_openly) (asks.asks_well no_past) (asks.hears_well no_past) bodies.steady serves.served_starts serves.does_well serves.waits w c entries chance)
     (subst (λ (part : RspPart). IsSetUp part world.responder) (sym setup.part_is) setup)
