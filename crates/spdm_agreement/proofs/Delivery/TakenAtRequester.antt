@@ -176,7 +176,7 @@ hears_led_by : (q : ReqSetup) (h : History) (owner : Bool) (tag : ℕ) (body : L
 unfolding hears
 hears_led_by q h owner tag body f d = waiting_led_by q h f tag body d (outstanding h) (body_fault q (outstanding h) owner tag body) refl
 
-led_by : (q : ReqSetup) (h : History) (owner : Bool) (tag tag' : ℕ) (body : List ℕ) (of : ℕ) (sealed inner : List ℕ) (f : Free) (led : Led) (d d' : Draw) → hears q h owner tag body f d ≡ Adds (TookRecord tag' of sealed inner led d') → IsLedBy q h f of sealed led
+pub led_by : (q : ReqSetup) (h : History) (owner : Bool) (tag tag' : ℕ) (body : List ℕ) (of : ℕ) (sealed inner : List ℕ) (f : Free) (led : Led) (d d' : Draw) → hears q h owner tag body f d ≡ Adds (TookRecord tag' of sealed inner led d') → IsLedBy q h f of sealed led
 led_by q h owner tag tag' body of sealed inner f led d d' e = subst (HeardLed q h f) e (hears_led_by q h owner tag body f d)
 
 -- ---- The texts of an answer.
@@ -199,7 +199,7 @@ under_is t2 s true answer = refl
 under_is t2 s false answer = refl
 
 -- What a record adds to what was heard.
-next_heard : (t2 u b reply : List ℕ) (s : Steps) (o : Option Sent) (old : List marks.Asked) → heard t2 ((next_marks s o ++ marks.Asked.Heard u b reply ∷ []) ++ old) ≡ cond (bytes_eq u t2) ((b, reply) ∷ heard t2 old) (heard t2 old)
+pub next_heard : (t2 u b reply : List ℕ) (s : Steps) (o : Option Sent) (old : List marks.Asked) → heard t2 ((next_marks s o ++ marks.Asked.Heard u b reply ∷ []) ++ old) ≡ cond (bytes_eq u t2) ((b, reply) ∷ heard t2 old) (heard t2 old)
 next_heard t2 u b reply s None old = refl
 next_heard t2 u b reply s (Some x) old = go x.content
   where
@@ -207,7 +207,7 @@ next_heard t2 u b reply s (Some x) old = go x.content
     go (Clear message) = refl
     go (Sealed sealed inner pad) = refl
 
-shake_heard : (b : Bool) (x : First) (u t2 : List ℕ) (old : List marks.Asked) → heard t2 (cond b (marks.Asked.Opened x u ∷ []) [] ++ old) ≡ heard t2 old
+pub shake_heard : (b : Bool) (x : First) (u t2 : List ℕ) (old : List marks.Asked) → heard t2 (cond b (marks.Asked.Opened x u ∷ []) [] ++ old) ≡ heard t2 old
 shake_heard true x u t2 old = refl
 shake_heard false x u t2 old = refl
 
@@ -262,7 +262,7 @@ content_heard : (t2 : List ℕ) (s : Steps) (c : Content) (old : List marks.Aske
 content_heard t2 s (Clear message) old = refl
 content_heard t2 s (Sealed sealed inner pad) old = refl
 
-command_heard : (t2 : List ℕ) (h : History) (c : Command) (x : Sent) (d : Draw) (old : List marks.Asked) → heard t2 (command_marks h c x d ++ old) ≡ heard t2 old
+pub command_heard : (t2 : List ℕ) (h : History) (c : Command) (x : Sent) (d : Draw) (old : List marks.Asked) → heard t2 (command_marks h c x d ++ old) ≡ heard t2 old
 command_heard t2 h (Open summary) x d old = refl
 command_heard t2 h _ x d old = content_heard t2 (steps_at h x.aim) x.content old
 

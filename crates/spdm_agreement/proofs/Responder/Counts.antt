@@ -91,7 +91,7 @@ then_none : (a : Bool) (n k : ℕ) → a ≡ false → cond a n k ≡ k
 then_none true n k e = absurd (true≢false e)
 then_none false n k e = refl
 
-with_taken : (u : List ℕ) (b c : List ℕ) (m : List Served) → taken u (Took u b c ∷ m) ≡ (b, c) ∷ taken u m
+pub with_taken : (u : List ℕ) (b c : List ℕ) (m : List Served) → taken u (Took u b c ∷ m) ≡ (b, c) ∷ taken u m
 with_taken u b c m = ap (λ (x : Bool). cond x ((b, c) ∷ taken u m) (taken u m)) ((bytes_eq-Decides u u).1 refl)
 
 -- The stage goes by the updates that are granted.
@@ -218,7 +218,7 @@ own_record r e s f sealed t reply m o steady none i =
 
 -- ---- A record of another session: the T2 of two are different.
 
-other_second : (psk : List ℕ) (id of : ℕ) (own s : Events) (asked : List Asked) (m : List Served) (log : Log) → Invariant (reading_of psk) asked m log → (of ≡ id → ⊥)
+pub other_second : (psk : List ℕ) (id of : ℕ) (own s : Events) (asked : List Asked) (m : List Served) (log : Log) → Invariant (reading_of psk) asked m log → (of ≡ id → ⊥)
     → served_open (reading_of psk) of m ≡ Some (served_first own, t2_of own) → served_open (reading_of psk) id m ≡ Some (served_first s, t2_of s)
     → t2_of own ≡ t2_of s → ⊥
 other_second psk id of own s asked m log k other a b same =
@@ -239,7 +239,7 @@ other_turn : (x : First) (u v reply : List ℕ) (m : List Served) (b : Bool) →
 other_turn x u v reply m true = refl
 other_turn x u v reply m false = refl
 
-other_stage : (r : RspSetup) (own : Events) (sealed : List ℕ) (t : Turn) (reply v : List ℕ) (m : List Served) (g : Stage) → (is_past_handshake g ≡ true → t2_of own ≡ v → ⊥) → taken v (served_turn g r own sealed t reply ++ m) ≡ taken v m
+pub other_stage : (r : RspSetup) (own : Events) (sealed : List ℕ) (t : Turn) (reply v : List ℕ) (m : List Served) (g : Stage) → (is_past_handshake g ≡ true → t2_of own ≡ v → ⊥) → taken v (served_turn g r own sealed t reply ++ m) ≡ taken v m
 other_stage r own sealed t reply v m stage.Handshake other = other_turn (served_first own) (t2_of (Heard sealed t reply ∷ own)) v (reply_text t) m (takes PSK_FINISH t)
 other_stage r own sealed t reply v m stage.Open other = other_taken (t2_of own) v (taken_text r.psk own sealed) (reply_text t) m (other refl)
 other_stage r own sealed t reply v m stage.Verifying other = other_taken (t2_of own) v (taken_text r.psk own sealed) (reply_text t) m (other refl)

@@ -1,0 +1,11 @@
+pub mod Turns
+pub mod Exchanges
+pub mod Served
+pub mod Keeping
+pub mod Reading
+pub mod Shapes
+pub mod Waiting
+pub mod Answering
+pub mod Taking
+pub mod Blocks
+pub mod Worlds

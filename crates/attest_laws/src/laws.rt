@@ -1,0 +1,10 @@
+//! What attestation may rely on, each law stated as the contract of an empty function.
+
+ghost use Rattle.attest_laws.specs.Measured.{WorldsMeasureAsConfigured};
+
+/// In every world that a set-up and events lead to, where no two tags agree by chance, the record of each `measured` in
+/// a session is that of the blocks that the responder is set up with, for the operation that was asked. It may have come
+/// in chunks.
+pub fn measured_as_configured()
+    ensures { WorldsMeasureAsConfigured }
+{}

@@ -1,0 +1,10 @@
+//! Attestation over every schedule: what a requester measures in a session is what the responder is set up with. No
+//! code runs here: each function has a law as its contract.
+//!
+//! Read first: `MeasuresAsConfigured` in `specs/Measured.antt`, what is said of the history of a requester. The law to
+//! read first is `measured_as_configured`.
+#![tactic(auto)]
+
+mod laws;
+
+pub use laws::measured_as_configured;
