@@ -1,7 +1,7 @@
 use Rattle.std.proofs.Common.{◌≤◌}
 use Rattle.link_world.specs.Worlds.{StandsFor}
-use Rattle.spdm_command.proofs.Going.{Went}
-use Rattle.spdm_command.proofs.script_run.run_events.Given as goal
+use Rattle.script_run.proofs.Going.{Went}
+use Rattle.script_run.proofs.events.run_events.Given as goal
 use Rattle.world_machine.specs.World.{World}
 
 -- From each world that it stood for, the events so far happened.

@@ -8,7 +8,7 @@ use Rattle.script_text.specs.declared.events.event.Entry.{Entry}
 use Rattle.script_laws.proofs.Going.{goes_on, lines_more, lines_to, room_more, step_at, stops_at, world_more, world_to, writes_all}
 use Rattle.script_laws.specs.Scripts.{entries_in, entry_in, full_from}
 use Rattle.spdm_basis.specs.Stream.{Takes, TakesPrefix}
-use Rattle.spdm_command.specs.Going.{IsFullAt, text_from}
+use Rattle.script_run.specs.Going.{IsFullAt, text_from}
 use Rattle.spdm_grammar.specs.Lines.{Line}
 use Rattle.world_machine.specs.Trace.{lines_from, world_from}
 use Rattle.world_machine.specs.World.{World, WorldStep, entry_step}

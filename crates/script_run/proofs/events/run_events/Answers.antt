@@ -1,9 +1,9 @@
 use Rattle.std.proofs.Common.{◌≡◌, ap, arith, take, Err}
 use Rattle.std.proofs.lemmas.Grind.{common_steps}
 use Rattle.link_world.proofs.Writing.{whole_prefix}
-use Rattle.spdm_command.proofs.Going.{fills, goes, stops, went_all}
-use Rattle.spdm_command.specs.Going.{text_from}
-use Rattle.spdm_command.proofs.script_run.run_events.Goals as goal
+use Rattle.script_run.proofs.Going.{fills, goes, stops, went_all}
+use Rattle.script_run.specs.Going.{text_from}
+use Rattle.script_run.proofs.events.run_events.Goals as goal
 
 pub returns-in-Err-LinkFull-clause-prefix : goal.returns-in-Err-LinkFull-clause-prefix
 returns-in-Err-LinkFull-clause-prefix g c = λ w stood.

@@ -2,7 +2,7 @@ use Rattle.std.proofs.Common.{subst, sym}
 use Rattle.responder_serve.proofs.Faults.{responder_cause}
 use Rattle.responder_serve.specs.Told.{IsEarly}
 use Rattle.responder_serve.specs.declared.fault.ServeFault.{ServeFault}
-use Rattle.responder_serve.proofs.making.first_responder.Goals as goal
+use Rattle.responder_serve.proofs.making.new_responder.Goals as goal
 
 pub returns-in-Err-clause-fault : goal.returns-in-Err-clause-fault
 returns-in-Err-clause-fault c =
