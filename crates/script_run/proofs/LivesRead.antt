@@ -19,7 +19,7 @@ use Rattle.script_text.specs.declared.configuration.given.Given.{Given}
 use Rattle.script_text.specs.declared.configuration.given.RspLine.{RspLine}
 use Rattle.script_text.specs.declared.events.event_kind.EventKind.{EventKind}
 use Rattle.script_text.specs.declared.texts.faults.LineFault.{LineFault}
-use Rattle.script_text.specs.declared.texts.faults.LineFault.TheVariants.{Unknown}
+use Rattle.script_text.specs.declared.texts.faults.LineFault.TheVariants.{Order, TooManyEvents, Unknown, Words}
 use Rattle.script_text.specs.declared.texts.lives_text.LivesReader.{LivesReader}
 use Rattle.script_text.specs.declared.texts.script.Life.{Life}
 use Rattle.script_text.specs.declared.texts.script.Lives.{Lives}
@@ -45,9 +45,9 @@ is_other false cycle is = absurd (none-some Unknown (sym is))
 cycle_room : (reader : LivesReader) (line : List ℕ) → cycle_fault reader line ≡ None → is_full reader.count ≡ false
 unfolding cycle_fault
 cycle_room reader line is =
-    let a = both _ _ _ is in
-    let b = both _ _ _ a.1 in
-    (both _ _ _ b.1).0
+    let a = both (not reader.given.ended) Order _ is in
+    let b = both (not (has_words 1 line)) Words _ a.1 in
+    (both (is_full reader.count) TooManyEvents None b.1).0
 
 event_kept : (reader : LivesReader) (number : ℕ) (kind : Option EventKind) (line : List ℕ) → lives_event_fault reader kind line ≡ None → IsRead reader → IsRead (after_lives_event reader number kind line)
 event_kept reader number None line is read =

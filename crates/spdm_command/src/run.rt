@@ -124,8 +124,6 @@ pub fn spdm<S: Source, K: Sink, E: Seeds, P: Keeper>(
     ensures unasked { is_unasked result ≡ true → keeper.new ≡ keeper.old }
     ensures of_keepers_alone { is_of_keepers result ≡ true
         → asks_keeper (call_of words.now) ≡ true }
-    ensures keeper_fault { result ≡ Outcome.KeeperFault
-        → HasFault (P.faults keeper.old) (P.faults keeper.new) }
 
     // The word `drive`: likewise the first requester of the configuration is told and given all whole frames.
     ensures driven { call_of words.now ≡ Some Drive → IsDriven

@@ -104,8 +104,6 @@ pub fn serve_kept_stream<S: Source, K: Sink, E: Seeds, P: Keeper>(
         → HasFault (S.faults source.old) (S.faults source.new) }
     ensures write_fault { result ≡ Outcome.WriteFault
         → HasFault (K.faults sink.old) (K.faults sink.new) }
-    ensures keeper_fault { result ≡ Outcome.KeeperFault
-        → HasFault (P.faults keeper.old) (P.faults keeper.new) }
 {
     let answer = serve_kept_input(alloc, source, sink, seeds, keeper);
     outcome_of_kept(&answer)

@@ -92,12 +92,9 @@ module _ (found left : KeeperState) (boot : ℕ) (next : IsNextBoot boot found l
 
 -- A fault of the stream comes of a keeper that was asked.
 pub was_asked : {A : Type 0} (f : ServeFault) (told : StreamFault) → IsTold f told → is_unasked (Err (Stream told)) ≡ true → A
-was_asked f told t unasked = go f t
-  where
-    go : (f : ServeFault) → IsTold f told → A
-    go serve.ReadFault t = absurd (false≢true (ap (λ (s : StreamFault). is_unasked (Err (Stream s))) (sym t) ∙ unasked))
-    go serve.WriteFault t = absurd (false≢true (ap (λ (s : StreamFault). is_unasked (Err (Stream s))) (sym t) ∙ unasked))
-    go serve.TooLong t = absurd (false≢true (ap (λ (s : StreamFault). is_unasked (Err (Stream s))) (sym t) ∙ unasked))
-    go (serve.BadFrame at) t = absurd (false≢true (ap (λ (s : StreamFault). is_unasked (Err (Stream s))) (sym t) ∙ unasked))
-    go serve.OutOfMemory t = absurd (false≢true (ap (λ (s : StreamFault). is_unasked (Err (Stream s))) (sym t) ∙ unasked))
-    go (serve.Responder refused) t = absurd t
+was_asked serve.ReadFault told t unasked = absurd (false≢true (ap (λ (s : StreamFault). is_unasked (Err (Stream s))) (sym t) ∙ unasked))
+was_asked serve.WriteFault told t unasked = absurd (false≢true (ap (λ (s : StreamFault). is_unasked (Err (Stream s))) (sym t) ∙ unasked))
+was_asked serve.TooLong told t unasked = absurd (false≢true (ap (λ (s : StreamFault). is_unasked (Err (Stream s))) (sym t) ∙ unasked))
+was_asked (serve.BadFrame at) told t unasked = absurd (false≢true (ap (λ (s : StreamFault). is_unasked (Err (Stream s))) (sym t) ∙ unasked))
+was_asked serve.OutOfMemory told t unasked = absurd (false≢true (ap (λ (s : StreamFault). is_unasked (Err (Stream s))) (sym t) ∙ unasked))
+was_asked (serve.Responder refused) told t unasked = absurd t

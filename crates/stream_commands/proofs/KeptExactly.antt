@@ -33,7 +33,7 @@ without_boot : (device input : List ℕ) (c : ScriptConfig) (end : InputEnd) →
 without_boot device input c LongText spent good long = absurd (short_long (length (text_of input)) text_limit good.0 long)
 without_boot device input c (BadText bad) spent good is = absurd (no_bad_line (config_in (text_of input)) c bad good.1 is.1)
 without_boot device input c (InStream ending) spent good is =
-    sym (ap (λ (b : Bool). if b then told_of (stream.answer_for (InStream ending)) else Err (Boot Spent)) (le-ltb last_boot (greatest device) spent))
+    sym (ap (λ (b : Bool). if b then told_of (stream.answer_for (InStream ending)) else Err (Boot Spent)) (le-ltb (greatest device) last_boot spent))
 
 module _ (found left : KeeperState) (before after : Outside) (input device : List ℕ) (has : before.left ≡ Some input) (holds : found.held ≡ Some device)
     (read : IsQuiet before.read_faults after.read_faults) (written : IsQuiet before.write_faults after.write_faults) (seeded : IsQuiet before.seed_faults after.seed_faults)
