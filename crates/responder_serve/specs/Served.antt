@@ -34,9 +34,13 @@ abbrev pub served_from : Responding → List GivenFrame → List ℕ
 served_from r [] = []
 served_from r (frame ∷ others) = packet_frames (sent_for r frame) ++ served_from (after_frame r frame) others
 
--- The responder of a configuration with a seed, in its first life, which was given nothing yet.
+-- The responder of a configuration with a seed, in the life of a boot number, which was given nothing yet.
+abbrev pub responder_in_life : ScriptConfig → (seed : List ℕ) → (boot : ℕ) → Responding
+responder_in_life c seed boot = new_responding (responder_end c seed boot)
+
+-- The same in its first life.
 abbrev pub responder_of : ScriptConfig → (seed : List ℕ) → Responding
-responder_of c seed = new_responding (responder_end c seed 0)
+responder_of c seed = responder_in_life c seed 0
 
 -- ---- What was read and written in a call, of a responder. Of a source that tells what it has left the stream is
 -- known: `before` the call.

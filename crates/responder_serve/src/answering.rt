@@ -2,7 +2,7 @@ ghost use Rattle.std.specs.Prelude.{◌≡◌};
 ghost use Rattle.responder_serve.specs.Told.{told_of};
 
 use crate::ServeFault;
-use crate::making::first_responder;
+use crate::making::new_responder;
 use frame_stream::{FrameFault, FrameKind, FrameReader, Kinds, write_packet_frames};
 use mctp_framing::PacketList;
 use responder::Responder;
@@ -36,26 +36,28 @@ fn fault_of(fault: FrameFault) -> ServeFault
 }
 
 impl Server {
-    ghost use Rattle.std.specs.Prelude.{◌≡◌, ◌≤◌, IfErr, IfOk, OnErr};
+    ghost use Rattle.std.specs.Prelude.{◌≡◌, ◌≤◌, ◌-◌, ◌^◌, IfErr, IfOk, OnErr};
     ghost use Rattle.frame_stream.specs.Frames.{stream_limit};
     ghost use Rattle.frame_stream.specs.Standing.{IsNew};
     ghost use Rattle.responder.specs.Standing.{StandsFor};
     ghost use Rattle.responder_machine.specs.Responding.{Responding};
-    ghost use Rattle.responder_serve.specs.Served.{responder_of, served_kinds};
+    ghost use Rattle.responder_serve.specs.Served.{responder_in_life, served_kinds};
     ghost use Rattle.responder_serve.specs.Standing.{IsKept, IsPacketAnswered, IsStep, IsStepFault};
     ghost use Rattle.responder_serve.specs.Told.{IsEarly};
     ghost use Rattle.spdm_basis.specs.Stream.{HasFault};
 
-    // The responder of a configuration with this seed, and its stream, of which some bytes were read already. Allocates
-    // all its memory here.
+    // The responder of a configuration with this seed, in the life of this boot number, and its stream, of which some
+    // bytes were read already. Allocates all its memory here.
     pub(crate) fn new(
         alloc: Global,
         config: &ScriptConfig,
         seed: [u8; 32],
+        boot: u32,
         before: &[u8],
     ) -> Result<Server, ServeFault>
+        requires { boot ≤ 2 ^ 24 - 2 }
         ensures stands { IfOk result
-            (λ server. StandsFor server.responder (responder_of config.now seed)) }
+            (λ server. StandsFor server.responder (responder_in_life config.now seed boot)) }
         ensures reader { IfOk result
             (λ server. IsNew served_kinds stream_limit before.now server.reader) }
         ensures fault { IfErr result (IsEarly config.now) }
@@ -66,7 +68,7 @@ impl Server {
         let Ok(out) = PacketList::new(alloc) else {
             return Err(ServeFault::OutOfMemory);
         };
-        match first_responder(alloc, config, seed) {
+        match new_responder(alloc, config, seed, boot) {
             Ok(responder) => Ok(Server {
                 responder,
                 reader,

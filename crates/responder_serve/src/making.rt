@@ -1,6 +1,6 @@
-ghost use Rattle.std.specs.Prelude.{◌≡◌, IfErr, IfOk};
+ghost use Rattle.std.specs.Prelude.{◌≡◌, ◌≤◌, ◌-◌, ◌^◌, IfErr, IfOk};
 ghost use Rattle.responder.specs.Standing.{StandsFor};
-ghost use Rattle.responder_serve.specs.Served.{responder_of};
+ghost use Rattle.responder_serve.specs.Served.{responder_in_life};
 ghost use Rattle.responder_serve.specs.Told.{IsEarly, of_responder};
 
 use crate::ServeFault;
@@ -25,17 +25,19 @@ fn fault_of_responder(fault: RspConfigFault) -> ServeFault
     }
 }
 
-/// The responder of a configuration with this seed, in its first life.
-pub(crate) fn first_responder(
+/// The responder of a configuration with this seed, in the life of this boot number.
+pub(crate) fn new_responder(
     alloc: Global,
     config: &ScriptConfig,
     seed: [u8; 32],
+    boot: u32,
 ) -> Result<Responder, ServeFault>
+    requires { boot ≤ 2 ^ 24 - 2 }
     ensures stands { IfOk result
-        (λ responder. StandsFor responder (responder_of config.now seed)) }
+        (λ responder. StandsFor responder (responder_in_life config.now seed boot)) }
     ensures fault { IfErr result (IsEarly config.now) }
 {
-    match make_responder(alloc, config, seed, 0) {
+    match make_responder(alloc, config, seed, boot) {
         Ok(responder) => Ok(responder),
         Err(fault) => Err(fault_of_responder(fault)),
     }

@@ -1,11 +1,11 @@
-ghost use Rattle.std.specs.Prelude.{◌≡◌, ◌≤◌, [], ℕ, List, Some, IfErr, OnOk};
+ghost use Rattle.std.specs.Prelude.{◌≡◌, ◌≤◌, ◌-◌, ◌^◌, [], ℕ, List, Some, IfErr, OnOk};
 ghost use Rattle.frame_stream.specs.Frames.{stream_limit};
 ghost use Rattle.frame_stream.specs.Frames.Ending.{Done};
 ghost use Rattle.frame_stream.specs.Runs.{IsFresh};
 ghost use Rattle.frame_stream.specs.Standing.{in_front, left_of};
 ghost use Rattle.responder.specs.Standing.{StandsFor};
 ghost use Rattle.responder_machine.specs.Responding.{Responding};
-ghost use Rattle.responder_serve.specs.Served.{IsServed, responder_of, served_kinds};
+ghost use Rattle.responder_serve.specs.Served.{IsServed, responder_in_life, served_kinds};
 ghost use Rattle.responder_serve.specs.Standing.{IsCause, IsKept};
 ghost use Rattle.responder_serve.specs.Told.{IsLate, IsRefusal, IsUnread};
 
@@ -16,8 +16,8 @@ use spdm_basis::{Sink, Source};
 use std::alloc::Global;
 
 /// Serves a stream of frames of which the bytes `before` were read already: reads the frames in order, gives packets
-/// (kind 1) to the responder of this configuration with this seed and lets seconds pass (kind 2), and writes the
-/// packets of each answer as frames of kind 1 before it reads on.
+/// (kind 1) to the responder of this configuration with this seed, in the life of this boot number, and lets seconds
+/// pass (kind 2), and writes the packets of each answer as frames of kind 1 before it reads on.
 ///
 /// After `Ok` the stream was read to its end and all was written. Returns `BadFrame` exactly when a frame has another
 /// kind or is cut by the end of input, and `TooLong` exactly when the stream goes on beyond 2^40 bytes without one; the
@@ -29,16 +29,18 @@ pub fn serve<S: Source, K: Sink>(
     alloc: Global,
     config: &ScriptConfig,
     seed: [u8; 32],
+    boot: u32,
     before: &[u8],
     source: &mut S,
     sink: &mut K,
 ) -> Result<(), ServeFault>
-    ensures served { OnOk result (IsServed (responder_of config.now seed)
+    requires { boot ≤ 2 ^ 24 - 2 }
+    ensures served { OnOk result (IsServed (responder_in_life config.now seed boot)
         (in_front before.now (S.remaining source.old)) (K.contents sink.old)
         (K.contents sink.new) Done) }
     ensures end { OnOk result ((left : List ℕ) → S.remaining source.old ≡ Some left
         → S.remaining source.new ≡ Some []) }
-    ensures fault { IfErr result (IsCause (responder_of config.now seed)
+    ensures fault { IfErr result (IsCause (responder_in_life config.now seed boot)
         (in_front before.now (S.remaining source.old)) (K.contents sink.old) (K.contents sink.new)
         (record {
           read_before = S.faults source.old;
@@ -51,7 +53,7 @@ pub fn serve<S: Source, K: Sink>(
     ensures read_later { S.faults source.old ≤ S.faults source.new }
     ensures written_later { K.faults sink.old ≤ K.faults sink.new }
 {
-    match Server::new(alloc, config, seed, before) {
+    match Server::new(alloc, config, seed, boot, before) {
         Ok(server) => match run(server, source, sink) {
             Ok(()) => Ok(()),
             Err(fault) => Err(fault),

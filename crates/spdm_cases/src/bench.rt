@@ -3,7 +3,7 @@ use crate::case::Case;
 use crate::case_error::CaseError;
 use crate::directive::Directive;
 use crate::hostile::Sweep;
-use crate::told::tell;
+use crate::told::{tell, tell_device};
 use std::fs;
 use std::rt::Files;
 
@@ -31,8 +31,17 @@ impl Bench {
             Directive::Nothing => Ok(()),
             Directive::Case { name, words } => self.begin(rt, name, words),
             Directive::Go => {
-                let (outcome, written) = self.case.run(rt)?;
-                tell(rt, self.case.name.as_str(), outcome, written.as_slice())
+                let ran = self.case.run(rt)?;
+                tell(
+                    rt,
+                    self.case.name.as_str(),
+                    ran.outcome,
+                    ran.written.as_slice(),
+                )?;
+                match self.case.device {
+                    Some(_) => tell_device(rt, &ran.device),
+                    None => Ok(()),
+                }
             }
             Directive::Codes(_) | Directive::Fields { .. } | Directive::Cuts(_) => {
                 self.sweep(rt, directive)
@@ -64,6 +73,7 @@ impl Bench {
             Directive::Text(line) => case.add_line(line),
             Directive::Hex(digits) => case.add(hex::decode(rt.alloc(), digits)?.as_slice()),
             Directive::Seed(digits) => case.add_seed(rt, digits),
+            Directive::Device(digits) => case.set_device(rt, digits),
             Directive::Capture(name) => {
                 let (script, trace) = (read(rt, name, "script")?, read(rt, name, "trace")?);
                 case.add_capture(rt, script.as_str(), trace.as_str())

@@ -1,5 +1,6 @@
 use crate::capture::{configuration_of, packets_of};
 use crate::case_error::CaseError;
+use boot_keeper::{Keeper, MemKeeper};
 use spdm_basis::{MemSeeds, MemSink, MemSource, Sink, Source, StdinSource, StdoutSink};
 use spdm_command::{Outcome, spdm};
 use std::io;
@@ -13,7 +14,19 @@ pub struct Case {
     pub input: Vec<u8>,
     pub packets: Vec<Vec<u8>>,
     pub seeds: Vec<[u8; 32]>,
+    pub device: Option<Device>,
     pub is_slow: bool,
+}
+
+/// What a keeper holds.
+pub type Device = [u8; 18];
+
+/// What a case came to: its outcome, what was written, and what the keeper holds.
+#[derive(Drop)]
+pub struct Ran {
+    pub outcome: Outcome,
+    pub written: Vec<u8>,
+    pub device: Device,
 }
 
 // Gives its bytes one by one.
@@ -42,6 +55,7 @@ impl Case {
             input: Vec::new(rt.alloc()),
             packets: Vec::new(rt.alloc()),
             seeds: Vec::new(rt.alloc()),
+            device: None,
             is_slow: false,
         }
     }
@@ -68,6 +82,18 @@ impl Case {
         Ok(self.seeds.push(seed)?)
     }
 
+    /// What the keeper holds, in hexadecimal.
+    pub fn set_device(&mut self, rt: &impl AllocGlobal, digits: &str) -> Result<(), CaseError> {
+        let mut device = [0; 18];
+        let bytes = hex::decode(rt.alloc(), digits)?;
+        if bytes.len() != device.len() {
+            return Err(CaseError::BadLine);
+        }
+        device.copy_from_slice(bytes.as_slice());
+        self.device = Some(device);
+        Ok(())
+    }
+
     /// The configuration of a script, and the packets of its trace.
     pub fn add_capture(
         &mut self,
@@ -80,16 +106,12 @@ impl Case {
     }
 
     /// What the words come to over the input and the packets, and what they write.
-    pub fn run(&self, rt: &impl AllocGlobal) -> Result<(Outcome, Vec<u8>), CaseError> {
+    pub fn run(&self, rt: &impl AllocGlobal) -> Result<Ran, CaseError> {
         self.run_behind(rt, "")
     }
 
     /// The same with lines behind.
-    pub fn run_behind(
-        &self,
-        rt: &impl AllocGlobal,
-        lines: &str,
-    ) -> Result<(Outcome, Vec<u8>), CaseError> {
+    pub fn run_behind(&self, rt: &impl AllocGlobal, lines: &str) -> Result<Ran, CaseError> {
         let mut input = self.input.clone()?;
         for (place, packet) in self.packets.iter().enumerate() {
             add_packet(rt, place.saturating_add(1), packet.as_slice(), &mut input)?;
@@ -103,13 +125,13 @@ impl Case {
         }
     }
 
-    fn over<S: Source>(
-        &self,
-        rt: &impl AllocGlobal,
-        source: &mut S,
-    ) -> Result<(Outcome, Vec<u8>), CaseError> {
+    fn over<S: Source>(&self, rt: &impl AllocGlobal, source: &mut S) -> Result<Ran, CaseError> {
         let mut sink = MemSink::new(rt.alloc(), OUTPUT_LIMIT, &[])?;
         let mut seeds = MemSeeds::new(rt.alloc(), self.seeds.as_slice(), &[])?;
+        let mut keeper = MemKeeper::new(rt.alloc(), &[])?;
+        keeper
+            .write(0, &self.device.unwrap_or([0; 18]))
+            .map_err(|_| CaseError::Keeper)?;
         let mut left = None;
         let outcome = spdm(
             rt.alloc(),
@@ -118,8 +140,15 @@ impl Case {
             &mut sink,
             &mut seeds,
             &mut left,
+            &mut keeper,
         );
-        Ok((outcome, Vec::from_slice(rt.alloc(), sink.as_slice())?))
+        let mut device = [0; 18];
+        keeper.read(0, &mut device).map_err(|_| CaseError::Keeper)?;
+        Ok(Ran {
+            outcome,
+            written: Vec::from_slice(rt.alloc(), sink.as_slice())?,
+            device,
+        })
     }
 }
 

@@ -12,6 +12,9 @@ pub enum CaseError {
     /// Memory ran out.
     #[error("out of memory")]
     OutOfMemory,
+    /// The keeper in memory failed.
+    #[error("the keeper failed")]
+    Keeper,
     /// A file could not be read, or what came could not be written.
     #[error("{0}")]
     Io(#[from] io::Error),

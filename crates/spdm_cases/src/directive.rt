@@ -14,6 +14,8 @@ pub enum Directive<'a> {
     Hex(&'a str),
     /// `seed DIGITS`: one more seed that may be taken.
     Seed(&'a str),
+    /// `device DIGITS`: the keeper holds these 18 bytes, and what it holds after the case is told.
+    Device(&'a str),
     /// `slowly`: each read gives one byte.
     Slowly,
     /// `capture NAME`: the configuration of a script, and the packets of its trace, are input.
@@ -52,6 +54,7 @@ impl<'a> Directive<'a> {
             "text" => Directive::Text(rest),
             "hex" => Directive::Hex(rest),
             "seed" => Directive::Seed(rest),
+            "device" => Directive::Device(rest),
             "slowly" => Directive::Slowly,
             "capture" => Directive::Capture(rest),
             "go" => Directive::Go,

@@ -24,9 +24,9 @@ impl<'a> Sweep<'a> {
     // Takes the trace of the script with these lines behind.
     fn take(&mut self, rt: &impl AllocGlobal, lines: &str) -> Result<(), CaseError> {
         let behind = format!(in rt.alloc(); "show\n{lines}show\n")?;
-        let (outcome, written) = self.case.run_behind(rt, behind.as_str())?;
-        self.is_done = self.is_done && outcome == Outcome::Done;
-        self.traces.push(written.as_slice());
+        let ran = self.case.run_behind(rt, behind.as_str())?;
+        self.is_done = self.is_done && ran.outcome == Outcome::Done;
+        self.traces.push(ran.written.as_slice());
         Ok(())
     }
 

@@ -39,3 +39,10 @@ pub fn tell(
     }
     Ok(())
 }
+
+/// Tells what a device holds.
+pub fn tell_device(rt: &(impl Print + AllocGlobal), device: &[u8]) -> Result<(), CaseError> {
+    let digits = hex::encode(rt.alloc(), device)?;
+    println!(rt; "    device {digits}")?;
+    Ok(())
+}

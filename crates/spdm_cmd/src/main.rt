@@ -3,13 +3,15 @@
 //! Read first: `main` in `src/main.rt`, what is reported of an outcome.
 #![tactic(auto)]
 
+use boot_keeper::FileKeeper;
 use spdm_basis::{FileSeeds, StdinSource, StdoutSink};
 use spdm_command::{Outcome, spdm};
 use std::process::ExitCode;
 use std::rt::Env;
 use std::{env, io};
 
-/// Runs the command with the words after the program's name, over standard input and output. The name of each outcome
+/// Runs the command with the words after the program's name, over standard input and output; boots are counted in the
+/// file `spdm.boot`. The name of each outcome
 /// but `Done` is printed to standard error, and the status is that of the outcome.
 fn main(rt: HostRuntime) -> ExitCode {
     let outcome = command(&rt);
@@ -28,6 +30,7 @@ fn command(rt: &HostRuntime) -> Outcome {
     let mut sink = StdoutSink::new(rt.stdout());
     let mut seeds = FileSeeds::new(rt);
     let mut left = None;
+    let mut keeper = FileKeeper::new(rt);
     spdm(
         rt.alloc(),
         words.as_slice(),
@@ -35,6 +38,7 @@ fn command(rt: &HostRuntime) -> Outcome {
         &mut sink,
         &mut seeds,
         &mut left,
+        &mut keeper,
     )
 }
 

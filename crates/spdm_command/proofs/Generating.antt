@@ -10,7 +10,6 @@ use Rattle.script_text.specs.declared.texts.script.Script.{Script}
 use Rattle.script_laws.specs.Scripts.{entries_in, full_from, full_line, last_world, set_up}
 use Rattle.spdm_basis.specs.Stream.{Takes, TakesPrefix}
 use Rattle.spdm_command.proofs.GeneratedSound.{generated_sound}
-use Rattle.spdm_command.proofs.NoFault.{all_happened, never_full}
 use Rattle.spdm_command.specs.Answer.{generated_text}
 use Rattle.world_machine.specs.Trace.{world_from}
 use Rattle.world_machine.specs.World.{new_world}
@@ -21,10 +20,14 @@ module _ (seed count : ℕ) (script : Script) (is : script ≡ generated seed co
 
   module _ (events : List Entry) (same : events ≡ script.events) where
     pub last_stands : (seen : program.World) → StandsFor seen (world_from (new_world (set_up script)) (entries_in events)) → StandsFor seen (last_world (generated seed count))
-    last_stands seen stands = subst (λ (s : Script). StandsFor seen (last_world s)) is (all_happened script events seen same stands)
+    last_stands seen stands =
+        subst (λ (s : Script). StandsFor seen (last_world s)) is
+        (subst (λ (l : List Entry). StandsFor seen (world_from (new_world (set_up script)) (entries_in l))) same stands)
 
     pub has_room : full_from (new_world (set_up script)) (entries_in events) ≡ None → full_line (generated seed count) ≡ None
-    has_room none = subst (λ (s : Script). full_line s ≡ None) is (never_full script events same none)
+    has_room none =
+        subst (λ (s : Script). full_line s ≡ None) is
+        (subst (λ (l : List Entry). full_from (new_world (set_up script)) (entries_in l) ≡ None) same none)
 
     pub is_full_at : (line : ℕ) → full_from (new_world (set_up script)) (entries_in events) ≡ Some line → full_line (generated seed count) ≡ Some line
     is_full_at line found =

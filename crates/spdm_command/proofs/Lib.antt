@@ -1,7 +1,5 @@
 pub mod TopCall
 pub mod ToldFaults
-pub mod NoFault
-pub mod Going
 mod GeneratedSound
 mod Generating
 pub mod Judged

@@ -1,7 +1,7 @@
 -- The exit status and the name of each outcome. This project's own.
 use Rattle.std.specs.Prelude.{ℕ, List, codes}
 use Rattle.spdm_command.specs.declared.outcome.Outcome.{Outcome}
-use Rattle.spdm_command.specs.declared.outcome.Outcome.TheVariants.{Done, Usage, Differs, BadFrame, BadScript, ReadFault, WriteFault, OutOfMemory, SeedFault, TooLong, LinkFull}
+use Rattle.spdm_command.specs.declared.outcome.Outcome.TheVariants.{Done, Usage, Differs, BadFrame, BadScript, BootsSpent, KeeperFault, ReadFault, WriteFault, OutOfMemory, SeedFault, TooLong, LinkFull}
 
 abbrev pub status_of : Outcome → ℕ
 status_of Done = 0
@@ -15,6 +15,8 @@ status_of SeedFault = 7
 status_of TooLong = 8
 status_of (LinkFull line) = 9
 status_of (BadFrame at) = 10
+status_of KeeperFault = 11
+status_of BootsSpent = 12
 
 -- The name of the variant, without its fields.
 abbrev pub name_of : Outcome → List ℕ
@@ -29,3 +31,5 @@ name_of SeedFault = codes "SeedFault"
 name_of TooLong = codes "TooLong"
 name_of (LinkFull line) = codes "LinkFull"
 name_of (BadFrame at) = codes "BadFrame"
+name_of KeeperFault = codes "KeeperFault"
+name_of BootsSpent = codes "BootsSpent"

@@ -9,8 +9,8 @@ ghost use Rattle.world_machine.specs.Totals.{totals_of};
 ghost use Rattle.world_machine.specs.World as machine;
 
 use crate::output::TextFault;
-use crate::script_run::{new_world, run_events};
 use link_world::World;
+use script_run::{RunFault, new_world, run_events};
 use script_text::{MOST_GENERATED, generate, line_summary};
 use spdm_basis::{Line, NullSink, OutFault, Sink, write_all};
 use std::alloc::Global;
@@ -49,7 +49,9 @@ pub fn summarize<K: Sink>(
     };
     match run_events(&mut world, script.events.as_slice(), &mut NullSink) {
         Ok(()) => {}
-        Err(fault) => return Err(fault),
+        Err(RunFault::LinkFull(line)) => return Err(TextFault::LinkFull(line)),
+        Err(RunFault::WriteFault) => return Err(TextFault::WriteFault),
+        Err(RunFault::OutOfMemory) => return Err(TextFault::OutOfMemory),
     }
     match write_summary(seed, count, &world, sink) {
         Ok(()) => Ok(world),

@@ -1,5 +1,5 @@
-//! The command `spdm` over any source, sink and seeds: it runs requesters and a responder over a scripted link and
-//! writes their trace, serves streams, and checks captures.
+//! The command `spdm` over any source, sink, seeds and keeper: it runs requesters and a responder over a scripted link
+//! and writes their trace, lets them start again, serves streams, and checks captures.
 //!
 //! Read first: `answer_to` in `specs/Answer.antt`, what the command answers. The call is `spdm`.
 #![tactic(auto)]
@@ -10,7 +10,7 @@ mod outcome;
 mod output;
 mod reading;
 mod run;
-mod script_run;
+mod scripts;
 mod streams;
 mod words;
 

@@ -15,23 +15,27 @@ pub enum Outcome {
     Usage,
     /// This line, counted from 1, is the first invalid one. Nothing was written.
     BadScript { line: u32, fault: LineFault },
-    /// Reading failed. `serve` and `drive` may have written part of the output for the frames read before; any other
+    /// Reading failed. A command on a stream may have written part of the output for the frames read before; any other
     /// command wrote nothing.
     ReadFault,
     /// Writing failed, possibly after part of the output.
     WriteFault,
     /// Out of memory, possibly after part of the output.
     OutOfMemory,
-    /// `serve` or `drive` was given no seed. Nothing was written.
+    /// A command on a stream was given no seed. Nothing was written.
     SeedFault,
-    /// The text is longer than 4 MiB, and nothing was written; or the stream of `serve` or `drive` is longer than 2^40
-    /// bytes, and the output for its frames up to there was written.
+    /// The text is longer than 4 MiB, and nothing was written; or the stream of a command is longer than 2^40 bytes, and
+    /// the output for its frames up to there was written.
     TooLong,
     /// The event on this line sends a packet for which the link has no room. All output before the packet's line was
     /// written.
     LinkFull { line: u32 },
     /// The frame that begins at this byte of the stream is invalid. The output for the frames before it was written.
     BadFrame { at: u64 },
+    /// The keeper of the boot number failed. The seed is gone, and nothing was written.
+    KeeperFault,
+    /// All boot numbers are used up. The seed is gone, and nothing was written.
+    BootsSpent,
 }
 
 impl Outcome {
@@ -53,6 +57,8 @@ impl Outcome {
             Outcome::TooLong => 8,
             Outcome::LinkFull { .. } => 9,
             Outcome::BadFrame { .. } => 10,
+            Outcome::KeeperFault => 11,
+            Outcome::BootsSpent => 12,
         }
     }
 
@@ -72,6 +78,8 @@ impl Outcome {
             Outcome::TooLong => "TooLong",
             Outcome::LinkFull { .. } => "LinkFull",
             Outcome::BadFrame { .. } => "BadFrame",
+            Outcome::KeeperFault => "KeeperFault",
+            Outcome::BootsSpent => "BootsSpent",
         }
     }
 }

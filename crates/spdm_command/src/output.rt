@@ -7,7 +7,7 @@ ghost use Rattle.spdm_command.specs.declared.words.Command.TheVariants.{Text};
 ghost use Rattle.spdm_command.specs.declared.words.TextCommand.TheVariants.{Show};
 
 use crate::generated::summarize;
-use crate::script_run::run;
+use crate::scripts::{live, run};
 use crate::words::TextCommand;
 use link_world::World;
 use script_text::{LineFault, TEXT_LIMIT};
@@ -34,7 +34,8 @@ pub enum TextFault {
     OutOfMemory,
 }
 
-/// Writes the output of a command for a text of at most 4 MiB. A script leaves its final world in `left`.
+/// Writes the output of a command for a text of at most 4 MiB. A script leaves its final world in `left`, and lives that
+/// of the last.
 pub fn write_output<K: Sink>(
     alloc: Global,
     command: TextCommand,
@@ -73,6 +74,13 @@ pub fn write_output<K: Sink>(
                 Ok(())
             }
             Err(fault) => Err(fault),
+        },
+        TextCommand::Lives => match live(alloc, text, sink) {
+            Ok(lived) => {
+                *left = Some(lived);
+                Ok(())
+            }
+            Err(why) => Err(why),
         },
         TextCommand::Show => show_messages(alloc, text, sink),
         TextCommand::Gen { seed, count } => match summarize(alloc, seed, count, sink) {

@@ -30,6 +30,7 @@ pub fn read_text<S: Source>(
 {
     match command {
         TextCommand::Run => read_all(alloc, source, TEXT_LIMIT),
+        TextCommand::Lives => read_all(alloc, source, TEXT_LIMIT),
         TextCommand::Show => read_all(alloc, source, TEXT_LIMIT),
         TextCommand::Gen { .. } => Ok(Bytes::new(alloc)),
     }

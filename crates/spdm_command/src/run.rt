@@ -10,39 +10,44 @@ ghost use Rattle.spdm_basis.specs.Stream.{HasFault, IsQuiet, Takes, TakesPrefix}
 ghost use Rattle.trace_check.specs.Answers.{Finding, HasFinding, IsCapture};
 ghost use Rattle.spdm_command.specs.Answer.{IsLeft, IsReadQuietly, answer_to, bad_line_by, full_by, input_by, is_of_scripts, output_by, ran, reads, runs_script, text_limit, writes_nothing};
 ghost use Rattle.spdm_command.specs.Checks.{IsChecked, IsJudgedExactly, is_judged, is_of_captures, outcome_for};
-ghost use Rattle.spdm_command.specs.Streams.{IsDriven, IsServed, answers_stream, is_of_streams, outcome_of};
+ghost use Rattle.spdm_command.specs.Streams.{IsDriven, IsServed, IsServedKept, answers_stream, asks_keeper, is_of_keepers, is_of_streams, is_unasked, outcome_of, outcome_of_kept};
 ghost use Rattle.spdm_command.specs.Words.{call_of};
-ghost use Rattle.spdm_command.specs.declared.words.Command.TheVariants.{Check, Drive, Serve, Text};
+ghost use Rattle.spdm_command.specs.declared.words.Command.TheVariants.{Check, Drive, Serve, ServeKept, Text};
 ghost use Rattle.spdm_command.specs.declared.words.TextCommand.TheVariants.{Gen};
 ghost use Rattle.stream_commands.specs.InputEnds.{HasEnd, InputEnd, IsStreamToDrive, IsStreamToServe, answer_for};
+ghost use Rattle.stream_commands.specs.Kept as kept;
+ghost use Rattle.stream_commands.specs.Kept.{keeper_state};
 ghost use Rattle.stream_commands.specs.Outside.{outside};
 
 use crate::checks::check_capture;
 use crate::outcome::Outcome;
 use crate::output::{TextFault, write_output};
 use crate::reading::read_text;
-use crate::streams::{drive_stream, serve_stream};
+use crate::streams::{drive_stream, serve_kept_stream, serve_stream};
 use crate::words::{Command, command_of};
+use boot_keeper::Keeper;
 use link_world::World;
 use spdm_basis::{InFault, Seeds, Sink, Source};
 use std::alloc::Global;
 
 /// The command `spdm` with these arguments. `run` reads a script, runs its requesters and its responder over its link,
-/// writes their trace, and leaves the final world in `left`. `show` reads messages, one per line, and writes their
-/// names and lengths. `gen SEED COUNT` runs the script generated from a seed below 2^64 and a count of 1 to 20,000
+/// writes their trace, and leaves the final world in `left`. `lives` does the same with a script in which all ends start
+/// again at each `cycle`. `show` reads messages, one per line, and writes their names and lengths. `gen SEED COUNT` runs the script generated from a seed below 2^64 and a count of 1 to 20,000
 /// events, writes one line of totals in place of the trace, and leaves the final world in `left`. `serve` reads a
 /// configuration up to the line `end`, takes one seed from `seeds`, and answers the frames behind that line as the
-/// configured responder. `drive` does the same with the first configured requester, whose commands are frames too.
-/// `check` reads a capture, and writes whether its endpoints could have produced it. Only `serve` and `drive` use
-/// `seeds`.
+/// configured responder; `serve kept` does so in the life of the next boot of `keeper`, which it asks for behind the
+/// seed. `drive` does the same as `serve` with the first configured requester, whose commands are frames too. `check`
+/// reads a capture, and writes whether its endpoints could have produced it. Only commands on streams use `seeds`, and
+/// only `serve kept` uses `keeper`.
 #[tactic(auto, using(crate::proofs::TopCall::read_is))]
-pub fn spdm<S: Source, K: Sink, E: Seeds>(
+pub fn spdm<S: Source, K: Sink, E: Seeds, P: Keeper>(
     alloc: Global,
     words: &[String],
     source: &mut S,
     sink: &mut K,
     seeds: &mut E,
     left: &mut Option<World>,
+    keeper: &mut P,
 ) -> Outcome
     // Done: the source was read to its end, and the sink holds what it held and then the whole output.
     ensures read_to_end { result ≡ Outcome.Done → (text : List ℕ)
@@ -75,7 +80,7 @@ pub fn spdm<S: Source, K: Sink, E: Seeds>(
         → input_by (call_of words.now) (S.remaining source.old) ≡ Some text
         → full_by (call_of words.now) text ≡ None }
 
-    // What is left stands for the last world of the script; with any other answer it is as before.
+    // What is left stands for the last world of the script, of lives for that of the last; with any other answer it is as before.
     ensures left { result ≡ Outcome.Done → (text : List ℕ)
         → input_by (call_of words.now) (S.remaining source.old) ≡ Some text
         → IsLeft (call_of words.now) text left.old left.new }
@@ -96,6 +101,29 @@ pub fn spdm<S: Source, K: Sink, E: Seeds>(
         → IsQuiet (K.faults sink.old) (K.faults sink.new)
         → IsQuiet (E.faults seeds.old) (E.faults seeds.new)
         → (result ≡ Outcome.OutOfMemory) ⊎ (result ≡ outcome_of (answer_for end)) }
+
+    // The words `serve kept`: likewise the responder in the life of the next boot of the keeper, which no other command
+    // asks for.
+    ensures served_kept { call_of words.now ≡ Some ServeKept → IsServedKept
+        (keeper_state (P.contents keeper.old) (P.faults keeper.old))
+        (keeper_state (P.contents keeper.new) (P.faults keeper.new))
+        (outside (S.remaining source.old) (K.contents sink.old) (E.left seeds.old)
+        (S.faults source.old) (K.faults sink.old) (E.faults seeds.old))
+        (outside (S.remaining source.new) (K.contents sink.new) (E.left seeds.new)
+        (S.faults source.new) (K.faults sink.new) (E.faults seeds.new)) result }
+    ensures served_kept_exactly { call_of words.now ≡ Some ServeKept
+        → (input device : List ℕ) (end : InputEnd) → S.remaining source.old ≡ Some input
+        → P.contents keeper.old ≡ Some device → HasEnd IsStreamToServe input end
+        → IsQuiet (S.faults source.old) (S.faults source.new)
+        → IsQuiet (K.faults sink.old) (K.faults sink.new)
+        → IsQuiet (E.faults seeds.old) (E.faults seeds.new)
+        → IsQuiet (P.faults keeper.old) (P.faults keeper.new)
+        → (result ≡ Outcome.OutOfMemory)
+        ⊎ (result ≡ outcome_of_kept (kept.answer_for device end)) }
+    ensures keeper_alone { asks_keeper (call_of words.now) ≡ false → keeper.new ≡ keeper.old }
+    ensures unasked { is_unasked result ≡ true → keeper.new ≡ keeper.old }
+    ensures of_keepers_alone { is_of_keepers result ≡ true
+        → asks_keeper (call_of words.now) ≡ true }
 
     // The word `drive`: likewise the first requester of the configuration is told and given all whole frames.
     ensures driven { call_of words.now ≡ Some Drive → IsDriven
@@ -209,6 +237,9 @@ pub fn spdm<S: Source, K: Sink, E: Seeds>(
     let command = match command {
         Command::Text(command) => command,
         Command::Serve => return serve_stream(alloc, source, sink, seeds),
+        Command::ServeKept => {
+            return serve_kept_stream(alloc, source, sink, seeds, keeper);
+        }
         Command::Drive => return drive_stream(alloc, source, sink, seeds),
         Command::Check => return check_capture(alloc, source, sink),
     };

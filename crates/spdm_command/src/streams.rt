@@ -1,14 +1,17 @@
-ghost use Rattle.std.specs.Prelude.{◌≡◌, ◌≢◌, ◌⊎◌, ℕ, List, Some, false};
+ghost use Rattle.std.specs.Prelude.{◌≡◌, ◌≢◌, ◌⊎◌, ℕ, List, Some, false, true};
 ghost use Rattle.spdm_basis.specs.Stream.{HasFault, IsQuiet};
 ghost use Rattle.spdm_command.specs.Checks.{is_of_captures};
-ghost use Rattle.spdm_command.specs.Streams.{IsDriven, IsServed, outcome_of};
+ghost use Rattle.spdm_command.specs.Streams.{IsDriven, IsServed, IsServedKept, is_of_keepers, is_unasked, outcome_of, outcome_of_kept};
 ghost use Rattle.stream_commands.specs.InputEnds.{HasEnd, InputEnd, IsStreamToDrive, IsStreamToServe, answer_for};
+ghost use Rattle.stream_commands.specs.Kept as kept;
+ghost use Rattle.stream_commands.specs.Kept.{keeper_state};
 ghost use Rattle.stream_commands.specs.Outside.{outside};
 
 use crate::outcome::Outcome;
+use boot_keeper::{BootFault, Keeper};
 use spdm_basis::{Seeds, Sink, Source};
 use std::alloc::Global;
-use stream_commands::{StreamFault, drive_input, serve_input};
+use stream_commands::{KeptFault, StreamFault, drive_input, serve_input, serve_kept_input};
 
 // Converts the outcome of a stream to the command's.
 fn outcome_of(answer: &Result<(), StreamFault>) -> Outcome
@@ -26,6 +29,18 @@ fn outcome_of(answer: &Result<(), StreamFault>) -> Outcome
         Err(StreamFault::TooLong) => Outcome::TooLong,
         Err(StreamFault::BadFrame { at }) => Outcome::BadFrame { at: *at },
         Err(StreamFault::OutOfMemory) => Outcome::OutOfMemory,
+    }
+}
+
+// The same in the life of a kept boot.
+fn outcome_of_kept(answer: &Result<(), KeptFault>) -> Outcome
+    ensures { result ≡ outcome_of_kept answer.now }
+{
+    match answer {
+        Ok(()) => Outcome::Done,
+        Err(KeptFault::Stream(fault)) => outcome_of(&Err(*fault)),
+        Err(KeptFault::Boot(BootFault::KeeperFault)) => Outcome::KeeperFault,
+        Err(KeptFault::Boot(BootFault::Spent)) => Outcome::BootsSpent,
     }
 }
 
@@ -49,6 +64,7 @@ pub fn serve_stream<S: Source, K: Sink, E: Seeds>(
     ensures no_usage { result ≢ Outcome.Usage }
     ensures no_link { (line : ℕ) → result ≢ Outcome.LinkFull line }
     ensures no_capture { is_of_captures result ≡ false }
+    ensures no_keeper { is_of_keepers result ≡ false }
     ensures read_fault { result ≡ Outcome.ReadFault
         → HasFault (S.faults source.old) (S.faults source.new) }
     ensures write_fault { result ≡ Outcome.WriteFault
@@ -56,6 +72,41 @@ pub fn serve_stream<S: Source, K: Sink, E: Seeds>(
 {
     let answer = serve_input(alloc, source, sink, seeds);
     outcome_of(&answer)
+}
+
+/// The same in the life of the next boot of a keeper, which is asked for behind the seed.
+pub fn serve_kept_stream<S: Source, K: Sink, E: Seeds, P: Keeper>(
+    alloc: Global,
+    source: &mut S,
+    sink: &mut K,
+    seeds: &mut E,
+    keeper: &mut P,
+) -> Outcome
+    ensures served { IsServedKept (keeper_state (P.contents keeper.old) (P.faults keeper.old))
+        (keeper_state (P.contents keeper.new) (P.faults keeper.new))
+        (outside (S.remaining source.old) (K.contents sink.old) (E.left seeds.old)
+        (S.faults source.old) (K.faults sink.old) (E.faults seeds.old))
+        (outside (S.remaining source.new) (K.contents sink.new) (E.left seeds.new)
+        (S.faults source.new) (K.faults sink.new) (E.faults seeds.new)) result }
+    ensures exact { (input device : List ℕ) (end : InputEnd) → S.remaining source.old ≡ Some input
+        → P.contents keeper.old ≡ Some device → HasEnd IsStreamToServe input end
+        → IsQuiet (S.faults source.old) (S.faults source.new)
+        → IsQuiet (K.faults sink.old) (K.faults sink.new)
+        → IsQuiet (E.faults seeds.old) (E.faults seeds.new)
+        → IsQuiet (P.faults keeper.old) (P.faults keeper.new)
+        → (result ≡ Outcome.OutOfMemory)
+        ⊎ (result ≡ outcome_of_kept (kept.answer_for device end)) }
+    ensures unasked { is_unasked result ≡ true → keeper.new ≡ keeper.old }
+    ensures no_usage { result ≢ Outcome.Usage }
+    ensures no_link { (line : ℕ) → result ≢ Outcome.LinkFull line }
+    ensures no_capture { is_of_captures result ≡ false }
+    ensures read_fault { result ≡ Outcome.ReadFault
+        → HasFault (S.faults source.old) (S.faults source.new) }
+    ensures write_fault { result ≡ Outcome.WriteFault
+        → HasFault (K.faults sink.old) (K.faults sink.new) }
+{
+    let answer = serve_kept_input(alloc, source, sink, seeds, keeper);
+    outcome_of_kept(&answer)
 }
 
 /// Reads a configuration up to `end`, takes one seed, and drives the first requester by the frames that follow.
@@ -78,6 +129,7 @@ pub fn drive_stream<S: Source, K: Sink, E: Seeds>(
     ensures no_usage { result ≢ Outcome.Usage }
     ensures no_link { (line : ℕ) → result ≢ Outcome.LinkFull line }
     ensures no_capture { is_of_captures result ≡ false }
+    ensures no_keeper { is_of_keepers result ≡ false }
     ensures read_fault { result ≡ Outcome.ReadFault
         → HasFault (S.faults source.old) (S.faults source.new) }
     ensures write_fault { result ≡ Outcome.WriteFault

@@ -1,5 +1,5 @@
 ghost use Rattle.std.specs.Prelude.{◌≡◌, map, string_bytes, IfSome};
-ghost use Rattle.spdm_command.specs.Words.{IsInRange, command_named, command_of, generator};
+ghost use Rattle.spdm_command.specs.Words.{IsInRange, command_kept, command_named, command_of, generator};
 
 use script_text::{MOST_GENERATED, long_number, number};
 
@@ -10,6 +10,8 @@ pub enum Command {
     Text(TextCommand),
     /// A responder answers a stream of frames.
     Serve,
+    /// A responder answers a stream of frames, in the life of the next boot that a keeper counts.
+    ServeKept,
     /// A requester is driven by a stream of frames.
     Drive,
     /// A capture is read, and its verdict written.
@@ -21,6 +23,8 @@ pub enum Command {
 pub enum TextCommand {
     /// A script is run, and its trace written.
     Run,
+    /// A script in which all ends start again is run, and its trace written.
+    Lives,
     /// Messages are shown, a line for each.
     Show,
     /// The script generated from `seed` and `count`, a number of events, is run, and one line of totals is written in
@@ -35,6 +39,7 @@ pub fn command_of(words: &[String]) -> Option<Command>
 {
     match words {
         [word] => command_named(word.as_str()),
+        [word, kept] => command_kept(word.as_str(), kept.as_str()),
         [word, seed, count] => generator(word.as_str(), seed.as_str(), count.as_str()),
         _ => None,
     }
@@ -48,6 +53,8 @@ fn command_named(word: &str) -> Option<Command>
 {
     if word == "run" {
         Some(Command::Text(TextCommand::Run))
+    } else if word == "lives" {
+        Some(Command::Text(TextCommand::Lives))
     } else if word == "show" {
         Some(Command::Text(TextCommand::Show))
     } else if word == "serve" {
@@ -56,6 +63,19 @@ fn command_named(word: &str) -> Option<Command>
         Some(Command::Drive)
     } else if word == "check" {
         Some(Command::Check)
+    } else {
+        None
+    }
+}
+
+// The command of two words.
+#[tactic(auto, unfolding(crate::specs::Words::command_kept))]
+fn command_kept(word: &str, kept: &str) -> Option<Command>
+    ensures is { result ≡ command_kept word.now kept.now }
+    ensures range { IfSome result (λ command. IsInRange command) }
+{
+    if word == "serve" && kept == "kept" {
+        Some(Command::ServeKept)
     } else {
         None
     }

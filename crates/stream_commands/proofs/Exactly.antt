@@ -18,14 +18,14 @@ use Rattle.stream_commands.specs.Driven.{IsDriven}
 use Rattle.stream_commands.specs.InputEnds.{HasEnd, InputEnd, IsStreamToDrive, IsStreamToServe, answer_for}
 use Rattle.stream_commands.specs.InputEnds.InputEnd.{BadText, InStream, LongText}
 use Rattle.stream_commands.specs.Outside.{IsAnsweredBy, Outside}
-use Rattle.stream_commands.specs.Served.{IsServed}
+use Rattle.stream_commands.specs.Served.{IsServed, IsServedIn}
 use Rattle.stream_commands.specs.declared.fault.StreamFault.{StreamFault}
 use Rattle.stream_commands.specs.declared.fault.StreamFault.TheVariants as fault
 
-no_bad_line : (read : Result ScriptConfig ScriptFault) (c : ScriptConfig) (bad : BadLine) → read ≡ Ok c → bad_line_in read ≡ Some bad → ⊥
+pub no_bad_line : (read : Result ScriptConfig ScriptFault) (c : ScriptConfig) (bad : BadLine) → read ≡ Ok c → bad_line_in read ≡ Some bad → ⊥
 no_bad_line read c bad ok is = none-some bad (sym (ap bad_line_in ok) ∙ is)
 
-short_long : (n m : ℕ) → n ≤ m → m < n → ⊥
+pub short_long : (n m : ℕ) → n ≤ m → m < n → ⊥
 short_long n m le lt = omega (arith, le, lt)
 
 -- What a stream's frames are, and how it ends, by its configuration: a stream ends in one way.
@@ -45,7 +45,7 @@ module _ (Streams : ScriptConfig → List ℕ → List GivenFrame → Ending →
       ap InStream (one is.1.0 (stream_of input) is.1.2.0 other.1.2.0 ending its is.1.2.1 (subst (λ (c : ScriptConfig). Streams c (stream_of input) other.1.2.0 its) same other.1.2.1))
 
 -- no count shows a fault
-not_quiet : {A : Type 0} (before after : ℕ) → IsQuiet before after → HasFault before after → A
+pub not_quiet : {A : Type 0} (before after : ℕ) → IsQuiet before after → HasFault before after → A
 not_quiet before after quiet (inl rose) = absurd (let same = quiet.0 in omega (arith, same, rose))
 not_quiet before after quiet (inr last) = absurd (let low = quiet.1 in omega (arith, low, last))
 
@@ -82,10 +82,14 @@ module _ (Streams : ScriptConfig → List ℕ → List GivenFrame → Ending →
 pub one_ending : (c : ScriptConfig) (stream : List ℕ) (fs gs : List GivenFrame) (e d : Ending) → IsStreamToServe c stream fs e → IsStreamToServe c stream gs d → e ≡ d
 one_ending c stream fs gs e d is other = (stream_is_one served_kinds stream_limit stream fs gs e d is other).1
 
-pub served_end : (before after : Outside) (input : List ℕ) (ending : Ending) → before.left ≡ Some input → IsServed before after ending → HasEnd IsStreamToServe input (InStream ending)
-served_end before after input ending left s =
+-- in whatever life
+pub served_end_in : (boot : ℕ) (before after : Outside) (input : List ℕ) (ending : Ending) → before.left ≡ Some input → IsServedIn boot before after ending → HasEnd IsStreamToServe input (InStream ending)
+served_end_in boot before after input ending left s =
     let configured = s.set_up.configured input left in
     (configured.0, (s.config, configured.1, (s.served.frames, s.served.stream (stream_of input) (ap stream_in left))))
+
+pub served_end : (before after : Outside) (input : List ℕ) (ending : Ending) → before.left ≡ Some input → IsServed before after ending → HasEnd IsStreamToServe input (InStream ending)
+served_end before after input ending left s = served_end_in 0 before after input ending left s
 
 -- ---- A requester.
 

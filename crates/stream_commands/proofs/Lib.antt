@@ -4,3 +4,5 @@ pub mod Begun
 pub mod ServingAnswers
 pub mod DrivingAnswers
 pub mod Exactly
+pub mod KeptAnswers
+pub mod KeptExactly

@@ -4,3 +4,4 @@ pub mod Served
 pub mod Driven
 pub mod InputEnds
 pub mod Told
+pub mod Kept

@@ -11,8 +11,8 @@ use responder_serve::{ServeFault, serve};
 use spdm_basis::{Seeds, Sink, Source};
 use std::alloc::Global;
 
-// Why no stream was served to its end.
-fn fault_of(fault: ServeFault) -> StreamFault
+/// Why no stream was served to its end.
+pub(crate) fn fault_of(fault: ServeFault) -> StreamFault
     requires { IsOfStream fault }
     ensures { IsTold fault result }
 {
@@ -59,6 +59,7 @@ pub fn serve_input<S: Source, K: Sink, E: Seeds>(
         alloc,
         &begun.config,
         begun.seed,
+        0,
         begun.before.as_slice(),
         source,
         sink,

@@ -1,3 +1,4 @@
+use boot_keeper::MemKeeper;
 use spdm_basis::{MemSeeds, MemSink, MemSource, Sink, Source, StdinSource, StdoutSink};
 use spdm_command::{Outcome, spdm};
 use std::io;
@@ -26,12 +27,17 @@ packet 10 010809cc060100010000003700d1f7e8c0c7c58c0a8f577f56da14fedf43dca1cbf47b
 packet 11 010908c40601000100000017003ffb6f0c506002d92c24d4917127d5ccbc952d28c67906
 ";
 
-// Each word with what stands behind the configuration: a negotiation, its requests in frames, its commands and
-// answers in frames, and a capture.
-const INPUTS: [(&str, &[u8]); 4] = [
+// Each command with what stands behind the configuration: a negotiation, one in each of two lives, its requests in frames,
+// its commands and answers in frames, and a capture.
+const INPUTS: [(&str, &[u8]); 6] = [
     (
         "run",
         b"q1 connect\npump 1\npump 1\npump 1\npump 1\npump 1\npump 1\n",
+    ),
+    ("lives", b"q1 connect\npump 6\ncycle\nq1 connect\npump 6\n"),
+    (
+        "serve kept",
+        b"\x01\x09\x00\x01\x08\x09\xc8\x05\x10\x84\x00\x00\x01\x19\x00\x01\x08\x09\xc9\x05\x12\xe1\x00\x00\x00\x00\x00\x00\xc0\x64\x02\x00\x00\x04\x00\x00\x00\x10\x00\x00",
     ),
     (
         "serve",
@@ -44,17 +50,28 @@ const INPUTS: [(&str, &[u8]); 4] = [
     ("check", OPENED),
 ];
 
-// What a word came to over a source and a sink, with one seed. The requests for seeds with these numbers fail.
+// The words of a command.
+fn words_of(rt: &impl AllocGlobal, command: &str) -> Result<Vec<String>, Fail> {
+    let mut words = Vec::new(rt.alloc());
+    for word in command.split(' ') {
+        words.push(String::from_str(rt.alloc(), word)?)?;
+    }
+    Ok(words)
+}
+
+// What a command came to over a source and a sink, with one seed. The requests for seeds with these numbers fail, and so
+// do the calls of the keeper with those.
 fn outcome<S: Source, K: Sink>(
     rt: &impl AllocGlobal,
-    word: &str,
+    command: &str,
     source: &mut S,
     sink: &mut K,
-    failing: &[u64],
+    seeds: &[u64],
+    boots: &[u64],
 ) -> Result<Outcome, Fail> {
-    let mut words = Vec::new(rt.alloc());
-    words.push(String::from_str(rt.alloc(), word)?)?;
-    let mut seeds = MemSeeds::new(rt.alloc(), &[[0; 32]], failing)?;
+    let words = words_of(rt, command)?;
+    let mut seeds = MemSeeds::new(rt.alloc(), &[[0; 32]], seeds)?;
+    let mut keeper = MemKeeper::new(rt.alloc(), boots)?;
     let mut left = None;
     Ok(spdm(
         rt.alloc(),
@@ -63,22 +80,24 @@ fn outcome<S: Source, K: Sink>(
         sink,
         &mut seeds,
         &mut left,
+        &mut keeper,
     ))
 }
 
-// What a word came to behind the configuration, and what it wrote. The calls with these numbers fail.
+// What a command came to behind the configuration, and what it wrote. The calls with these numbers fail.
 fn fails(
     rt: &impl AllocGlobal,
-    (word, behind): (&str, &[u8]),
+    (command, behind): (&str, &[u8]),
     reads: &[u64],
     writes: &[u64],
     seeds: &[u64],
+    boots: &[u64],
 ) -> Result<(Outcome, Vec<u8>), Fail> {
     let mut input = Vec::from_slice(rt.alloc(), CONFIGURATION)?;
     input.extend_from_slice(behind)?;
     let mut source = MemSource::new(rt.alloc(), input.as_slice(), reads)?;
     let mut sink = MemSink::new(rt.alloc(), 4096, writes)?;
-    let outcome = outcome(rt, word, &mut source, &mut sink, seeds)?;
+    let outcome = outcome(rt, command, &mut source, &mut sink, seeds, boots)?;
     Ok((outcome, Vec::from_slice(rt.alloc(), sink.as_slice())?))
 }
 
@@ -90,9 +109,9 @@ fn fails_once(
     call: u64,
 ) -> Result<(Outcome, Vec<u8>), Fail> {
     if is_read {
-        fails(rt, input, &[call], &[], &[])
+        fails(rt, input, &[call], &[], &[], &[])
     } else {
-        fails(rt, input, &[], &[call], &[])
+        fails(rt, input, &[], &[call], &[], &[])
     }
 }
 
@@ -100,7 +119,7 @@ fn fails_once(
 fn expect_prefix(rt: &impl Abort, word: &str, is_read: bool, written: &[u8], whole: &[u8]) {
     assert!(rt; whole.starts_with(written));
     assert!(rt; written.len() < whole.len() || is_read);
-    let is_stream = word == "serve" || word == "drive";
+    let is_stream = word == "serve" || word == "serve kept" || word == "drive";
     assert!(rt; is_stream || !is_read || written.is_empty());
 }
 
@@ -135,7 +154,7 @@ fn expect_faults(
 #[test]
 fn each_call_fails(rt: HostRuntime) -> Result<(), Fail> {
     for input in INPUTS {
-        let (outcome, whole) = fails(&rt, input, &[], &[], &[])?;
+        let (outcome, whole) = fails(&rt, input, &[], &[], &[], &[])?;
         assert_eq!(rt; outcome, Outcome::Done);
         assert!(rt; whole.len() > 16);
         expect_faults(&rt, input, true, whole.as_slice())?;
@@ -146,10 +165,22 @@ fn each_call_fails(rt: HostRuntime) -> Result<(), Fail> {
 
 #[test]
 fn seed_fails(rt: HostRuntime) -> Result<(), Fail> {
-    let [_, serve, drive, _] = INPUTS;
-    for input in [serve, drive] {
-        let (outcome, written) = fails(&rt, input, &[], &[], &[0])?;
+    let [_, _, kept, serve, drive, _] = INPUTS;
+    for input in [kept, serve, drive] {
+        let (outcome, written) = fails(&rt, input, &[], &[], &[0], &[])?;
         assert_eq!(rt; outcome, Outcome::SeedFault);
+        assert!(rt; written.is_empty());
+    }
+    Ok(())
+}
+
+// The keeper is read once, and three writes follow.
+#[test]
+fn keeper_fails(rt: HostRuntime) -> Result<(), Fail> {
+    let [_, _, kept, _, _, _] = INPUTS;
+    for call in 0..4u64 {
+        let (outcome, written) = fails(&rt, kept, &[], &[], &[], &[call])?;
+        assert_eq!(rt; outcome, Outcome::KeeperFault);
         assert!(rt; written.is_empty());
     }
     Ok(())
@@ -213,7 +244,7 @@ impl<'a> Write for FewOut<'a> {
 // What a word writes where calls move bytes by these counts.
 fn moved(
     rt: &(impl AllocGlobal + Abort),
-    (word, behind): (&str, &[u8]),
+    (command, behind): (&str, &[u8]),
     counts: &[usize],
 ) -> Result<Vec<u8>, Fail> {
     let mut input = Vec::from_slice(rt.alloc(), CONFIGURATION)?;
@@ -227,7 +258,7 @@ fn moved(
         held: &mut held,
         counts: Counts { counts, at: 3 },
     });
-    let outcome = outcome(rt, word, &mut source, &mut sink, &[])?;
+    let outcome = outcome(rt, command, &mut source, &mut sink, &[], &[])?;
     assert_eq!(rt; outcome, Outcome::Done);
     drop(sink);
     Ok(held)
@@ -236,7 +267,7 @@ fn moved(
 // That each word writes as much as where all bytes are moved at once.
 fn expect_moved(rt: &(impl AllocGlobal + Abort), counts: &[usize]) -> Result<(), Fail> {
     for input in INPUTS {
-        let (_, whole) = fails(rt, input, &[], &[], &[])?;
+        let (_, whole) = fails(rt, input, &[], &[], &[], &[])?;
         let written = moved(rt, input, counts)?;
         assert_eq!(rt; written.as_slice(), whole.as_slice());
     }

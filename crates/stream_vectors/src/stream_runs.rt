@@ -1,3 +1,4 @@
+use boot_keeper::MemKeeper;
 use spdm_basis::{MemSeeds, MemSink, MemSource};
 use spdm_command::{Outcome, spdm};
 use std::test::Fail;
@@ -17,6 +18,7 @@ pub fn run(
     let mut source = MemSource::new(rt.alloc(), input.as_slice(), &[])?;
     let mut sink = MemSink::new(rt.alloc(), 4096, &[])?;
     let mut seeds = MemSeeds::new(rt.alloc(), seeds, &[])?;
+    let mut keeper = MemKeeper::new(rt.alloc(), &[])?;
     let mut left = None;
     let outcome = spdm(
         rt.alloc(),
@@ -25,6 +27,7 @@ pub fn run(
         &mut sink,
         &mut seeds,
         &mut left,
+        &mut keeper,
     );
     Ok((outcome, Vec::from_slice(rt.alloc(), sink.as_slice())?))
 }

@@ -291,3 +291,27 @@ returns-in-Drive-clause-at_each_packet g c = λ text held. at_packets text
 
 pub returns-in-Check-clause-at_each_packet : goal.returns-in-Check-clause-at_each_packet
 returns-in-Check-clause-at_each_packet g c = λ text held. at_packets text
+
+pub returns-in-ServeKept-clause-agreement : goal.returns-in-ServeKept-clause-agreement
+returns-in-ServeKept-clause-agreement g c = λ text held. (agrees text, shows_alike text)
+
+pub returns-in-ServeKept-clause-data_prefix : goal.returns-in-ServeKept-clause-data_prefix
+returns-in-ServeKept-clause-data_prefix g c = λ text held. delivers text
+
+pub returns-in-ServeKept-clause-matched : goal.returns-in-ServeKept-clause-matched
+returns-in-ServeKept-clause-matched g c = λ text held. matches text
+
+pub returns-in-ServeKept-clause-sealed_once : goal.returns-in-ServeKept-clause-sealed_once
+returns-in-ServeKept-clause-sealed_once g c = λ text held. seals_once text
+
+pub returns-in-ServeKept-clause-refused : goal.returns-in-ServeKept-clause-refused
+returns-in-ServeKept-clause-refused g c = λ text held. refuses text
+
+pub returns-in-ServeKept-clause-completes : goal.returns-in-ServeKept-clause-completes
+returns-in-ServeKept-clause-completes g c = λ text held. completes text
+
+pub returns-in-ServeKept-clause-generated : goal.returns-in-ServeKept-clause-generated
+returns-in-ServeKept-clause-generated g c = λ seed count asked. generated_holds seed count
+
+pub returns-in-ServeKept-clause-at_each_packet : goal.returns-in-ServeKept-clause-at_each_packet
+returns-in-ServeKept-clause-at_each_packet g c = λ text held. at_packets text
