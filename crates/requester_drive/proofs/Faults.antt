@@ -4,7 +4,7 @@ use Rattle.std.specs.Option.{option_map}
 use Rattle.script_ends.specs.Configured.{IsRequesterFault}
 use Rattle.requester.specs.declared.fault.ReqConfigFault.{ReqConfigFault}
 use Rattle.requester.specs.declared.fault.ReqConfigFault.TheVariants as asking
-use Rattle.requester_drive.specs.First.{first_of, first_requester, requester_as}
+use Rattle.requester_drive.specs.First.{first_in_life, first_of, requester_in_life}
 use Rattle.requester_drive.specs.Told.{IsEarly, of_requester}
 use Rattle.requester_machine.specs.Requesting.{Requesting}
 use Rattle.script_text.specs.declared.configuration.config.ReqPart.{ReqPart}
@@ -23,8 +23,8 @@ some_of : (f : ReqPart → Requesting) (qs : List ReqPart) → 0 < length qs →
 some_of f [] some = absurd (omega (arith, some))
 some_of f (q ∷ qs) some = (f q, refl)
 
-pub some_requester : (c : ScriptConfig) (seed : List ℕ) → 0 < length c.requesters → (a : Requesting) × (first_requester c seed ≡ Some a)
-some_requester c seed some = some_of (requester_as c seed) c.requesters some
+pub some_requester : (c : ScriptConfig) (seed : List ℕ) (boot : ℕ) → 0 < length c.requesters → (a : Requesting) × (first_in_life c seed boot ≡ Some a)
+some_requester c seed boot some = some_of (requester_in_life c seed boot) c.requesters some
 
 pub requester_cause : (c : ScriptConfig) (q : ReqPart) (f : ReqConfigFault) → first_of c.requesters ≡ Some q → IsRequesterFault c.responder.eid.number q f → IsEarly c (of_requester f)
 requester_cause c q asking.SameEid first is = record { q = q; first = first; has = is }

@@ -12,11 +12,19 @@ abbrev pub first_of : List ReqPart → Option ReqPart
 first_of [] = None
 first_of (q ∷ others) = Some q
 
--- A requester of a configuration with this seed, in its first life. It was told and given nothing yet.
-abbrev pub requester_as : ScriptConfig → (seed : List ℕ) → ReqPart → Requesting
-requester_as c seed q = new_requesting (requester_end c.responder.eid.number q seed 0)
+-- A requester of a configuration with this seed, in the life of a boot number. It was told and given nothing yet.
+abbrev pub requester_in_life : ScriptConfig → (seed : List ℕ) → (boot : ℕ) → ReqPart → Requesting
+requester_in_life c seed boot q = new_requesting (requester_end c.responder.eid.number q seed boot)
 
--- The first requester of a configuration, if it has one.
+-- The same in its first life.
+abbrev pub requester_as : ScriptConfig → (seed : List ℕ) → ReqPart → Requesting
+requester_as c seed q = requester_in_life c seed 0 q
+
+-- The first requester of a configuration in the life of a boot number, if it has one.
+abbrev pub first_in_life : ScriptConfig → (seed : List ℕ) → (boot : ℕ) → Option Requesting
+first_in_life c seed boot = option_map (requester_in_life c seed boot) (first_of c.requesters)
+
+-- The same in its first life.
 abbrev pub first_requester : ScriptConfig → (seed : List ℕ) → Option Requesting
 first_requester c seed = option_map (requester_as c seed) (first_of c.requesters)
 

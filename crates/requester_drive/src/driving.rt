@@ -1,11 +1,11 @@
-ghost use Rattle.std.specs.Prelude.{◌≡◌, ◌≤◌, ◌<◌, [], ℕ, List, Some, IfErr, OnOk, length};
+ghost use Rattle.std.specs.Prelude.{◌≡◌, ◌≤◌, ◌<◌, ◌-◌, ◌^◌, [], ℕ, List, Some, IfErr, OnOk, length};
 ghost use Rattle.frame_stream.specs.Frames.{stream_limit};
 ghost use Rattle.frame_stream.specs.Frames.Ending.{Done};
 ghost use Rattle.frame_stream.specs.Runs.{IsFresh};
 ghost use Rattle.frame_stream.specs.Standing.{in_front, left_of};
 ghost use Rattle.requester.specs.Standing.{StandsFor};
 ghost use Rattle.requester_drive.specs.Driven.{IsDriven, driven_kinds};
-ghost use Rattle.requester_drive.specs.First.{first_requester};
+ghost use Rattle.requester_drive.specs.First.{first_in_life};
 ghost use Rattle.requester_drive.specs.Standing.{IsCause, IsKept};
 ghost use Rattle.requester_drive.specs.Told.{IsLate, IsRefusal, IsUnread};
 ghost use Rattle.requester_machine.specs.Requesting.{Requesting};
@@ -16,10 +16,11 @@ use script_text::{MOST_BYTES, ScriptConfig};
 use spdm_basis::{Sink, Source};
 use std::alloc::Global;
 
-/// Drives the first requester of this configuration, with this seed, by a stream of frames of which the bytes `before`
-/// were read already: reads the frames in order, gives packets (kind 1) to the requester, whatever endpoint they name,
-/// and tells it the commands in lines (kind 3). Before it reads on it writes what a frame led to: the trace lines of
-/// the requester as frames of kind 4, without their line feeds, and then the packets that it sent as frames of kind 1.
+/// Drives the first requester of this configuration, with this seed, in the life of this boot number, by a stream of
+/// frames of which the bytes `before` were read already: reads the frames in order, gives packets (kind 1) to the
+/// requester, whatever endpoint they name, and tells it the commands in lines (kind 3). Before it reads on it writes
+/// what a frame led to: the trace lines of the requester as frames of kind 4, without their line feeds, and then the
+/// packets that it sent as frames of kind 1.
 ///
 /// After `Ok` the stream was read to its end and all was written. Returns `BadFrame` exactly when a frame has another
 /// kind, is cut by the end of input, or is a line that is no command of requester 1; and `TooLong` exactly when the
@@ -31,17 +32,19 @@ pub fn drive<S: Source, K: Sink>(
     alloc: Global,
     config: &ScriptConfig,
     seed: [u8; 32],
+    boot: u32,
     before: &[u8],
     source: &mut S,
     sink: &mut K,
 ) -> Result<(), DriveFault>
-    requires { 0 < length config.now.requesters }
-    ensures driven { (a : Requesting) → first_requester config.now seed ≡ Some a → OnOk result
+    requires some { 0 < length config.now.requesters }
+    requires boot { boot ≤ 2 ^ 24 - 2 }
+    ensures driven { (a : Requesting) → first_in_life config.now seed boot ≡ Some a → OnOk result
         (IsDriven config.now a (in_front before.now (S.remaining source.old))
         (K.contents sink.old) (K.contents sink.new) Done) }
     ensures end { OnOk result ((left : List ℕ) → S.remaining source.old ≡ Some left
         → S.remaining source.new ≡ Some []) }
-    ensures fault { (a : Requesting) → first_requester config.now seed ≡ Some a → IfErr result
+    ensures fault { (a : Requesting) → first_in_life config.now seed boot ≡ Some a → IfErr result
         (IsCause config.now a (in_front before.now (S.remaining source.old))
         (K.contents sink.old) (K.contents sink.new) (record {
           read_before = S.faults source.old;
@@ -54,7 +57,7 @@ pub fn drive<S: Source, K: Sink>(
     ensures read_later { S.faults source.old ≤ S.faults source.new }
     ensures written_later { K.faults sink.old ≤ K.faults sink.new }
 {
-    match Driver::new(alloc, config, seed, before) {
+    match Driver::new(alloc, config, seed, boot, before) {
         Ok(driver) => match run(driver, config, source, sink) {
             Ok(()) => Ok(()),
             Err(fault) => Err(fault),

@@ -38,27 +38,30 @@ fn fault_of(fault: FrameFault) -> DriveFault
 }
 
 impl Driver {
-    ghost use Rattle.std.specs.Prelude.{◌≡◌, ◌≤◌, ◌<◌, Some, IfErr, IfOk, OnErr, length};
+    ghost use Rattle.std.specs.Prelude.{◌≡◌, ◌≤◌, ◌<◌, ◌-◌, ◌^◌, Some, IfErr, IfOk, OnErr, length};
     ghost use Rattle.requester_core.specs.Joined.{command_of};
     ghost use Rattle.frame_stream.specs.Frames.{stream_limit};
     ghost use Rattle.frame_stream.specs.Standing.{IsNew, beginning_of, content_in};
     ghost use Rattle.requester.specs.Standing.{StandsFor};
     ghost use Rattle.requester_drive.specs.Driven.{driven_by_command, driven_by_packet, driven_kinds};
-    ghost use Rattle.requester_drive.specs.First.{first_requester};
+    ghost use Rattle.requester_drive.specs.First.{first_in_life};
     ghost use Rattle.requester_drive.specs.Standing.{IsDrivenBy, IsKept, IsObeyed, IsStep, IsStepFault};
     ghost use Rattle.requester_drive.specs.Told.{IsEarly};
     ghost use Rattle.requester_machine.specs.Requesting.{Requesting, requester_given, requester_told};
     ghost use Rattle.spdm_basis.specs.Stream.{HasFault};
 
-    // The first requester of a configuration with this seed, and its stream, of which some bytes were read already.
+    // The first requester of a configuration with this seed, in the life of this boot number, and its stream, of which
+    // some bytes were read already.
     pub(crate) fn new(
         alloc: Global,
         config: &ScriptConfig,
         seed: [u8; 32],
+        boot: u32,
         before: &[u8],
     ) -> Result<Driver, DriveFault>
-        requires { 0 < length config.now.requesters }
-        ensures stands { (a : Requesting) → first_requester config.now seed ≡ Some a → IfOk result
+        requires some { 0 < length config.now.requesters }
+        requires boot { boot ≤ 2 ^ 24 - 2 }
+        ensures stands { (a : Requesting) → first_in_life config.now seed boot ≡ Some a → IfOk result
             (λ driver. StandsFor driver.requester a) }
         ensures reader { IfOk result
             (λ driver. IsNew driven_kinds stream_limit before.now driver.reader) }
@@ -70,7 +73,7 @@ impl Driver {
         let Ok(out) = PacketList::new(alloc) else {
             return Err(DriveFault::OutOfMemory);
         };
-        match first_requester(alloc, config, seed) {
+        match first_requester(alloc, config, seed, boot) {
             Ok(requester) => Ok(Driver {
                 requester,
                 reader,

@@ -59,6 +59,7 @@ pub fn drive_input<S: Source, K: Sink, E: Seeds>(
         alloc,
         &begun.config,
         begun.seed,
+        0,
         begun.before.as_slice(),
         source,
         sink,

@@ -9,4 +9,6 @@ mod carried;
 #[cfg(test)]
 mod failing_calls;
 #[cfg(test)]
+mod left;
+#[cfg(test)]
 mod stream_runs;

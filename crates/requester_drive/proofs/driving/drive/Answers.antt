@@ -7,7 +7,7 @@ use Rattle.requester_drive.proofs.driving.drive.Goals as goal
 
 pub run-requires-clause-kept : goal.run-requires-clause-kept
 run-requires-clause-kept g c =
-    let own = some_requester c.args.config.now c.args.seed c.requires in
+    let own = some_requester c.args.config.now c.args.seed c.args.boot c.requires.some in
     (own.0, c.in-Ok.ensures.stands own.0 own.1)
 
 pub returns-in-Err-run-clause-fault : goal.returns-in-Err-run-clause-fault
