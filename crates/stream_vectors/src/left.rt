@@ -1,3 +1,4 @@
+use boot_keeper::MemKeeper;
 use key_schedule::HandshakeKeys;
 use link_world::World;
 use spdm_basis::{AeadAlg, Eid, HashAlg, HashBytes, MemSeeds, MemSink, MemSource, Psk};
@@ -73,6 +74,7 @@ impl Left {
         let mut source = MemSource::new(rt.alloc(), script.as_slice(), &[])?;
         let mut sink = MemSink::new(rt.alloc(), 8192, &[])?;
         let mut seeds = MemSeeds::new(rt.alloc(), &[], &[])?;
+        let mut keeper = MemKeeper::new(rt.alloc(), &[])?;
         let mut left = None;
         let outcome = spdm(
             rt.alloc(),
@@ -81,6 +83,7 @@ impl Left {
             &mut sink,
             &mut seeds,
             &mut left,
+            &mut keeper,
         );
         assert_eq!(rt; outcome, Outcome::Done);
         let packets = packets_in(rt, sink.as_slice())?;
