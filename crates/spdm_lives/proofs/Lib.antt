@@ -11,3 +11,5 @@ pub mod PastLives
 pub mod OldAndNew
 pub mod QuietMarks
 pub mod LifeHolds
+pub mod LivesHold
+pub mod Example
