@@ -2,12 +2,12 @@
 use Rattle.std.proofs.Common.{◌≡◌, ℕ, zero, suc, ◌==◌, List, [], ◌∷◌, ◌++◌, length, Bool, true, false, cond, nat_lt, slice_index, find, Option, Some, None, refl, sym, ap, ◌∙◌, append_assoc}
 use Rattle.requester_machine.specs.Message.{Command}
 use Rattle.requester_machine.specs.Requesting.{Requesting, requester_told, requester_given}
-use Rattle.responder_machine.specs.Responding.{responder_hears, connection_of}
+use Rattle.responder_machine.specs.Responding.{responder_hears}
 use Rattle.spdm_machine.specs.TagLog.{Log}
 use Rattle.world_machine.specs.Happenings.{Happening, Entry}
 use Rattle.world_machine.specs.Happenings.Happening.{Told, Reply, Deliver, Lose, Inject, Pump, Tick, Show}
 use Rattle.world_machine.specs.Trace.{world_from}
-use Rattle.world_machine.specs.World.{World, WorldStep, told, given, given_to, given_to_responder, delivers, loses, without_waiting, packet_of, turn, pumps, first_waiting, replied, requester_of, requester_at, is_at, happens, entry_step, with_requester, with_sent}
+use Rattle.world_machine.specs.World.{World, WorldStep, told, given, given_to, given_to_responder, delivers, loses, without_waiting, packet_of, turn, pumps, first_waiting, replied, requester_of, is_at, happens, entry_step, with_requester, with_sent}
 
 -- A world with older tags behind those of its log.
 abbrev pub behind : Log → World → World

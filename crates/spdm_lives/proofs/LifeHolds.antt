@@ -1,5 +1,5 @@
 -- What holds of one life that is behind others, where nothing agrees by chance over all of them.
-use Rattle.std.proofs.Common.{◌≡◌, ◌⊎◌, ℕ, List, [], ◌∷◌, ◌++◌, append-nil, Bool, true, false, refl, sym, ap, ◌∙◌, subst, inl, inr, true≢false}
+use Rattle.std.proofs.Common.{◌≡◌, ℕ, List, [], ◌∷◌, ◌++◌, append-nil, true, refl, sym, ap, ◌∙◌, subst, inl, inr, true≢false}
 use Rattle.key_schedule.specs.Purpose.{Purpose, Kind, verify}
 use Rattle.key_schedule.specs.Purpose.Kind.{Verify, HandshakeRecord, ApplicationRecord}
 use Rattle.key_schedule.specs.declared.direction.Direction.{Direction}
@@ -11,7 +11,7 @@ use Rattle.spdm_agreement.proofs.Delivery.AtResponder as taken_there
 use Rattle.spdm_agreement.proofs.Delivery.Data.{answered_data, asked_data, data_prefix, taken_data}
 use Rattle.spdm_agreement.proofs.Delivery.SealedAtRequester as sealed_here
 use Rattle.spdm_agreement.proofs.Delivery.TakenAtRequester as heard_here
-use Rattle.spdm_agreement.proofs.Messages.Beginnings.{reading_of, transcript_of}
+use Rattle.spdm_agreement.proofs.Messages.Beginnings.{reading_of}
 use Rattle.spdm_agreement.proofs.Moves.Invariant.{IsBackedAs}
 use Rattle.spdm_agreement.proofs.Moves.Runs.{holds}
 use Rattle.spdm_agreement.proofs.Requester.AfterBody as bodies
@@ -24,9 +24,8 @@ use Rattle.spdm_agreement.proofs.Worlds.Behind.{asked_behind, served_behind, fin
 use Rattle.spdm_agreement.proofs.Worlds.Fits.{IsPair}
 use Rattle.spdm_agreement.proofs.Worlds.Pairs.{state_of}
 use Rattle.spdm_agreement.specs.Claims.{in_order}
-use Rattle.spdm_agreement.specs.Marks.{Asked, Served, Exchange, Text, IsOpened, HasBegun, HasFinished, HasOpened, heard, requests, taken}
-use Rattle.spdm_agreement.specs.Moves.{IsPassed}
-use Rattle.spdm_agreement.specs.Reading.{First, Reading}
+use Rattle.spdm_agreement.specs.Marks.{Served, Exchange, Text, IsOpened, HasFinished, HasOpened, heard, requests, taken}
+use Rattle.spdm_agreement.specs.Reading.{First}
 use Rattle.spdm_agreement.specs.Story.{Past, no_past, asked_first, asked_from, asked_marks, served_from, served_marks}
 use Rattle.spdm_agreement.specs.Worlds.{HoldsTogether}
 use Rattle.spdm_lives.proofs.Checks.{IsAskedAs, IsServedAs}
@@ -39,10 +38,10 @@ use Rattle.spdm_lives.proofs.RequesterSessions.{opened_accepted}
 use Rattle.spdm_lives.proofs.ResponderSessions.{finished_began}
 use Rattle.spdm_lives.specs.Fresh.{NothingOld, NoOldSession, must_be_new}
 use Rattle.spdm_lives.specs.Lives.{Life, joined_log, world_of}
-use Rattle.spdm_machine.proofs.Members.{IsIn, in_contained}
+use Rattle.spdm_machine.proofs.Members.{in_contained}
 use Rattle.spdm_machine.specs.TagLog.{Log}
 use Rattle.spdm_machine.specs.TagLog.Act.{Made, Checked}
-use Rattle.world_machine.specs.Agreement.{Agreement, ArePair, DataPrefix, HashesAgree, IsMade, IsPrefixOf, Matched, SealedOnce, holds as held_open}
+use Rattle.world_machine.specs.Agreement.{Agreement, ArePair, DataPrefix, HashesAgree, IsMade, IsPrefixOf, Matched, SealedOnce}
 use Rattle.world_machine.specs.World.{World}
 
 -- A tag that was made is among more of them.

@@ -1,6 +1,6 @@
 -- What every event of a life keeps, whatever agrees by chance: the ends stay apart and as they were set up, each draw is one
 -- of the life, and each tag that was compared belongs to a session of this life.
-use Rattle.std.proofs.Common.{◌≡◌, ◌≢◌, ◌⊎◌, ℕ, ◌≤◌, ◌<◌, ◌+◌, ◌^◌, ◌==◌, List, [], ◌∷◌, ◌++◌, length, Bool, true, false, cond, map, refl, sym, ap, ◌∙◌, subst, inl, inr, arith, eqb-true, eq-eqb, true≢false, append_assoc}
+use Rattle.std.proofs.Common.{◌≡◌, ◌⊎◌, ℕ, ◌≤◌, ◌==◌, List, [], ◌++◌, length, Bool, true, false, cond, refl, sym, ap, ◌∙◌, subst, inl, inr, eqb-true, eq-eqb}
 use Rattle.key_schedule.specs.Purpose.{Purpose}
 use Rattle.requester_machine.specs.Asking as asking
 use Rattle.requester_machine.specs.Does as asks
@@ -23,12 +23,11 @@ use Rattle.spdm_agreement.proofs.Worlds.RequesterChanges.{renewed, origin, still
 use Rattle.spdm_agreement.proofs.Worlds.ResponderChanges as responder_changes
 use Rattle.spdm_agreement.specs.Configured.{IsRequester, IsResponder, HasDraws}
 use Rattle.spdm_agreement.specs.Marks.{Asked, Served}
-use Rattle.spdm_agreement.specs.Moves.{IsPassed}
 use Rattle.spdm_agreement.specs.Story.{asked_marks, served_marks, command_marks, clear_marks, taken_marks, began_marks, record_marks}
 use Rattle.spdm_lives.proofs.Checks.{AllFor, IsAsked, IsServed, asked_later, served_later, passed_in}
 use Rattle.spdm_lives.proofs.RequesterDraws as requester_draws
 use Rattle.spdm_lives.proofs.ResponderDraws as responder_draws
-use Rattle.spdm_machine.proofs.Members.{IsIn, in_map, map_in}
+use Rattle.spdm_machine.proofs.Members.{IsIn, map_in}
 use Rattle.spdm_machine.specs.Packets.{wear_limit}
 use Rattle.spdm_machine.specs.TagLog.{Log}
 use Rattle.world_machine.specs.Setup.{WorldSetup}
@@ -173,11 +172,14 @@ module _ (w : WorldSetup) (world : World) (k : IsLife w world) (c : Connection) 
 
   given_from : (x : Connection) → IsIn cs x → (b : Connection) × IsIn world.responder.connections b × (((b ≡ c) × (x ≡ changed change c)) ⊎ (x ≡ b))
   given_from x m =
-      let o = connection_origin c.setup.peer change world.responder.connections x m in
-      (o.old, o.is, elim o.same [
-        | inl e ↦ (let own = same_connection world.responder.connections k.apart.peers o.old c o.is is e.0 in inl (own, e.1 ∙ ap (changed change) own))
-        | inr e ↦ inr e.1
-      ])
+      let o = connection_origin c.setup.peer change world.responder.connections x m in (
+        o.old,
+        o.is,
+        elim o.same [
+          | inl e ↦ (let own = same_connection world.responder.connections k.apart.peers o.old c o.is is e.0 in inl (own, e.1 ∙ ap (changed change) own))
+          | inr e ↦ inr e.1
+        ],
+      )
 
   given_place : (b : Connection) → IsIn world.responder.connections b → (x : Connection) × IsIn cs x × (((b ≡ c) × (x ≡ changed change c)) ⊎ (x ≡ b))
   given_place b m = (changed_if c.setup.peer change b, map_in (changed_if c.setup.peer change) world.responder.connections b m, go (b.setup.peer == c.setup.peer) refl)

@@ -1,5 +1,5 @@
 -- Each event of a life keeps what is kept of it, and so all events do.
-use Rattle.std.proofs.Common.{◌≡◌, ◌⊎◌, ℕ, zero, suc, ◌≤◌, ◌<◌, ◌+◌, ◌^◌, ◌==◌, ◌||◌, List, [], ◌∷◌, ◌++◌, length, drop, Bool, true, false, cond, not, map, find, nat_le, nat_lt, slice_index, Option, Some, None, Result, Ok, Err, refl, sym, ap, ◌∙◌, subst, inl, inr, arith, eqb-true}
+use Rattle.std.proofs.Common.{◌≡◌, ℕ, zero, suc, ◌≤◌, ◌<◌, ◌+◌, ◌==◌, ◌||◌, List, [], ◌∷◌, ◌++◌, length, drop, Bool, true, false, cond, not, map, find, nat_le, nat_lt, slice_index, Option, Some, None, Result, Ok, Err, refl, sym, ap, ◌∙◌, subst, inl, inr, arith, eqb-true}
 use Rattle.std.proofs.lemmas.Bool.{leb-false}
 use Rattle.mctp_framing.specs.Cutting.{RouteFields}
 use Rattle.mctp_framing.specs.Gathering.{Gathered}
@@ -42,20 +42,19 @@ use Rattle.responder_machine.specs.Responding as responding
 use Rattle.responder_machine.specs.Responding.{Connection, Responding, RspStep, connection_of, changed, with_history, all_draws, new_connection, responder_hears, ignores, answers, with_taken, reply_fault_of, queues, ticks}
 use Rattle.responder_machine.specs.Setup.{RspSetup, Known, towards}
 use Rattle.spdm_agreement.proofs.Requester.Entries.{told_draw, no_command_heard}
-use Rattle.spdm_agreement.proofs.Worlds.EndSteps.{IsDraw}
-use Rattle.spdm_agreement.proofs.Worlds.Happens.{good_draw, below}
+use Rattle.spdm_agreement.proofs.Worlds.Happens.{good_draw}
 use Rattle.spdm_agreement.proofs.Worlds.RequesterChanges.{renewed}
 use Rattle.spdm_agreement.specs.Story.{asked_marks, served_marks}
 use Rattle.spdm_basis.specs.declared.PacketFault.{PacketFault}
 use Rattle.key_schedule.specs.Purpose.{Purpose}
 use Rattle.spdm_agreement.specs.Marks.{Asked, Served}
 use Rattle.spdm_lives.proofs.Checks.{AllFor, IsAsked, IsServed, asked_later, served_later, asked_checks, served_checks}
-use Rattle.spdm_lives.proofs.LifeKept.{IsHere, IsLife, IsAsking, IsServing, Asks, Serves, asked_grow, served_grow, requester_life, responder_life}
+use Rattle.spdm_lives.proofs.LifeKept.{IsHere, IsLife, IsAsking, IsServing, Asks, asked_grow, served_grow, requester_life, responder_life}
 use Rattle.spdm_lives.proofs.RequesterDraws as requester_draws
 use Rattle.spdm_lives.proofs.RequesterDraws.{IsOfLife}
 use Rattle.spdm_lives.proofs.ResponderDraws as responder_draws
 use Rattle.spdm_machine.proofs.Members.{IsIn, all_in, found_in, in_map, map_in}
-use Rattle.spdm_machine.specs.Keys.{Draw, draw_of}
+use Rattle.spdm_machine.specs.Keys.{Draw}
 use Rattle.spdm_machine.specs.Packets.{gathered_from, body_type, wear_limit}
 use Rattle.spdm_machine.specs.TagLog.{Log}
 use Rattle.world_machine.specs.Setup.{WorldSetup}

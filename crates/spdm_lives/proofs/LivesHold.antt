@@ -1,12 +1,12 @@
 -- All that is said of lives, of those of scripts and texts too.
-use Rattle.std.proofs.Common.{◌≡◌, ◌≤◌, ◌<◌, ◌+◌, ◌*◌, ◌^◌, ℕ, List, [], ◌∷◌, length, map, refl, arith}
+use Rattle.std.proofs.Common.{◌≤◌, ◌<◌, ◌+◌, ℕ, List, [], ◌∷◌, length, refl, arith}
 use Rattle.requester_machine.specs.Setup.{ReqSetup}
 use Rattle.spdm_agreement.proofs.Worlds.Scripts.{scripts_are_configured}
 use Rattle.spdm_agreement.specs.Configured.{IsConfiguration, boot_most}
 use Rattle.spdm_lives.proofs.LifeHolds.{holds_together, nothing_old, no_old_session, seals_once}
 use Rattle.spdm_lives.proofs.PastLives.{always_good}
 use Rattle.spdm_lives.proofs.TranscriptsApart.{apart_from_all, configured, is_last, lives_before, no_transcript_twice}
-use Rattle.spdm_lives.specs.Laws.{HoldsInLife, HoldOverLives, LivesHold, ScriptLivesHold, TextLivesHold, TextTranscriptsApart}
+use Rattle.spdm_lives.specs.Laws.{HoldsInLife, LivesHold, ScriptLivesHold, TextLivesHold, TextTranscriptsApart}
 use Rattle.spdm_lives.specs.Lives.{Life, Booted, AreLives, BootsRise, GoesOn, InEachLife, IsBehind, RequestersGoOn, booted_from, joined_log, script_lives, text_lives, world_of}
 use Rattle.world_machine.proofs.Logs.{no_chance_before}
 use Rattle.world_machine.specs.Agreement.{SealedOnce}

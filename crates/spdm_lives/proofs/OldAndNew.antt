@@ -1,38 +1,26 @@
 -- What the two ends of a pair did in a life, and what they did in the lives before it, are of different sessions.
-use Rattle.std.proofs.Common.{◌≡◌, ◌⊎◌, ℕ, ◌≤◌, ◌<◌, ◌+◌, List, [], ◌∷◌, ◌++◌, Bool, true, false, cond, Some, None, Option, refl, sym, ap, ◌∙◌, subst, inl, inr, arith, bytes_eq}
-use Rattle.std.proofs.lemmas.Slice.Eq.{bytes_eq-Decides}
-use Rattle.requester_machine.specs.Does as asks
-use Rattle.requester_machine.specs.History as asked
-use Rattle.requester_machine.specs.History.Entry.{Told, TookClear, TookRecord}
+use Rattle.std.proofs.Common.{◌≡◌, ℕ, ◌≤◌, ◌<◌, List, ◌++◌, sym, ap, ◌∙◌, subst, arith}
 use Rattle.requester_machine.specs.Requesting.{Requesting}
-use Rattle.requester_machine.specs.Session as requester
-use Rattle.requester_machine.specs.Setup.{ReqSetup, ReqEnd}
+use Rattle.requester_machine.specs.Setup.{ReqSetup}
 use Rattle.responder_machine.specs.Responding.{Connection}
-use Rattle.responder_machine.specs.Session as responder
-use Rattle.responder_machine.specs.Setup.{RspSetup, Known, towards}
-use Rattle.spdm_agreement.proofs.Messages.Beginnings.{reading_of, transcript_of, transcript_tells}
+use Rattle.responder_machine.specs.Setup.{RspSetup, towards}
+use Rattle.spdm_agreement.proofs.Messages.Beginnings.{reading_of, transcript_of}
 use Rattle.spdm_agreement.proofs.Moves.Invariant.{Invariant}
 use Rattle.spdm_agreement.proofs.Moves.Runs.{holds, same_opened, same_finished, one_beginning}
-use Rattle.spdm_agreement.proofs.Requester.Whole as asks_kept
-use Rattle.spdm_agreement.proofs.Responder.DataAnswered as serves_kept
-use Rattle.spdm_agreement.proofs.Worlds.Behind.{asked_behind, served_behind, accepted_new, accepted_old, opened_new, opened_old, begun_new, begun_old, served_new, served_old}
+use Rattle.spdm_agreement.proofs.Worlds.Behind.{asked_behind, served_behind, accepted_new, opened_new, opened_old, begun_new, served_new, served_old}
 use Rattle.spdm_agreement.proofs.Worlds.Fits.{IsPair, same_key}
 use Rattle.spdm_agreement.proofs.Worlds.Pairs.{OpensNew, state_of}
-use Rattle.spdm_agreement.proofs.Worlds.Starts.{MayBegin}
 use Rattle.spdm_agreement.specs.Marks.{Asked, Served, IsAccepted, IsOpened, HasBegun, HasOpened, next_asked, next_served}
-use Rattle.spdm_agreement.specs.Moves.{State}
 use Rattle.spdm_agreement.specs.Reading.{First, Reading}
-use Rattle.spdm_agreement.specs.Story.{Past, asked_marks, served_marks, asked_from, served_from}
+use Rattle.spdm_agreement.specs.Story.{Past, asked_marks, served_marks, asked_from}
 use Rattle.spdm_lives.proofs.LifeKept.{IsLife}
 use Rattle.spdm_lives.proofs.LifeSteps.{always}
-use Rattle.spdm_lives.proofs.PastLives.{IsGood, framed, past_of, log_is}
+use Rattle.spdm_lives.proofs.PastLives.{IsGood, framed, past_of}
 use Rattle.spdm_lives.proofs.RequesterDraws.{accepted_within}
 use Rattle.spdm_lives.proofs.RequesterSessions.{opened_accepted}
 use Rattle.spdm_lives.proofs.ResponderDraws.{begun_within}
 use Rattle.spdm_lives.proofs.ResponderSessions.{finished_began, opened_finished}
-use Rattle.spdm_lives.specs.Lives.{Life, joined_log, world_of}
-use Rattle.spdm_machine.proofs.Members.{IsIn}
-use Rattle.spdm_machine.specs.TagLog.{Log}
+use Rattle.spdm_lives.specs.Lives.{Life, world_of}
 
 module _ (life : Life) (earlier : List Life) (k : IsGood life earlier) (a : Requesting) (c : Connection) (pair : IsPair (world_of life).requesters (world_of life).responder.connections a c) where
   abbrev prior : Past

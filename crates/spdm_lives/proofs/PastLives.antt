@@ -1,7 +1,6 @@
 -- From where the ends of a life go on: the marks and tags of all lives before it.
-use Rattle.std.proofs.Common.{◌≡◌, ℕ, ◌≤◌, ◌+◌, ◌==◌, List, [], ◌∷◌, ◌++◌, map, find, length, Bool, true, false, cond, Option, Some, None, refl, sym, ap, ◌∙◌, subst, inl, inr, arith, eqb-true, eq-eqb, true≢false}
+use Rattle.std.proofs.Common.{◌≡◌, ℕ, ◌≤◌, ◌+◌, ◌==◌, List, [], ◌∷◌, map, find, Bool, true, false, cond, Option, Some, None, refl, sym, ap, ◌∙◌, subst, inl, inr, arith, eqb-true, eq-eqb, true≢false}
 use Rattle.key_schedule.specs.Purpose.{Purpose}
-use Rattle.requester_machine.specs.History as asked
 use Rattle.requester_machine.specs.Requesting.{Requesting}
 use Rattle.requester_machine.specs.Setup.{ReqSetup, ReqEnd}
 use Rattle.responder_machine.proofs.Connected.{same_connection}

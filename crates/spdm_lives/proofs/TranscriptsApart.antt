@@ -1,30 +1,24 @@
 -- The sessions of one end in two lives have different T1, since their contexts hold draws of different lives.
-use Rattle.std.proofs.Common.{◌≡◌, ℕ, ◌≤◌, ◌<◌, ◌+◌, List, [], ◌∷◌, drop, map, refl, sym, ap, ◌∙◌, subst, inl, inr, arith}
+use Rattle.std.proofs.Common.{◌≡◌, ℕ, ◌≤◌, ◌+◌, List, [], ◌∷◌, drop, refl, sym, ap, ◌∙◌, inl, inr, arith}
 use Rattle.requester_machine.specs.Requesting.{Requesting, new_requesting}
 use Rattle.requester_machine.specs.Setup.{ReqSetup, ReqEnd}
-use Rattle.responder_machine.specs.Responding.{Connection}
-use Rattle.responder_machine.specs.Setup.{RspPart}
-use Rattle.running_hash.specs.Hash.{hash_of}
-use Rattle.spdm_agreement.proofs.Messages.Beginnings.{IsSound, context_number, first_hash, front_draw, parts_told, sound, summary_size, transcript_of}
+use Rattle.spdm_agreement.proofs.Messages.Beginnings.{context_number, first_hash, front_draw, parts_told, sound, summary_size}
 use Rattle.spdm_agreement.proofs.Worlds.Starts.{new_apart}
 use Rattle.spdm_agreement.specs.Configured.{IsConfigured}
 use Rattle.spdm_agreement.specs.Reading.{First}
 use Rattle.spdm_grammar.specs.Requests.{request_in}
 use Rattle.spdm_lives.proofs.LifeKept.{IsLife}
 use Rattle.spdm_lives.proofs.LifeSteps.{always}
-use Rattle.spdm_lives.proofs.RequesterDraws as asked
 use Rattle.spdm_lives.proofs.RequesterDraws.{accepted_within, draw_in, has_accepted}
-use Rattle.spdm_lives.proofs.ResponderDraws as served
 use Rattle.spdm_lives.proofs.ResponderDraws.{begun_within, has_begun}
 use Rattle.spdm_lives.specs.Apart.{AreApart, BegunApart, AcceptedApart, IsApart}
 use Rattle.spdm_lives.specs.Laws.{NoTranscriptTwice}
-use Rattle.spdm_lives.specs.Lives.{Life, AreLives, GoesOn, RequestersGoOn, InEachLife, world_of}
+use Rattle.spdm_lives.specs.Lives.{Life, AreLives, GoesOn, RequestersGoOn, world_of}
 use Rattle.spdm_machine.proofs.Members.{IsIn, in_contained, map_in}
 use Rattle.spdm_machine.specs.Packets.{wear_limit}
 use Rattle.spdm_machine.specs.Terms.{terms_of, hash_len}
 use Rattle.transcript.specs.Transcripts.{Negotiation, without_verify}
 use Rattle.world_machine.specs.Setup.{WorldSetup}
-use Rattle.world_machine.specs.World.{new_world}
 
 -- ---- One life is later than another.
 
