@@ -1,5 +1,5 @@
 -- A tag that an end compared belongs to a session of its own history. No premise of chance is needed.
-use Rattle.std.proofs.Common.{◌≡◌, ◌⊎◌, ℕ, List, [], ◌∷◌, ◌++◌, drop, Bool, true, false, cond, Option, Some, None, Result, Ok, is_none, ◌==◌, ◌&&◌, refl, sym, ap, ◌∙◌, subst, inl, inr, eq-eqb, true≢false}
+use Rattle.std.proofs.Common.{◌≡◌, ◌⊎◌, ℕ, List, [], ◌∷◌, ◌++◌, drop, Bool, true, false, cond, Option, Some, None, Result, Ok, is_none, ◌==◌, ◌&&◌, refl, ap, ◌∙◌, subst, inl, inr, eq-eqb}
 use Rattle.std.specs.Prelude.{slice_index}
 use Rattle.key_schedule.specs.Purpose.{Purpose, Kind}
 use Rattle.key_schedule.specs.Purpose.Kind.{Verify, HandshakeRecord, ApplicationRecord}
@@ -34,7 +34,6 @@ use Rattle.responder_machine.specs.Place.{clear_place, session_place}
 use Rattle.responder_machine.specs.Records.{opening_fault, opened, reply_record, request_purpose}
 use Rattle.responder_machine.specs.Refusal.{refused_form}
 use Rattle.responder_machine.specs.Responder.{Outcome, on_clear, on_record, to_session, in_session, in_session_by, is_repeat, repeats, inner_refusal, inner_reply, session_turn}
-use Rattle.responder_machine.specs.Responder.Outcome.{Same, Unopened, Adds}
 use Rattle.responder_machine.specs.ResponderLog as served_log
 use Rattle.responder_machine.specs.Session as responder
 use Rattle.responder_machine.specs.Setup.{RspSetup}
@@ -68,7 +67,7 @@ use Rattle.spdm_lives.proofs.RequesterSessions.{accepted_marked, ordered_accepte
 use Rattle.spdm_lives.proofs.ResponderSessions.{sessions_well}
 use Rattle.spdm_machine.specs.Keys.{Draw}
 use Rattle.spdm_machine.specs.Sessions.{is_past_handshake, purpose_in}
-use Rattle.spdm_machine.specs.TagLog.{Act, Log}
+use Rattle.spdm_machine.specs.TagLog.{Log}
 use Rattle.spdm_machine.specs.TagLog.Act.{Made, Checked}
 
 -- ---- Comparisons among acts.
@@ -238,7 +237,7 @@ staged_served r stage.Handshake s m e b o = (refl, (served_first s, b, refl))
 staged_served r stage.Open s m e b o = (refl, (served_first s, o refl))
 staged_served r stage.Verifying s m e b o = (refl, (served_first s, o refl))
 
-held_there : (s : responder.Events) → responder.is_live s ≡ true → is_past_handshake (responder.stage_of s) ≡ true → (responder.is_live s && is_past_handshake (responder.stage_of s)) ≡ true
+pub held_there : (s : responder.Events) → responder.is_live s ≡ true → is_past_handshake (responder.stage_of s) ≡ true → (responder.is_live s && is_past_handshake (responder.stage_of s)) ≡ true
 held_there [] l p = l
 held_there (e ∷ s) l p = p
 

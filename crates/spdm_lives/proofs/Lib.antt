@@ -3,3 +3,13 @@ pub mod ResponderSessions
 pub mod RequesterDraws
 pub mod ResponderDraws
 pub mod Checks
+pub mod LifeKept
+pub mod LifeSteps
+pub mod TranscriptsApart
+pub mod Framed
+pub mod PastLives
+pub mod OldAndNew
+pub mod QuietMarks
+pub mod LifeHolds
+pub mod LivesHold
+pub mod Example

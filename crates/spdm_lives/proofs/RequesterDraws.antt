@@ -1,5 +1,5 @@
 -- A session that a requester accepted has a context with the number of one of its draws. No premise of chance is needed.
-use Rattle.std.proofs.Common.{◌≡◌, ◌⊎◌, ℕ, ◌≤◌, ◌<◌, ◌+◌, List, [], ◌∷◌, ◌++◌, Bool, true, false, Option, Some, None, is_some, refl, sym, ap, ◌∙◌, subst, inl, inr, arith}
+use Rattle.std.proofs.Common.{◌≡◌, ℕ, ◌≤◌, ◌<◌, ◌+◌, List, [], ◌∷◌, ◌++◌, true, false, Option, is_some, refl, sym, ap, ◌∙◌, subst, inl, inr, arith}
 use Rattle.requester_machine.specs.Answers.{with_answer}
 use Rattle.requester_machine.specs.Commands.{exchange_for}
 use Rattle.requester_machine.specs.Does.{IsMade, command_chosen, body_chosen}
@@ -23,13 +23,12 @@ use Rattle.spdm_agreement.proofs.Worlds.Behind.{accepted_old}
 use Rattle.spdm_agreement.proofs.Worlds.EndSteps.{IsDraw}
 use Rattle.spdm_agreement.specs.Configured.{IsRequester}
 use Rattle.spdm_agreement.specs.Marks.{Asked, IsAccepted}
-use Rattle.spdm_agreement.specs.Marks as marks
 use Rattle.spdm_agreement.specs.Reading.{First}
-use Rattle.spdm_agreement.specs.Story.{asked_marks, asked_first, clear_marks, command_marks, taken_marks, content_marks, next_marks}
+use Rattle.spdm_agreement.specs.Story.{asked_marks, asked_first, clear_marks, command_marks, taken_marks}
 use Rattle.spdm_grammar.specs.Message.{RequestMessage}
 use Rattle.spdm_grammar.specs.Message.RequestMessage.{PskExchange}
 use Rattle.spdm_grammar.specs.Requests.{canonical_request, request_in}
-use Rattle.spdm_lives.proofs.RequesterSessions.{OpensWell, sessions_well, NoAccept, none_accepted, command_accepts, taken_accepts}
+use Rattle.spdm_lives.proofs.RequesterSessions.{OpensWell, sessions_well, none_accepted, command_accepts, taken_accepts}
 use Rattle.spdm_lives.specs.Apart.{Accepts, HasAccepted}
 use Rattle.spdm_machine.specs.Bodies.{clear_body}
 use Rattle.spdm_machine.specs.Keys.{Draw}

@@ -2,31 +2,31 @@
 -- of chance is needed.
 use Rattle.std.proofs.Common.{◌≡◌, ◌⊎◌, ℕ, List, [], ◌∷◌, ◌++◌, Bool, true, false, cond, Option, Some, None, ◌==◌, refl, sym, ap, ◌∙◌, subst, inl, inr, eqb-true, true≢false}
 use Rattle.requester_machine.proofs.MadeOrder.{in_order}
-use Rattle.requester_machine.specs.Answers.{with_answer, goes_on}
+use Rattle.requester_machine.specs.Answers.{with_answer}
 use Rattle.requester_machine.specs.Does.{IsMade, command_chosen, body_chosen}
 use Rattle.requester_machine.specs.Commands.{Free, exchange_for}
 use Rattle.requester_machine.specs.RequesterLog.{steps_at}
 use Rattle.requester_machine.specs.History.{History, Effect, Led, outstanding, negotiation_of}
 use Rattle.requester_machine.specs.History.Effect.{Answers}
 use Rattle.requester_machine.specs.History.Entry.{Told, TookClear, TookRecord}
-use Rattle.requester_machine.specs.Message.{Ask, Aim, Command, Content, Sent, asked_in}
+use Rattle.requester_machine.specs.Message.{Ask, Aim, Command, Content, Sent}
 use Rattle.requester_machine.specs.Message.Aim.{Plain, ByChunks, ForChunk, InSession}
 use Rattle.requester_machine.specs.Message.Command.{Connect, Open, Send, Beat, Update, Measure, End, Retry}
 use Rattle.requester_machine.specs.Message.Content.{Clear, Sealed}
 use Rattle.requester_machine.specs.Order.{IsOrdered, waiting_ask}
 use Rattle.requester_machine.specs.Sending.{finish_sent}
-use Rattle.requester_machine.specs.Session.{Step, Steps, session_of, is_live, is_accepted, stage_of, t2_of, finishes, ends, when_live, with_sent, with_aim, with_content, begun, after_command, after_clear, after_record}
+use Rattle.requester_machine.specs.Session.{Steps, session_of, is_live, is_accepted, stage_of, t2_of, finishes, ends, when_live, with_sent, with_aim, with_content, begun, after_command, after_clear, after_record}
 use Rattle.requester_machine.specs.Session.Step.{Started, Accepted, Asked, Took}
 use Rattle.requester_machine.specs.Setup.{ReqSetup}
 use Rattle.spdm_agreement.proofs.Requester.ClearLeads.{IsPlain}
 use Rattle.spdm_agreement.proofs.Requester.Entries.{CommandShape, IsTookClear, IsTookRecord, told_shape, clear_entry, record_entry}
 use Rattle.spdm_agreement.proofs.Requester.Waiting.{waited_for}
-use Rattle.spdm_agreement.proofs.Worlds.Behind.{accepted_old, opened_old}
+use Rattle.spdm_agreement.proofs.Worlds.Behind.{accepted_old}
 use Rattle.spdm_agreement.specs.Marks as marks
 use Rattle.spdm_agreement.specs.Marks.{IsAccepted, IsOpened}
 use Rattle.spdm_agreement.specs.Reading.{First}
 use Rattle.spdm_agreement.specs.Story.{asked_marks, asked_first, clear_marks, command_marks, exchange_id, taken_marks, next_marks, content_marks, request_text, answer_text, ask_in}
-use Rattle.spdm_grammar.specs.Message.{RequestMessage, ExchangeMessage}
+use Rattle.spdm_grammar.specs.Message.{RequestMessage}
 use Rattle.spdm_grammar.specs.Message.RequestMessage.{PskExchange}
 use Rattle.spdm_grammar.specs.Requests.{canonical_request}
 use Rattle.spdm_grammar.specs.declared.told.phase.Stage.{Stage}

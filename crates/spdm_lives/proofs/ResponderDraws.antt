@@ -5,7 +5,7 @@ use Rattle.responder_machine.specs.Does.{IsMade}
 use Rattle.responder_machine.specs.History.{History}
 use Rattle.responder_machine.specs.History.Entry.{Clear, Sealed, Queued, Ticked, Dropped}
 use Rattle.responder_machine.specs.ResponderLog.{began_by}
-use Rattle.responder_machine.specs.Session.{Events, session_of, id_in_record, t1_of}
+use Rattle.responder_machine.specs.Session.{session_of, id_in_record}
 use Rattle.responder_machine.specs.Setup.{RspSetup}
 use Rattle.responder_machine.specs.Turn.{Turn, takes}
 use Rattle.spdm_agreement.proofs.Messages.Beginnings.{front_draw, is_sound_first, reading_of, transcript_of}
@@ -17,7 +17,7 @@ use Rattle.spdm_agreement.specs.Configured.{IsResponder}
 use Rattle.spdm_agreement.specs.Marks.{Served, HasBegun}
 use Rattle.spdm_agreement.specs.Marks as marks
 use Rattle.spdm_agreement.specs.Reading.{First}
-use Rattle.spdm_agreement.specs.Story.{served_marks, served_first, served_turn, record_marks, began_marks}
+use Rattle.spdm_agreement.specs.Story.{served_marks, served_first, record_marks, began_marks}
 use Rattle.spdm_grammar.specs.declared.names.request_code.TheConstants.{PSK_EXCHANGE}
 use Rattle.spdm_lives.proofs.RequesterDraws.{IsOfLife}
 use Rattle.spdm_lives.proofs.ResponderSessions.{record_begins}

@@ -1,10 +1,9 @@
 -- Each session of a responder has a mark that it began, and each that finished began. No premise of chance is needed.
-use Rattle.std.proofs.Common.{◌≡◌, ◌⊎◌, ℕ, List, [], ◌∷◌, ◌++◌, Bool, true, false, cond, ◌==◌, refl, sym, ap, ◌∙◌, subst, inl, inr, true≢false}
-use Rattle.responder_machine.specs.Does.{IsMade}
+use Rattle.std.proofs.Common.{◌≡◌, ◌⊎◌, ℕ, List, [], ◌∷◌, ◌++◌, Bool, true, false, cond, ◌==◌, refl, sym, subst, inl, inr, true≢false}
 use Rattle.responder_machine.specs.History.{History, clear_turns, negotiation_of}
 use Rattle.responder_machine.specs.History.Entry.{Clear, Sealed, Queued, Ticked, Dropped}
 use Rattle.responder_machine.specs.ResponderLog.{began_by}
-use Rattle.responder_machine.specs.Session.{Event, Events, session_of, is_live, stage_of, t2_of, after_record, after_exchange, after_tick, id_in_record, gives_id, when_live}
+use Rattle.responder_machine.specs.Session.{Event, Events, session_of, is_live, stage_of, t2_of, after_exchange, after_tick, id_in_record, gives_id, when_live}
 use Rattle.responder_machine.specs.Session.Event.{Began, Heard, Waited}
 use Rattle.responder_machine.specs.Setup.{RspSetup}
 use Rattle.responder_machine.specs.Turn.{Turn, takes, answer_in, request_in}

@@ -8,4 +8,6 @@
 
 mod laws;
 
-pub use laws::lives_hold;
+pub use laws::{
+    lives_hold, no_transcript_twice, script_lives_hold, text_lives_hold, text_transcripts_apart,
+};

@@ -1,6 +1,6 @@
 -- The application data that a requester took are those in the texts of its marks.
 use Rattle.std.proofs.Common.{◌≡◌, ℕ, ◌<◌, ◌≤◌, ◌==◌, ◌&&◌, ◌||◌, not, List, [], ◌∷◌, length, drop, nat_lt, slice_index, Bool, true, false, cond, Option, Some, None, Result, Ok, Err, refl, sym, ap, ◌∙◌, inl, inr, arith, true≢false, eqb-true}
-use Rattle.std.proofs.lemmas.Bool.{leb-false, lt-leb, leb-true, le-leb, and_right}
+use Rattle.std.proofs.lemmas.Bool.{leb-false, lt-leb, leb-true, le-leb}
 use Rattle.requester_machine.specs.Commands.{Free}
 use Rattle.requester_machine.specs.History.{History, Effect, Led}
 use Rattle.requester_machine.specs.History.Effect.{Nothing, Answers, Refuses, Stops, Grants, Loses}

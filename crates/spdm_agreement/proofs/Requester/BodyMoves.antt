@@ -3,7 +3,7 @@ use Rattle.std.proofs.Common.{◌≡◌, ℕ, List, [], ◌∷◌, ◌++◌, Opt
 use Rattle.requester_machine.specs.Answers.{with_answer}
 use Rattle.requester_machine.specs.Asking.Outcome.{Adds}
 use Rattle.requester_machine.specs.Commands.{Free}
-use Rattle.requester_machine.specs.Does.{IsMade, body_chosen, chosen}
+use Rattle.requester_machine.specs.Does.{IsMade, body_chosen}
 use Rattle.requester_machine.specs.History.{History, Effect, Led, outstanding}
 use Rattle.requester_machine.specs.History.Effect.{Answers}
 use Rattle.requester_machine.specs.History.Entry.{TookClear}

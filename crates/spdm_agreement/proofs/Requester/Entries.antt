@@ -1,5 +1,5 @@
 -- What a requester did with each command, and with each body that came.
-use Rattle.std.proofs.Common.{◌≡◌, ℕ, List, length, drop, Bool, true, false, Option, Some, None, is_some, refl, sym, ap, ◌∙◌, subst, true≢false}
+use Rattle.std.proofs.Common.{◌≡◌, ℕ, List, length, drop, Bool, true, false, Option, Some, None, is_some, refl, sym, ap, ◌∙◌, subst}
 use Rattle.std.specs.Prelude.{Result, Ok, Err, ◌&&◌, not, nat_lt, ◌||◌, ◌==◌}
 use Rattle.requester_machine.specs.Asking.{Outcome, asks, done, resent}
 use Rattle.requester_machine.specs.Asking.Outcome.{Adds}

@@ -1,5 +1,5 @@
 -- The sessions that a requester opened are those that its marks tell.
-use Rattle.std.proofs.Common.{◌≡◌, ◌⊎◌, ℕ, List, [], ◌∷◌, ◌++◌, Bool, true, false, cond, Option, refl, sym, ap, ◌∙◌, subst, inl, inr, true≢false}
+use Rattle.std.proofs.Common.{◌≡◌, ℕ, List, [], ◌∷◌, ◌++◌, Bool, true, cond, Option, refl, sym, ap, ◌∙◌, subst, inl, inr, true≢false}
 use Rattle.requester_machine.specs.History.{History, Led, outstanding}
 use Rattle.requester_machine.specs.History.Entry.{Told, TookClear, TookRecord}
 use Rattle.requester_machine.specs.Message.{Sent}

@@ -1,5 +1,5 @@
 -- Once a negotiation is complete, its messages are what they should be.
-use Rattle.std.proofs.Common.{◌≡◌, ℕ, List, Bool, true, false, cond, Some, ◌==◌, refl, sym, ap, ◌∙◌, subst, eqb-true}
+use Rattle.std.proofs.Common.{◌≡◌, ℕ, List, Bool, true, false, Some, ◌==◌, refl, ap, ◌∙◌, subst, eqb-true}
 use Rattle.std.specs.Prelude.{Ok}
 use Rattle.std.specs.Result.{result_ok}
 use Rattle.byteorder.specs.Endian.{little_number}
@@ -7,11 +7,11 @@ use Rattle.spdm_grammar.specs.Layout.{Layout, IsSpelling}
 use Rattle.spdm_grammar.specs.Message.{ResponseMessage}
 use Rattle.spdm_grammar.specs.Message.ResponseMessage.{PskExchangeRsp}
 use Rattle.spdm_grammar.specs.Reading.{front}
-use Rattle.spdm_grammar.specs.Responses.{IsResponseSpelling, response_reading, response_layout, response_body, response_in, psk_exchange_rsp_layout, version_layout, error_layout, capabilities_layout, algorithms_layout, measurements_layout, psk_finish_rsp_layout, heartbeat_ack_layout, key_update_ack_layout, end_session_ack_layout, chunk_send_ack_layout, chunk_response_layout}
+use Rattle.spdm_grammar.specs.Responses.{IsResponseSpelling, response_reading, response_layout, response_body, response_in, psk_exchange_rsp_layout}
 use Rattle.spdm_grammar.proofs.Spellings.{read_spelling, spelling_read}
 use Rattle.spdm_agreement.proofs.Messages.RequestCodes.{given, HasGiven}
 use Rattle.spdm_agreement.proofs.Messages.Beginnings.{is_response, ends_by_itself}
-use Rattle.spdm_grammar.specs.declared.names.response_code.TheConstants.{MEASUREMENTS, CAPABILITIES, ALGORITHMS, PSK_EXCHANGE_RSP, PSK_FINISH_RSP, HEARTBEAT_ACK, KEY_UPDATE_ACK, END_SESSION_ACK, ERROR, VERSION, CHUNK_SEND_ACK}
+use Rattle.spdm_grammar.specs.declared.names.response_code.TheConstants.{PSK_EXCHANGE_RSP}
 use Rattle.requester_machine.proofs.CapsRead.{alike, exchange_body}
 
 -- ---- A response other than PSK_EXCHANGE_RSP is spelled alike for every hash.

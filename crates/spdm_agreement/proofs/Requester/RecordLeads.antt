@@ -11,7 +11,7 @@ use Rattle.requester_machine.specs.History.Effect.{Nothing, Grants}
 use Rattle.requester_machine.specs.InnerMessages.{Came, with_record, message_in, inner_fault, reading_of, error_led, first_get, follows, op_in, outlives_error, echoes, update_led, verified_led, whole_led, chunk_led, message_led, read_led, data_led, inner_led_by, inner_led, or_lost}
 use Rattle.requester_machine.specs.Message.{Ask, Sent}
 use Rattle.requester_machine.specs.Message.Ask.{AskFinish, AskData, AskBeat, AskUpdate, AskVerify, AskMeasure, AskChunk, AskEnd}
-use Rattle.requester_machine.specs.Order.{may_bring, is_same, stage_for}
+use Rattle.requester_machine.specs.Order.{may_bring, stage_for}
 use Rattle.requester_machine.specs.Sending.{record_sent, inner_request, key_update, operation_of}
 use Rattle.requester_machine.specs.Session.{ends, finishes}
 use Rattle.requester_machine.proofs.Steps.{stage_behind}

@@ -1,5 +1,5 @@
 -- What a requester does with a record is a run of moves.
-use Rattle.std.proofs.Common.{◌≡◌, ℕ, List, [], ◌∷◌, ◌++◌, drop, take, Bool, true, false, cond, Option, Some, None, refl, sym, ap, ◌∙◌, inl, inr, subst}
+use Rattle.std.proofs.Common.{◌≡◌, ℕ, List, [], ◌∷◌, ◌++◌, drop, take, true, false, Option, Some, None, refl, sym, ap, ◌∙◌, inl, inr, subst}
 use Rattle.std.specs.Prelude.{slice_index}
 use Rattle.byteorder.specs.Endian.{little_number}
 use Rattle.requester_machine.specs.History.{History, Effect, Led}
@@ -11,7 +11,7 @@ use Rattle.requester_machine.specs.Message.Ask.{AskFinish, AskVerify, AskChunk}
 use Rattle.requester_machine.specs.Order.{may_bring, stage_for}
 use Rattle.requester_machine.specs.Records.{answer_fault, answer_inner}
 use Rattle.requester_machine.specs.RequesterLog.{sent_made, record_check}
-use Rattle.requester_machine.specs.Session.{Step, Steps, session_vca, exchange_of, exchange_answer, finish_of, finish_answer, stage_of, t2_of, finishes, answer_in}
+use Rattle.requester_machine.specs.Session.{Step, Steps, session_vca, exchange_of, exchange_answer, finish_of, stage_of, t2_of, finishes}
 use Rattle.requester_machine.specs.Session.Step.{Started, Accepted, Asked, Took}
 use Rattle.requester_machine.proofs.Steps.{stage_behind}
 use Rattle.secured_record.specs.Format.{plain_text}

@@ -5,7 +5,7 @@ use Rattle.requester_machine.specs.History.{History, Effect, Led, outstanding}
 use Rattle.requester_machine.specs.InnerMessages.{Came}
 use Rattle.requester_machine.specs.Message.{Ask, Aim, Sent}
 use Rattle.requester_machine.specs.Message.Aim.{InSession}
-use Rattle.requester_machine.specs.Message.Ask.{AskFinish, AskVerify}
+use Rattle.requester_machine.specs.Message.Ask.{AskFinish}
 use Rattle.requester_machine.specs.Order.{stage_for}
 use Rattle.requester_machine.specs.Records.{answer_fault, answer_inner}
 use Rattle.requester_machine.specs.RequesterLog.{sent_made, record_check}

@@ -11,10 +11,10 @@ use Rattle.requester_machine.specs.Message.{Command, Ask, Aim, Content, Sent, as
 use Rattle.requester_machine.specs.Message.Aim.{Plain, ByChunks, ForChunk, InSession}
 use Rattle.requester_machine.specs.Message.Ask.{AskFinish, AskEnd}
 use Rattle.requester_machine.specs.Message.Command.{Connect, Open, Send, Beat, Update, Measure, End, Retry}
-use Rattle.requester_machine.specs.Order.{IsOrdered, FitsWaits, Waits, waits_for, waits_aim, waits_asked, is_opening, waiting_ask, stage_for, may_bring}
+use Rattle.requester_machine.specs.Order.{FitsWaits, Waits, waits_for, waits_aim, waits_asked, is_opening, waiting_ask, stage_for, may_bring}
 use Rattle.requester_machine.specs.Order.Waits.{Rests, ForExchange, ForRecord}
-use Rattle.requester_machine.specs.Session.{Step, Steps, session_of, is_live, stage_of, finishes, ends, when_live, with_sent, with_aim, after_command, after_clear, after_record, begun, is_accepted}
-use Rattle.requester_machine.specs.Session.Step.{Started, Accepted, Asked, Took}
+use Rattle.requester_machine.specs.Session.{Step, Steps, session_of, is_live, stage_of, finishes, ends, when_live, with_sent, with_aim, after_command, after_clear, after_record, begun}
+use Rattle.requester_machine.specs.Session.Step.{Started, Accepted, Took}
 use Rattle.requester_machine.proofs.MadeOrder.{in_order}
 use Rattle.spdm_grammar.specs.Message.{RequestMessage, ExchangeMessage}
 use Rattle.spdm_grammar.specs.Message.RequestMessage.{PskExchange}

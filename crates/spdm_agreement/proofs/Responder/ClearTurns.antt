@@ -1,6 +1,6 @@
 -- What a responder does with a clear message: nothing takes effect, or a request does that the message is, or that its
 -- chunks bring.
-use Rattle.std.proofs.Common.{◌≡◌, ◌⊎◌, ℕ, List, [], ◌∷◌, Bool, true, false, cond, not, Option, Some, None, refl, sym, ap, ◌∙◌, inl, inr}
+use Rattle.std.proofs.Common.{◌≡◌, ◌⊎◌, ℕ, List, [], ◌∷◌, Bool, true, false, cond, Option, Some, None, refl, sym, ap, ◌∙◌, inl, inr}
 use Rattle.chunking.specs.Collecting.{under_way, joined_with}
 use Rattle.spdm_grammar.specs.Message.{RequestMessage, ChunkMessage}
 use Rattle.spdm_grammar.specs.declared.messages.error_code.ErrorCode.{ErrorCode}
@@ -12,7 +12,6 @@ use Rattle.responder_machine.specs.LargeMessages.{chunks_of}
 use Rattle.responder_machine.specs.Place.{Place, clear_place, inside, place_terms}
 use Rattle.responder_machine.specs.Refusal.{tests_of_form, tests_of_contents, refused_form, refused_contents, refusal, code_of, phase_allows, has_pending, is_allowed, are_caps_refused, is_exchange_refused}
 use Rattle.spdm_basis.specs.Tests.{first_of_tests}
-use Rattle.std.specs.Option.{option_or}
 use Rattle.responder_machine.specs.Setup.{RspSetup}
 use Rattle.spdm_machine.specs.Terms.{hash_len}
 use Rattle.responder_machine.specs.Turn.{Effect}

@@ -4,7 +4,6 @@ use Rattle.std.proofs.Common.{◌≡◌, ℕ, ◌+◌, ◌-◌, ◌≤◌, List,
 use Rattle.std.proofs.Math.Seq.{take-append_seam, drop-append_seam}
 use Rattle.std.proofs.lemmas.List.{length-take-le}
 use Rattle.std.specs.Prelude.{if◌then◌else◌}
-use Rattle.measurements.specs.Blocks.{record_of}
 use Rattle.std.proofs.lemmas.Slice.Eq.{bytes_eq-Decides}
 use Rattle.byteorder.specs.Endian.{little_bytes, little_number}
 use Rattle.byteorder.specs.Numbers.{little_number-reads_back}
@@ -20,7 +19,6 @@ use Rattle.spdm_grammar.specs.Message.{RequestMessage, ExchangeMessage}
 use Rattle.spdm_grammar.specs.Message.RequestMessage.{PskExchange}
 use Rattle.spdm_grammar.specs.Requests.{IsRequestSpelling, request_layout, request_in, request_body, psk_exchange_layout}
 use Rattle.spdm_grammar.specs.Responses.{canonical_response}
-use Rattle.spdm_grammar.specs.declared.told.block_spec.BlockSpec.{BlockSpec}
 use Rattle.spdm_grammar.specs.declared.told.phase.Phase.{Phase}
 use Rattle.spdm_grammar.specs.declared.told.phase.Phase.TheVariants.{Fresh, Versioned, Capable, Negotiated}
 use Rattle.spdm_grammar.proofs.Spellings.{read_iff}
@@ -33,7 +31,7 @@ use Rattle.responder_machine.specs.Place.{Place, place_terms}
 use Rattle.responder_machine.specs.Refusal.{phase_allows, has_pending}
 use Rattle.responder_machine.specs.ResponderLog.{began_by}
 use Rattle.responder_machine.specs.Session.{Event, Events, session_of, is_live, stage_of, session_negotiation, after_tick, when_live, id_in_record, gives_id}
-use Rattle.spdm_machine.specs.Sessions.{is_past_handshake, id_in_exchange}
+use Rattle.spdm_machine.specs.Sessions.{is_past_handshake}
 use Rattle.responder_machine.specs.Session.Event.{Began, Heard, Waited}
 use Rattle.responder_machine.specs.Setup.{RspSetup, inventory_of}
 use Rattle.spdm_machine.specs.Terms.{terms_of, hash_len}

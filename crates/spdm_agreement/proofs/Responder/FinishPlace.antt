@@ -15,11 +15,10 @@ use Rattle.responder_machine.specs.Handling.{turn_of, turn_by, chunk_in, effect_
 use Rattle.responder_machine.specs.History.{History, ended_of, clear_turns, phase_of}
 use Rattle.responder_machine.specs.History.Entry.{Clear, Sealed, Queued, Ticked, Dropped}
 use Rattle.spdm_machine.specs.Keys.{Draw}
-use Rattle.responder_machine.specs.Place.{Place, session_place, place_terms}
+use Rattle.responder_machine.specs.Place.{session_place, place_terms}
 use Rattle.responder_machine.specs.Records.{opened, opening_fault}
-use Rattle.responder_machine.specs.Refusal.{refused_form, refused_contents, refusal, code_of, is_known, version_for, stage_allows, has_pending}
+use Rattle.responder_machine.specs.Refusal.{refused_form, refusal, code_of, is_known, version_for, stage_allows, has_pending}
 use Rattle.spdm_basis.specs.Tests.{first_of_tests}
-use Rattle.std.specs.Option.{option_or}
 use Rattle.spdm_grammar.specs.Codes.{is_one_of}
 use Rattle.responder_machine.specs.Responder.{Outcome, on_record, to_session, in_session, in_session_by, session_turn, session_turn_by, inner_refusal, data_turn, repeats, kept_record}
 use Rattle.spdm_machine.specs.Bodies.{record_body}

@@ -1,5 +1,5 @@
 -- The tags of records at a responder: which are compared, and which are made.
-use Rattle.std.proofs.Common.{◌≡◌, ℕ, List, [], ◌∷◌, ◌++◌, drop, take, Bool, true, false, cond, not, Option, Some, None, is_none, ◌==◌, ◌&&◌, refl, sym, ap, inl, true≢false}
+use Rattle.std.proofs.Common.{◌≡◌, ℕ, List, [], ◌∷◌, ◌++◌, drop, take, Bool, true, false, cond, Option, Some, None, is_none, ◌==◌, ◌&&◌, refl, sym, ap, inl, true≢false}
 use Rattle.std.specs.Prelude.{slice_index}
 use Rattle.byteorder.specs.Endian.{little_number}
 use Rattle.aes_gcm.specs.Gcm.{tag_of}

@@ -14,7 +14,7 @@ use Rattle.requester_machine.specs.Requesting.{Requesting, requester_told, reque
 use Rattle.responder_machine.specs.Responding.{Connection, responder_hears, connection_of}
 use Rattle.world_machine.specs.Setup.{WorldSetup}
 use Rattle.world_machine.specs.Trace.{world_from, world_after}
-use Rattle.world_machine.specs.World.{World, WorldStep, new_world, told, given, given_to, given_to_responder, delivers, loses, without_waiting, stopped_of, with_sent, packet_of, turn, pumps, first_waiting, replied, requester_of, requester_at, is_at, happens, entry_step}
+use Rattle.world_machine.specs.World.{World, WorldStep, told, given, given_to, given_to_responder, delivers, loses, without_waiting, stopped_of, with_sent, packet_of, turn, pumps, first_waiting, replied, requester_of, requester_at, is_at, happens, entry_step}
 use Rattle.spdm_agreement.specs.Configured.{IsConfigured}
 use Rattle.spdm_agreement.specs.Worlds.{WorldsAgree, WorldsMatch, WorldsSealOnce, WorldsShowAlike}
 use Rattle.spdm_agreement.proofs.Worlds.ResponderEvents as answers

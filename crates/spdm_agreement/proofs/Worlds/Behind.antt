@@ -166,6 +166,13 @@ begun_old (Finished s v ∷ new) old t a = begun_old new old t a
 begun_old (Refused s b ∷ new) old t a = begun_old new old t a
 begun_old (Took v b reply ∷ new) old t a = begun_old new old t a
 
+pub served_new : (new old : List Served) (t : First) (u : List ℕ) → HasOpened new t u → HasOpened (new ++ old) t u
+served_new [] old t u a = elim a [ ]
+served_new (Finished s v ∷ new) old t u a = elim a [ inl e ↦ inl e | inr y ↦ inr (served_new new old t u y) ]
+served_new (Began s ∷ new) old t u a = served_new new old t u a
+served_new (Refused s b ∷ new) old t u a = served_new new old t u a
+served_new (Took v b reply ∷ new) old t u a = served_new new old t u a
+
 pub served_old : (new old : List Served) (t : First) (u : List ℕ) → HasOpened old t u → HasOpened (new ++ old) t u
 served_old [] old t u a = a
 served_old (Finished s v ∷ new) old t u a = inr (served_old new old t u a)

@@ -1,5 +1,5 @@
 -- What every world keeps, in which nothing agrees by chance.
-use Rattle.std.proofs.Common.{◌≡◌, ◌≢◌, ℕ, ◌≤◌, ◌+◌, ◌^◌, List, [], ◌∷◌, length, sym, ap, ◌∙◌, inl, inr}
+use Rattle.std.proofs.Common.{◌≡◌, ◌≢◌, ℕ, ◌≤◌, ◌+◌, ◌^◌, List, length, sym, ap, ◌∙◌}
 use Rattle.key_schedule.specs.Purpose.{Purpose}
 use Rattle.requester_machine.specs.Does as asking
 use Rattle.requester_machine.specs.History as asked

@@ -86,6 +86,10 @@ starts_apart r es apart =
       served = λ a m. (new_connection r (known_of a.setup), map_in (new_connection r) (map known_of qs) (known_of a.setup) (map_in known_of qs a.setup (setup_in es a m)), refl);
     }
 
+-- So are the ends of a first world.
+pub new_apart : (w : WorldSetup) → IsConfigured w → Apart (new_world w).requesters (new_world w).responder.connections
+new_apart w c = subst (λ (known : List Known). Apart (map new_requesting w.requesters) (map (new_connection w.responder.part) known)) (sym c.known) (starts_apart w.responder.part w.requesters c.apart)
+
 no_draws : (r : RspPart) (known : List Known) → all_draws (map (new_connection r) known) ≡ 0
 no_draws r [] = refl
 no_draws r (q ∷ others) = (let none = no_draws r others in omega arith)
@@ -149,7 +153,7 @@ module _ (prior : Past) (KeptAsked : ReqSetup → asked.History → Type 0) (Kep
 
   pub starts : Fits prior KeptAsked KeptServed (begun prior w)
   starts = record {
-    apart = subst (λ (known : List Known). Apart (map new_requesting w.requesters) (map (new_connection w.responder.part) known)) (sym c.known) (starts_apart w.responder.part w.requesters c.apart);
+    apart = new_apart w c;
     asks = new_asks;
     serves = new_serves (w.responder.first + all_draws (map (new_connection w.responder.part) w.responder.known)) (omega arith);
     wear = (let none = no_draws w.responder.part w.responder.known in omega arith);
