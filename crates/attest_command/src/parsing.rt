@@ -1,0 +1,51 @@
+ghost use Rattle.std.specs.Prelude.{◌≡◌, ◌+◌, ◌≤◌, length};
+ghost use Rattle.attest_command.specs.Begun.{IsParsed, told_of};
+
+use crate::line_count::count_of_lines;
+use crate::texts::Texts;
+use appraise::{Policy, PolicyFault};
+use script_text::{LineFault, ScriptConfig, ScriptFault, TEXT_LIMIT, parse_config, parse_policy};
+use std::alloc::Global;
+use stream_commands::StreamFault;
+
+/// What the texts before a stream say.
+#[derive(Drop)]
+pub(crate) struct Parsed {
+    pub(crate) config: ScriptConfig,
+    pub(crate) policy: Policy,
+}
+
+// Why a text is not taken, as it is reported.
+fn fault_of(fault: ScriptFault) -> StreamFault
+    ensures { result ≡ told_of fault }
+{
+    match fault {
+        ScriptFault::Line(line, fault) => StreamFault::BadScript { line, fault },
+        ScriptFault::TooManyEvents(line) => StreamFault::BadScript {
+            line,
+            fault: LineFault::TooManyEvents,
+        },
+        ScriptFault::OutOfMemory => StreamFault::OutOfMemory,
+    }
+}
+
+/// What two texts say.
+pub(crate) fn parse(alloc: Global, texts: &Texts) -> Result<Parsed, StreamFault>
+    requires { length texts.now.config + length texts.now.policy ≤ TEXT_LIMIT }
+    ensures { IsParsed texts.now result }
+{
+    let config = match parse_config(alloc, texts.config.as_slice()) {
+        Ok(config) => config,
+        Err(fault) => return Err(fault_of(fault)),
+    };
+    let first = count_of_lines(texts.config.as_slice()) + 1;
+    let rules = match parse_policy(alloc, texts.policy.as_slice(), first) {
+        Ok(rules) => rules,
+        Err(fault) => return Err(fault_of(fault)),
+    };
+    match Policy::new(alloc, rules.as_slice()) {
+        Ok(policy) => Ok(Parsed { config, policy }),
+        Err(PolicyFault::OutOfMemory) => Err(StreamFault::OutOfMemory),
+        Err(_) => unreachable!(),
+    }
+}

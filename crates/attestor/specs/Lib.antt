@@ -1,0 +1,2 @@
+pub mod Attesting
+pub mod Standing
