@@ -33,6 +33,6 @@ returns-in-Err-run_life-clause-link_full g c = λ line told.
     let full = c.in-Err-run_life.ensures.link_full line (ap Err (cc told)) in (
       subst (λ (e : List Entry). life_full c.args.config.now c.args.boot e ≡ Some line) c.as_slice.ensures full.0,
       takes_more (g.K.Sink.contents c.args.sink.now) (g.K.Sink.contents c.write_cycle.new.sink) (g.K.Sink.contents c.run_life.new.sink) (cycle_lines c.args.life.now.cycle_line c.args.boot)
-      (life_text c.args.config.now c.args.boot c.args.life.now.events) c.in-Ok.ensures.whole
-      (subst (λ (e : List Entry). Takes (g.K.Sink.contents c.write_cycle.new.sink) (life_text c.args.config.now c.args.boot e) (g.K.Sink.contents c.run_life.new.sink)) c.as_slice.ensures full.1),
+          (life_text c.args.config.now c.args.boot c.args.life.now.events) c.in-Ok.ensures.whole
+          (subst (λ (e : List Entry). Takes (g.K.Sink.contents c.write_cycle.new.sink) (life_text c.args.config.now c.args.boot e) (g.K.Sink.contents c.run_life.new.sink)) c.as_slice.ensures full.1),
     )
