@@ -144,7 +144,7 @@ module _ (part : RspPart) where
   replied_stays world bytes None k = k
   replied_stays world bytes (Some a) k = queues_set_up world.responder a.setup.eid bytes k (reply_fault_of (connection_of a.setup.eid world.responder.connections) bytes)
 
-  happens_stays : (world : World) (event : Happening) → Stays world → Stays (happens world event).after
+  pub happens_stays : (world : World) (event : Happening) → Stays world → Stays (happens world event).after
   unfolding happens
   happens_stays world (Told n command) k = told_stays world n command (requester_of n world) k
   happens_stays world (Reply n bytes) k = replied_stays world bytes (requester_of n world) k

@@ -9,3 +9,8 @@ pub mod Answering
 pub mod Taking
 pub mod Blocks
 pub mod Worlds
+pub mod Following
+pub mod AllBlocks
+pub mod Attesting
+pub mod TakingPart
+pub mod Verdicts

@@ -6,6 +6,7 @@ use Rattle.requester_machine.specs.History.{Effect, History}
 use Rattle.requester_machine.specs.History.{outstanding as waiting}
 use Rattle.requester_machine.specs.History.Entry.{Told, TookClear, TookRecord}
 use Rattle.requester_machine.specs.Session.{session_of, stage_of, t2_of}
+use Rattle.requester_machine.specs.Requesting.{Requesting}
 use Rattle.requester_machine.specs.Setup.{ReqSetup}
 use Rattle.responder_machine.specs.Setup.{RspPart, RspSetup}
 use Rattle.spdm_agreement.proofs.Messages.Beginnings.{reading_of}
@@ -16,12 +17,16 @@ use Rattle.spdm_agreement.proofs.Requester.Whole as asks
 use Rattle.spdm_agreement.proofs.Worlds.AllEvents.{after_fits}
 use Rattle.spdm_agreement.proofs.Worlds.Fits.{Fits, IsPair}
 use Rattle.spdm_agreement.proofs.Worlds.Pairs.{state_of}
+use Rattle.spdm_agreement.specs.Configured.{IsConfigured}
 use Rattle.spdm_agreement.specs.Marks as marks
 use Rattle.spdm_agreement.specs.Marks.{Asked, Exchange, heard, outstanding, taken}
 use Rattle.spdm_agreement.specs.Story.{no_past, asked_marks, clear_marks, command_marks, taken_marks}
 use Rattle.spdm_grammar.specs.declared.told.block_spec.BlockSpec.{BlockSpec}
-use Rattle.spdm_machine.proofs.Members.{in_contained}
+use Rattle.spdm_machine.proofs.Members.{IsIn, in_contained}
 use Rattle.spdm_progress.specs.Measuring.{record_for}
+use Rattle.world_machine.specs.Chance.{NoChance}
+use Rattle.world_machine.specs.Happenings.{Entry}
+use Rattle.world_machine.specs.Setup.{WorldSetup}
 use Rattle.world_machine.specs.Trace.{world_after}
 use Rattle.world_machine.specs.World.{World}
 use Rattle.attest_laws.proofs.Blocks.{IsSetUp, stays_set_up}
@@ -30,7 +35,7 @@ use Rattle.attest_laws.proofs.Keeping as serves
 use Rattle.attest_laws.proofs.Served.{IsKept}
 use Rattle.attest_laws.proofs.Taking.{takes}
 use Rattle.attest_laws.proofs.Waiting.{AreMeasured, IsMeasuredBy}
-use Rattle.attest_laws.specs.Measured.{AllMeasureAsConfigured, IsAsConfigured, MeasuresAsConfigured, WorldsMeasureAsConfigured, configured_record}
+use Rattle.attest_laws.specs.Measured.{IsAsConfigured, MeasuresAsConfigured, WorldsMeasureAsConfigured, configured_record}
 
 -- ---- One pair.
 
@@ -73,9 +78,8 @@ module _ (part : RspPart) (r : RspSetup) (blocks : r.blocks ≡ part.blocks) (q 
 
 -- ---- All requesters.
 
-measure : (world : World) → Fits no_past (asks.IsKept no_past) IsKept world → IsSetUp world.responder.part world.responder → AllMeasureAsConfigured world
-measure world k setup a contained =
-    let is = in_contained world.requesters a contained in
+measure : (world : World) → Fits no_past (asks.IsKept no_past) IsKept world → IsSetUp world.responder.part world.responder → (a : Requesting) → IsIn world.requesters a → MeasuresAsConfigured world.responder.part a.history
+measure world k setup a is =
     let x = k.apart.served a is in
     let pair : IsPair world.requesters world.responder.connections a x.0 = record { requester = is; connection = x.1; peer = x.2 } in
     let s = state_of no_past a x.0 world.log in
@@ -84,9 +88,13 @@ measure world k setup a contained =
     all_measured world.responder.part x.0.setup (setup.blocks x.0 x.1) a.setup a.history (takes x.0.setup a.setup a.history (k.asks a is).made).1
     (λ u. earlier_served x.0.setup (heard u s.asked) (taken u s.served) (heard_was_taken (outstanding u s.asked) (heard u s.asked) (taken u s.served) (links.ahead u)) (serving.kept.all u))
 
-pub worlds_measure : WorldsMeasureAsConfigured
-worlds_measure w c entries chance =
+pub measured_in : (w : WorldSetup) → IsConfigured w → (entries : List Entry) → NoChance (world_after w entries).log → (a : Requesting) → IsIn (world_after w entries).requesters a
+    → MeasuresAsConfigured (world_after w entries).responder.part a.history
+measured_in w c entries chance =
     let world = world_after w entries in
     let setup = stays_set_up w entries in
     measure world (after_fits (asks.IsKept no_past) IsKept (asks.starts no_past asks.begins_openly) (asks.asks_well no_past) (asks.hears_well no_past) bodies.steady serves.served_starts serves.does_well serves.waits w c entries chance)
     (subst (λ (part : RspPart). IsSetUp part world.responder) (sym setup.part_is) setup)
+
+pub worlds_measure : WorldsMeasureAsConfigured
+worlds_measure w c entries chance = λ a contained. measured_in w c entries chance a (in_contained (world_after w entries).requesters a contained)

@@ -1,5 +1,6 @@
 //! What attestation may rely on, each law stated as the contract of an empty function.
 
+ghost use Rattle.attest_laws.specs.Attested.{WorldsAttestAsConfigured};
 ghost use Rattle.attest_laws.specs.Measured.{WorldsMeasureAsConfigured};
 
 /// In every world that a set-up and events lead to, where no two tags agree by chance, the record of each `measured` in
@@ -7,4 +8,11 @@ ghost use Rattle.attest_laws.specs.Measured.{WorldsMeasureAsConfigured};
 /// in chunks.
 pub fn measured_as_configured()
     ensures { WorldsMeasureAsConfigured }
+{}
+
+/// Whatever happens to an attesting requester, it does what a requester of a world does. Where no two tags agree by
+/// chance there, the record that it appraises is that of all blocks that the responder is set up with: its verdict is
+/// what this record comes to under its rules, and `Trusted` exactly where this record is trusted.
+pub fn attested_as_configured()
+    ensures { WorldsAttestAsConfigured }
 {}
