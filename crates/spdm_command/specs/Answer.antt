@@ -17,9 +17,9 @@ use Rattle.spdm_basis.specs.Stream.{IsQuiet}
 use Rattle.spdm_show.specs.Shown.{shown_text}
 use Rattle.world_machine.specs.Totals.{Totals, totals_of}
 use Rattle.spdm_command.specs.declared.outcome.Outcome.{Outcome}
-use Rattle.spdm_command.specs.declared.outcome.Outcome.TheVariants.{Done, Usage, Differs, BadFrame, BadScript, BootsSpent, KeeperFault, ReadFault, WriteFault, OutOfMemory, SeedFault, TooLong, LinkFull}
+use Rattle.spdm_command.specs.declared.outcome.Outcome.TheVariants.{Done, Usage, Differs, BadFrame, BadScript, BootsSpent, KeeperFault, NoVerdict, ReadFault, WriteFault, OutOfMemory, SeedFault, TooLong, LinkFull, Untrusted}
 use Rattle.spdm_command.specs.declared.words.Command.{Command}
-use Rattle.spdm_command.specs.declared.words.Command.TheVariants.{Check, Drive, Serve, ServeKept, Text}
+use Rattle.spdm_command.specs.declared.words.Command.TheVariants.{Attest, Check, Drive, Serve, ServeKept, Text}
 use Rattle.spdm_command.specs.declared.words.TextCommand.{TextCommand}
 use Rattle.spdm_command.specs.declared.words.TextCommand.TheVariants.{Gen, Lives, Run, Show}
 
@@ -43,6 +43,7 @@ input_by (Some (Text command)) left = input_of command left
 input_by (Some Serve) left = None
 input_by (Some ServeKept) left = None
 input_by (Some Drive) left = None
+input_by (Some Attest) left = None
 input_by (Some Check) left = None
 
 -- The command reads.
@@ -55,6 +56,7 @@ reads (Some (Text (Gen seed count))) = false
 reads (Some Serve) = true
 reads (Some ServeKept) = true
 reads (Some Drive) = true
+reads (Some Attest) = true
 reads (Some Check) = true
 
 -- Where the command reads, the source's count of faults shows none.
@@ -67,6 +69,7 @@ IsReadQuietly (Some (Text Show)) before after = IsQuiet before after
 IsReadQuietly (Some Serve) before after = IsQuiet before after
 IsReadQuietly (Some ServeKept) before after = IsQuiet before after
 IsReadQuietly (Some Drive) before after = IsQuiet before after
+IsReadQuietly (Some Attest) before after = IsQuiet before after
 IsReadQuietly (Some Check) before after = IsQuiet before after
 
 -- ---- What is written.
@@ -104,6 +107,7 @@ output_by (Some (Text command)) text = output_of command text
 output_by (Some Serve) text = []
 output_by (Some ServeKept) text = []
 output_by (Some Drive) text = []
+output_by (Some Attest) text = []
 output_by (Some Check) text = []
 
 -- ---- Bad lines.
@@ -121,6 +125,7 @@ bad_line_by (Some (Text command)) text = bad_line_of command text
 bad_line_by (Some Serve) text = None
 bad_line_by (Some ServeKept) text = None
 bad_line_by (Some Drive) text = None
+bad_line_by (Some Attest) text = None
 bad_line_by (Some Check) text = None
 
 -- ---- A full link.
@@ -147,6 +152,7 @@ full_by (Some (Text command)) text = full_of command text
 full_by (Some Serve) text = None
 full_by (Some ServeKept) text = None
 full_by (Some Drive) text = None
+full_by (Some Attest) text = None
 full_by (Some Check) text = None
 
 -- This comes of a script alone, of lives or of a generated one.
@@ -180,6 +186,7 @@ answer_to (Some (Text command)) text = answer_of command text
 answer_to (Some Serve) text = Usage
 answer_to (Some ServeKept) text = Usage
 answer_to (Some Drive) text = Usage
+answer_to (Some Attest) text = Usage
 answer_to (Some Check) text = Usage
 
 -- Nothing is written with this outcome.
@@ -192,6 +199,8 @@ writes_nothing SeedFault = true
 writes_nothing KeeperFault = true
 writes_nothing BootsSpent = true
 writes_nothing (Differs packet why) = false
+writes_nothing (Untrusted appraisal) = false
+writes_nothing NoVerdict = false
 writes_nothing Done = false
 writes_nothing WriteFault = false
 writes_nothing (LinkFull line) = false
@@ -211,6 +220,8 @@ ran SeedFault = false
 ran KeeperFault = false
 ran BootsSpent = false
 ran (Differs packet why) = false
+ran (Untrusted appraisal) = false
+ran NoVerdict = false
 ran (BadFrame at) = false
 ran OutOfMemory = false
 
@@ -238,5 +249,6 @@ IsLeft (Some (Text Show)) text old new = new ≡ old
 IsLeft (Some Serve) text old new = new ≡ old
 IsLeft (Some ServeKept) text old new = new ≡ old
 IsLeft (Some Drive) text old new = new ≡ old
+IsLeft (Some Attest) text old new = new ≡ old
 IsLeft (Some Check) text old new = new ≡ old
 IsLeft None text old new = new ≡ old

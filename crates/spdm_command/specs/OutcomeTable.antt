@@ -1,7 +1,7 @@
 -- The exit status and the name of each outcome. This project's own.
 use Rattle.std.specs.Prelude.{ℕ, List, codes}
 use Rattle.spdm_command.specs.declared.outcome.Outcome.{Outcome}
-use Rattle.spdm_command.specs.declared.outcome.Outcome.TheVariants.{Done, Usage, Differs, BadFrame, BadScript, BootsSpent, KeeperFault, ReadFault, WriteFault, OutOfMemory, SeedFault, TooLong, LinkFull}
+use Rattle.spdm_command.specs.declared.outcome.Outcome.TheVariants.{Done, Usage, Differs, BadFrame, BadScript, BootsSpent, KeeperFault, NoVerdict, ReadFault, WriteFault, OutOfMemory, SeedFault, TooLong, LinkFull, Untrusted}
 
 abbrev pub status_of : Outcome → ℕ
 status_of Done = 0
@@ -17,6 +17,8 @@ status_of (LinkFull line) = 9
 status_of (BadFrame at) = 10
 status_of KeeperFault = 11
 status_of BootsSpent = 12
+status_of (Untrusted appraisal) = 13
+status_of NoVerdict = 14
 
 -- The name of the variant, without its fields.
 abbrev pub name_of : Outcome → List ℕ
@@ -33,3 +35,5 @@ name_of (LinkFull line) = codes "LinkFull"
 name_of (BadFrame at) = codes "BadFrame"
 name_of KeeperFault = codes "KeeperFault"
 name_of BootsSpent = codes "BootsSpent"
+name_of (Untrusted appraisal) = codes "Untrusted"
+name_of NoVerdict = codes "NoVerdict"

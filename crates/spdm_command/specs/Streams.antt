@@ -1,11 +1,16 @@
 -- What a command answers to a stream. This project's own.
 use Rattle.std.specs.Prelude.{◌≡◌, Bool, true, false, Option, Some, None, Result, Ok, Err}
 use Rattle.spdm_command.specs.declared.outcome.Outcome.{Outcome}
-use Rattle.spdm_command.specs.declared.outcome.Outcome.TheVariants.{Done, Usage, Differs, BadFrame, BadScript, BootsSpent, KeeperFault, ReadFault, WriteFault, OutOfMemory, SeedFault, TooLong, LinkFull}
+use Rattle.spdm_command.specs.declared.outcome.Outcome.TheVariants.{Done, Usage, Differs, BadFrame, BadScript, BootsSpent, KeeperFault, NoVerdict, ReadFault, WriteFault, OutOfMemory, SeedFault, TooLong, LinkFull, Untrusted}
 use Rattle.spdm_command.specs.declared.words.Command.{Command}
-use Rattle.spdm_command.specs.declared.words.Command.TheVariants.{Check, Drive, Serve, ServeKept, Text}
+use Rattle.spdm_command.specs.declared.words.Command.TheVariants.{Attest, Check, Drive, Serve, ServeKept, Text}
+use Rattle.appraise.specs.declared.appraisal.Appraisal.{Appraisal}
+use Rattle.appraise.specs.declared.appraisal.Appraisal.TheVariants.{Trusted}
+use Rattle.attest_command.specs.InputEnds.{Answers}
+use Rattle.attest_command.specs.Outcome as attested
 use Rattle.boot_keeper.specs.declared.boot_fault.BootFault.TheVariants as boot
 use Rattle.stream_commands.specs.Driven as driven
+use Rattle.stream_commands.specs.InputEnds.{InputEnd}
 use Rattle.stream_commands.specs.Kept as kept
 use Rattle.stream_commands.specs.Kept.{KeeperState}
 use Rattle.stream_commands.specs.Outside.{Outside}
@@ -20,6 +25,7 @@ abbrev pub answers_stream : Option Command → Bool
 answers_stream (Some Serve) = true
 answers_stream (Some ServeKept) = true
 answers_stream (Some Drive) = true
+answers_stream (Some Attest) = true
 answers_stream (Some Check) = false
 answers_stream (Some (Text command)) = false
 answers_stream None = false
@@ -42,6 +48,17 @@ outcome_of_kept (Err (Stream fault)) = outcome_of (Err fault)
 outcome_of_kept (Err (Boot boot.KeeperFault)) = KeeperFault
 outcome_of_kept (Err (Boot boot.Spent)) = BootsSpent
 
+-- The outcome of a verdict, or of there being none.
+abbrev pub outcome_of_verdict : Option Appraisal → Outcome
+outcome_of_verdict (Some Trusted) = Done
+outcome_of_verdict (Some appraisal) = Untrusted appraisal
+outcome_of_verdict None = NoVerdict
+
+-- The outcome of what came of an attestation.
+abbrev pub outcome_of_attestation : Result (Option Appraisal) StreamFault → Outcome
+outcome_of_attestation (Ok verdict) = outcome_of_verdict verdict
+outcome_of_attestation (Err fault) = outcome_of (Err fault)
+
 -- The command asks the keeper for its next boot.
 abbrev pub asks_keeper : Option Command → Bool
 asks_keeper (Some ServeKept) = true
@@ -60,12 +77,25 @@ is_of_keepers KeeperFault = true
 is_of_keepers BootsSpent = true
 is_of_keepers _ = false
 
+-- This comes of an attestation alone.
+abbrev pub is_of_verdicts : Outcome → Bool
+is_of_verdicts (Untrusted appraisal) = true
+is_of_verdicts NoVerdict = true
+is_of_verdicts _ = false
+
+-- The command attests.
+abbrev pub attests : Option Command → Bool
+attests (Some Attest) = true
+attests _ = false
+
 -- This comes of streams alone.
 abbrev pub is_of_streams : Outcome → Bool
 is_of_streams SeedFault = true
 is_of_streams KeeperFault = true
 is_of_streams BootsSpent = true
 is_of_streams (BadFrame at) = true
+is_of_streams (Untrusted appraisal) = true
+is_of_streams NoVerdict = true
 is_of_streams Done = false
 is_of_streams Usage = false
 is_of_streams (BadScript line f) = false
@@ -93,3 +123,15 @@ pub record IsDriven (before after : Outside) (outcome : Outcome) : Type 0 where
   pub answer : Result (Unit {0}) StreamFault
   pub is : outcome ≡ outcome_of answer
   pub answered : driven.IsAnswered before after answer
+
+-- The outcome is that of an answer which came of an attestation so.
+pub record IsAttested (before after : Outside) (outcome : Outcome) : Type 0 where
+  pub answer : Result (Option Appraisal) StreamFault
+  pub is : outcome ≡ outcome_of_attestation answer
+  pub answered : attested.IsAnswered before after answer
+
+-- The outcome is that of an answer to an input that ends so.
+pub record IsAttestedFor (end : InputEnd) (outcome : Outcome) : Type 0 where
+  pub answer : Result (Option Appraisal) StreamFault
+  pub is : outcome ≡ outcome_of_attestation answer
+  pub answers : Answers end answer

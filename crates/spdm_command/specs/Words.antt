@@ -2,7 +2,7 @@
 use Rattle.std.specs.Prelude.{List, [], ◌∷◌, ◌≤◌, ◌-◌, ◌^◌, ◌&&◌, bytes_eq, codes, ℕ, if◌then◌else◌, map, Option, Some, None, String, string_bytes}
 use Rattle.script_text.specs.Numbers.{is_number_in, value_of}
 use Rattle.spdm_command.specs.declared.words.Command.{Command}
-use Rattle.spdm_command.specs.declared.words.Command.TheVariants.{Check, Drive, Serve, ServeKept, Text}
+use Rattle.spdm_command.specs.declared.words.Command.TheVariants.{Attest, Check, Drive, Serve, ServeKept, Text}
 use Rattle.spdm_command.specs.declared.words.TextCommand.{TextCommand}
 use Rattle.spdm_command.specs.declared.words.TextCommand.TheVariants.{Gen, Lives, Run, Show}
 
@@ -14,8 +14,9 @@ command_named word =
     else (if bytes_eq word (codes "show") then Some (Text Show)
     else (if bytes_eq word (codes "serve") then Some Serve
     else (if bytes_eq word (codes "drive") then Some Drive
+    else (if bytes_eq word (codes "attest") then Some Attest
     else (if bytes_eq word (codes "check") then Some Check
-    else None)))))
+    else None))))))
 
 -- The command of two words.
 unfoldable pub command_kept : List ℕ → List ℕ → Option Command
@@ -39,6 +40,7 @@ IsInRange (Text command) = IsTextInRange command
 IsInRange Serve = Unit {0}
 IsInRange ServeKept = Unit {0}
 IsInRange Drive = Unit {0}
+IsInRange Attest = Unit {0}
 IsInRange Check = Unit {0}
 
 -- The command that the words are, each as its bytes.

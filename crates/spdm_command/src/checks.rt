@@ -6,7 +6,7 @@ ghost use Rattle.spdm_basis.specs.Stream.{HasFault, IsQuiet};
 ghost use Rattle.trace_check.specs.Answers.{Finding, HasFinding, IsCapture};
 ghost use Rattle.spdm_command.specs.Answer.{text_limit, writes_nothing};
 ghost use Rattle.spdm_command.specs.Checks.{IsChecked, IsJudgedExactly, is_judged, outcome_for, outcome_of};
-ghost use Rattle.spdm_command.specs.Streams.{is_of_keepers, is_of_streams};
+ghost use Rattle.spdm_command.specs.Streams.{is_of_keepers, is_of_streams, is_of_verdicts};
 
 use crate::outcome::Outcome;
 use spdm_basis::{Sink, Source};
@@ -59,6 +59,7 @@ pub fn check_capture<S: Source, K: Sink>(alloc: Global, source: &mut S, sink: &m
     ensures no_link { (line : ℕ) → result ≢ Outcome.LinkFull line }
     ensures no_stream { is_of_streams result ≡ false }
     ensures no_keeper { is_of_keepers result ≡ false }
+    ensures no_verdict { is_of_verdicts result ≡ false }
     ensures read_fault { result ≡ Outcome.ReadFault
         → HasFault (S.faults source.old) (S.faults source.new) }
     ensures write_fault { result ≡ Outcome.WriteFault

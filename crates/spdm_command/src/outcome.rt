@@ -1,5 +1,6 @@
 ghost use Rattle.std.specs.Prelude.{◌≡◌};
 
+use appraise::Appraisal;
 use script_text::LineFault;
 use spdm_grammar::Why;
 
@@ -36,6 +37,11 @@ pub enum Outcome {
     KeeperFault,
     /// All boot numbers are used up. The seed is gone, and nothing was written.
     BootsSpent,
+    /// The measurements of the responder came, and are not what the policy expects. The stream was read to its end, and
+    /// all was written.
+    Untrusted { appraisal: Appraisal },
+    /// The stream was read to its end, and no measurements came. All was written.
+    NoVerdict,
 }
 
 impl Outcome {
@@ -59,6 +65,8 @@ impl Outcome {
             Outcome::BadFrame { .. } => 10,
             Outcome::KeeperFault => 11,
             Outcome::BootsSpent => 12,
+            Outcome::Untrusted { .. } => 13,
+            Outcome::NoVerdict => 14,
         }
     }
 
@@ -80,6 +88,8 @@ impl Outcome {
             Outcome::BadFrame { .. } => "BadFrame",
             Outcome::KeeperFault => "KeeperFault",
             Outcome::BootsSpent => "BootsSpent",
+            Outcome::Untrusted { .. } => "Untrusted",
+            Outcome::NoVerdict => "NoVerdict",
         }
     }
 }

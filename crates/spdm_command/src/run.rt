@@ -1,4 +1,6 @@
 ghost use Rattle.std.specs.Prelude.{◌≡◌, ◌≢◌, ◌≤◌, ◌<◌, ◌↔◌, ◌⊎◌, [], ℕ, List, Some, None, IsSome, true, false, length};
+ghost use Rattle.attest_command.specs.InputEnds as attesting;
+ghost use Rattle.lives_laws.specs.TextLives.{LivesApartIn, LivesHoldIn};
 ghost use Rattle.script_text.specs.Reading.{bad_line_in};
 ghost use Rattle.script_text.specs.ScriptText.{capture_in};
 ghost use Rattle.script_text.specs.declared.texts.faults.LineFault.{LineFault};
@@ -10,9 +12,9 @@ ghost use Rattle.spdm_basis.specs.Stream.{HasFault, IsQuiet, Takes, TakesPrefix}
 ghost use Rattle.trace_check.specs.Answers.{Finding, HasFinding, IsCapture};
 ghost use Rattle.spdm_command.specs.Answer.{IsLeft, IsReadQuietly, answer_to, bad_line_by, full_by, input_by, is_of_scripts, output_by, ran, reads, runs_script, text_limit, writes_nothing};
 ghost use Rattle.spdm_command.specs.Checks.{IsChecked, IsJudgedExactly, is_judged, is_of_captures, outcome_for};
-ghost use Rattle.spdm_command.specs.Streams.{IsDriven, IsServed, IsServedKept, answers_stream, asks_keeper, is_of_keepers, is_of_streams, is_unasked, outcome_of, outcome_of_kept};
+ghost use Rattle.spdm_command.specs.Streams.{IsAttested, IsAttestedFor, IsDriven, IsServed, IsServedKept, answers_stream, asks_keeper, attests, is_of_keepers, is_of_streams, is_of_verdicts, is_unasked, outcome_of, outcome_of_kept};
 ghost use Rattle.spdm_command.specs.Words.{call_of};
-ghost use Rattle.spdm_command.specs.declared.words.Command.TheVariants.{Check, Drive, Serve, ServeKept, Text};
+ghost use Rattle.spdm_command.specs.declared.words.Command.TheVariants.{Attest, Check, Drive, Serve, ServeKept, Text};
 ghost use Rattle.spdm_command.specs.declared.words.TextCommand.TheVariants.{Gen};
 ghost use Rattle.stream_commands.specs.InputEnds.{HasEnd, InputEnd, IsStreamToDrive, IsStreamToServe, answer_for};
 ghost use Rattle.stream_commands.specs.Kept as kept;
@@ -23,7 +25,7 @@ use crate::checks::check_capture;
 use crate::outcome::Outcome;
 use crate::output::{TextFault, write_output};
 use crate::reading::read_text;
-use crate::streams::{drive_stream, serve_kept_stream, serve_stream};
+use crate::streams::{attest_stream, drive_stream, serve_kept_stream, serve_stream};
 use crate::words::{Command, command_of};
 use boot_keeper::Keeper;
 use link_world::World;
@@ -32,13 +34,14 @@ use std::alloc::Global;
 
 /// The command `spdm` with these arguments. `run` reads a script, runs its requesters and its responder over its link,
 /// writes their trace, and leaves the final world in `left`. `lives` does the same with a script in which all ends start
-/// again at each `cycle`. `show` reads messages, one per line, and writes their names and lengths. `gen SEED COUNT` runs the script generated from a seed below 2^64 and a count of 1 to 20,000
-/// events, writes one line of totals in place of the trace, and leaves the final world in `left`. `serve` reads a
-/// configuration up to the line `end`, takes one seed from `seeds`, and answers the frames behind that line as the
-/// configured responder; `serve kept` does so in the life of the next boot of `keeper`, which it asks for behind the
-/// seed. `drive` does the same as `serve` with the first configured requester, whose commands are frames too. `check`
-/// reads a capture, and writes whether its endpoints could have produced it. Only commands on streams use `seeds`, and
-/// only `serve kept` uses `keeper`.
+/// again at each `cycle`. `show` reads messages, one per line, and writes their names and lengths. `gen SEED COUNT` runs
+/// the script generated from a seed below 2^64 and a count of 1 to 20,000 events, writes one line of totals in place of
+/// the trace, and leaves the final world in `left`. `serve` reads a configuration up to the line `end`, takes one seed
+/// from `seeds`, and answers the frames behind that line as the configured responder; `serve kept` does so in the life of
+/// the next boot of `keeper`, which it asks for behind the seed. `drive` does the same as `serve` with the first
+/// configured requester, whose commands are frames too. `attest` reads a policy behind the configuration, up to the line
+/// `go`, and has that requester measure its responder, up to a verdict. `check` reads a capture, and writes whether its
+/// endpoints could have produced it. Only commands on streams use `seeds`, and only `serve kept` uses `keeper`.
 #[tactic(auto, using(crate::proofs::TopCall::read_is))]
 pub fn spdm<S: Source, K: Sink, E: Seeds, P: Keeper>(
     alloc: Global,
@@ -138,6 +141,21 @@ pub fn spdm<S: Source, K: Sink, E: Seeds, P: Keeper>(
         → IsQuiet (E.faults seeds.old) (E.faults seeds.new)
         → (result ≡ Outcome.OutOfMemory) ⊎ (result ≡ outcome_of (answer_for end)) }
 
+    // The word `attest`: the first requester of the configuration measures its responder over all whole frames, up to a
+    // verdict under the policy behind the configuration.
+    ensures attested { call_of words.now ≡ Some Attest → IsAttested
+        (outside (S.remaining source.old) (K.contents sink.old) (E.left seeds.old)
+        (S.faults source.old) (K.faults sink.old) (E.faults seeds.old))
+        (outside (S.remaining source.new) (K.contents sink.new) (E.left seeds.new)
+        (S.faults source.new) (K.faults sink.new) (E.faults seeds.new)) result }
+    ensures attested_exactly { call_of words.now ≡ Some Attest
+        → (input : List ℕ) (end : InputEnd) → S.remaining source.old ≡ Some input
+        → attesting.HasEnd input end → IsQuiet (S.faults source.old) (S.faults source.new)
+        → IsQuiet (K.faults sink.old) (K.faults sink.new)
+        → IsQuiet (E.faults seeds.old) (E.faults seeds.new)
+        → (result ≡ Outcome.OutOfMemory) ⊎ IsAttestedFor end result }
+    ensures of_verdicts_alone { is_of_verdicts result ≡ true → attests (call_of words.now) ≡ true }
+
     // The word `check`: the verdict on the capture that the source has is told, and its lines are written; or why there
     // is none.
     ensures checked { call_of words.now ≡ Some Check → (text : List ℕ)
@@ -184,6 +202,11 @@ pub fn spdm<S: Source, K: Sink, E: Seeds, P: Keeper>(
         → MatchesAtPacketsIn text }
     ensures sealed_once { (text : List ℕ) → S.remaining source.old ≡ Some text → SealsOnceIn text }
     ensures refused { (text : List ℕ) → S.remaining source.old ≡ Some text → RefusesIn text }
+
+    // And of each text of lives: over all lives, without chance; and that no transcript comes twice, whatever agrees.
+    ensures nothing_old { (text : List ℕ) → S.remaining source.old ≡ Some text → LivesHoldIn text }
+    ensures no_transcript_twice { (text : List ℕ) → S.remaining source.old ≡ Some text
+        → LivesApartIn text }
 
     // Where delivery is honest, each command that could be done is done.
     ensures completes { (text : List ℕ) → S.remaining source.old ≡ Some text → CompletesIn text }
@@ -241,6 +264,7 @@ pub fn spdm<S: Source, K: Sink, E: Seeds, P: Keeper>(
             return serve_kept_stream(alloc, source, sink, seeds, keeper);
         }
         Command::Drive => return drive_stream(alloc, source, sink, seeds),
+        Command::Attest => return attest_stream(alloc, source, sink, seeds),
         Command::Check => return check_capture(alloc, source, sink),
     };
     let text = match read_text(alloc, command, source) {

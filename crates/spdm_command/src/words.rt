@@ -14,6 +14,8 @@ pub enum Command {
     ServeKept,
     /// A requester is driven by a stream of frames.
     Drive,
+    /// A requester appraises its responder's measurements, on a stream of frames.
+    Attest,
     /// A capture is read, and its verdict written.
     Check,
 }
@@ -61,6 +63,8 @@ fn command_named(word: &str) -> Option<Command>
         Some(Command::Serve)
     } else if word == "drive" {
         Some(Command::Drive)
+    } else if word == "attest" {
+        Some(Command::Attest)
     } else if word == "check" {
         Some(Command::Check)
     } else {

@@ -1,3 +1,4 @@
+use Rattle.lives_laws.proofs.TextLives.{lives_are_apart, lives_hold}
 use Rattle.script_laws.proofs.AtPackets.{at_packets}
 use Rattle.script_laws.proofs.RefusedRight.{refuses}
 use Rattle.script_laws.proofs.WorldsRight.{agrees, completes, delivers, matches, seals_once, shows_alike}
@@ -315,3 +316,111 @@ returns-in-ServeKept-clause-generated g c = λ seed count asked. generated_holds
 
 pub returns-in-ServeKept-clause-at_each_packet : goal.returns-in-ServeKept-clause-at_each_packet
 returns-in-ServeKept-clause-at_each_packet g c = λ text held. at_packets text
+
+pub returns-in-Attest-clause-agreement : goal.returns-in-Attest-clause-agreement
+returns-in-Attest-clause-agreement g c = λ text held. (agrees text, shows_alike text)
+
+pub returns-in-Attest-clause-data_prefix : goal.returns-in-Attest-clause-data_prefix
+returns-in-Attest-clause-data_prefix g c = λ text held. delivers text
+
+pub returns-in-Attest-clause-matched : goal.returns-in-Attest-clause-matched
+returns-in-Attest-clause-matched g c = λ text held. matches text
+
+pub returns-in-Attest-clause-sealed_once : goal.returns-in-Attest-clause-sealed_once
+returns-in-Attest-clause-sealed_once g c = λ text held. seals_once text
+
+pub returns-in-Attest-clause-refused : goal.returns-in-Attest-clause-refused
+returns-in-Attest-clause-refused g c = λ text held. refuses text
+
+pub returns-in-Attest-clause-completes : goal.returns-in-Attest-clause-completes
+returns-in-Attest-clause-completes g c = λ text held. completes text
+
+pub returns-in-Attest-clause-generated : goal.returns-in-Attest-clause-generated
+returns-in-Attest-clause-generated g c = λ seed count asked. generated_holds seed count
+
+pub returns-in-Attest-clause-at_each_packet : goal.returns-in-Attest-clause-at_each_packet
+returns-in-Attest-clause-at_each_packet g c = λ text held. at_packets text
+
+pub returns-in_default-clause-nothing_old : goal.returns-in_default-clause-nothing_old
+returns-in_default-clause-nothing_old g c = λ text held. lives_hold text
+
+pub returns-in_default-clause-no_transcript_twice : goal.returns-in_default-clause-no_transcript_twice
+returns-in_default-clause-no_transcript_twice g c = λ text held. lives_are_apart text
+
+pub returns-in-Err-ReadFault-clause-nothing_old : goal.returns-in-Err-ReadFault-clause-nothing_old
+returns-in-Err-ReadFault-clause-nothing_old g c = λ text held. lives_hold text
+
+pub returns-in-Err-ReadFault-clause-no_transcript_twice : goal.returns-in-Err-ReadFault-clause-no_transcript_twice
+returns-in-Err-ReadFault-clause-no_transcript_twice g c = λ text held. lives_are_apart text
+
+pub returns-in-Err-TooLong-clause-nothing_old : goal.returns-in-Err-TooLong-clause-nothing_old
+returns-in-Err-TooLong-clause-nothing_old g c = λ text held. lives_hold text
+
+pub returns-in-Err-TooLong-clause-no_transcript_twice : goal.returns-in-Err-TooLong-clause-no_transcript_twice
+returns-in-Err-TooLong-clause-no_transcript_twice g c = λ text held. lives_are_apart text
+
+pub returns-in-Err-OutOfMemory-clause-nothing_old : goal.returns-in-Err-OutOfMemory-clause-nothing_old
+returns-in-Err-OutOfMemory-clause-nothing_old g c = λ text held. lives_hold text
+
+pub returns-in-Err-OutOfMemory-clause-no_transcript_twice : goal.returns-in-Err-OutOfMemory-clause-no_transcript_twice
+returns-in-Err-OutOfMemory-clause-no_transcript_twice g c = λ text held. lives_are_apart text
+
+pub returns-in-Ok-write_output-clause-nothing_old : goal.returns-in-Ok-write_output-clause-nothing_old
+returns-in-Ok-write_output-clause-nothing_old g c = λ text held. lives_hold text
+
+pub returns-in-Ok-write_output-clause-no_transcript_twice : goal.returns-in-Ok-write_output-clause-no_transcript_twice
+returns-in-Ok-write_output-clause-no_transcript_twice g c = λ text held. lives_are_apart text
+
+pub returns-in-Err-Line-clause-nothing_old : goal.returns-in-Err-Line-clause-nothing_old
+returns-in-Err-Line-clause-nothing_old g c = λ text held. lives_hold text
+
+pub returns-in-Err-Line-clause-no_transcript_twice : goal.returns-in-Err-Line-clause-no_transcript_twice
+returns-in-Err-Line-clause-no_transcript_twice g c = λ text held. lives_are_apart text
+
+pub returns-in-Err-LinkFull-clause-nothing_old : goal.returns-in-Err-LinkFull-clause-nothing_old
+returns-in-Err-LinkFull-clause-nothing_old g c = λ text held. lives_hold text
+
+pub returns-in-Err-LinkFull-clause-no_transcript_twice : goal.returns-in-Err-LinkFull-clause-no_transcript_twice
+returns-in-Err-LinkFull-clause-no_transcript_twice g c = λ text held. lives_are_apart text
+
+pub returns-in-Err-WriteFault-clause-nothing_old : goal.returns-in-Err-WriteFault-clause-nothing_old
+returns-in-Err-WriteFault-clause-nothing_old g c = λ text held. lives_hold text
+
+pub returns-in-Err-WriteFault-clause-no_transcript_twice : goal.returns-in-Err-WriteFault-clause-no_transcript_twice
+returns-in-Err-WriteFault-clause-no_transcript_twice g c = λ text held. lives_are_apart text
+
+pub returns-clause-nothing_old : goal.returns-clause-nothing_old
+returns-clause-nothing_old g c = λ text held. lives_hold text
+
+pub returns-clause-no_transcript_twice : goal.returns-clause-no_transcript_twice
+returns-clause-no_transcript_twice g c = λ text held. lives_are_apart text
+
+pub returns-in-Serve-clause-nothing_old : goal.returns-in-Serve-clause-nothing_old
+returns-in-Serve-clause-nothing_old g c = λ text held. lives_hold text
+
+pub returns-in-Serve-clause-no_transcript_twice : goal.returns-in-Serve-clause-no_transcript_twice
+returns-in-Serve-clause-no_transcript_twice g c = λ text held. lives_are_apart text
+
+pub returns-in-Drive-clause-nothing_old : goal.returns-in-Drive-clause-nothing_old
+returns-in-Drive-clause-nothing_old g c = λ text held. lives_hold text
+
+pub returns-in-Drive-clause-no_transcript_twice : goal.returns-in-Drive-clause-no_transcript_twice
+returns-in-Drive-clause-no_transcript_twice g c = λ text held. lives_are_apart text
+
+pub returns-in-Check-clause-nothing_old : goal.returns-in-Check-clause-nothing_old
+returns-in-Check-clause-nothing_old g c = λ text held. lives_hold text
+
+pub returns-in-Check-clause-no_transcript_twice : goal.returns-in-Check-clause-no_transcript_twice
+returns-in-Check-clause-no_transcript_twice g c = λ text held. lives_are_apart text
+
+pub returns-in-ServeKept-clause-nothing_old : goal.returns-in-ServeKept-clause-nothing_old
+returns-in-ServeKept-clause-nothing_old g c = λ text held. lives_hold text
+
+pub returns-in-ServeKept-clause-no_transcript_twice : goal.returns-in-ServeKept-clause-no_transcript_twice
+returns-in-ServeKept-clause-no_transcript_twice g c = λ text held. lives_are_apart text
+
+pub returns-in-Attest-clause-nothing_old : goal.returns-in-Attest-clause-nothing_old
+returns-in-Attest-clause-nothing_old g c = λ text held. lives_hold text
+
+pub returns-in-Attest-clause-no_transcript_twice : goal.returns-in-Attest-clause-no_transcript_twice
+returns-in-Attest-clause-no_transcript_twice g c = λ text held. lives_are_apart text
