@@ -37,14 +37,6 @@ served_behind prior r (Dropped id ∷ older) = served_behind prior r older
 
 -- ---- The requester.
 
-pub accepted_in : (new old : List Asked) (t : First) → IsAccepted (new ++ old) t → IsAccepted new t ⊎ IsAccepted old t
-accepted_in [] old t a = inr a
-accepted_in (Accepted s ∷ new) old t a = elim a [ inl e ↦ inl (inl e) | inr y ↦ elim (accepted_in new old t y) [ inl x ↦ inl (inr x) | inr z ↦ inr z ] ]
-accepted_in (Started id draw ∷ new) old t a = accepted_in new old t a
-accepted_in (Opened s v ∷ new) old t a = accepted_in new old t a
-accepted_in (marks.Asked.Sealed v b ∷ new) old t a = accepted_in new old t a
-accepted_in (Heard v b reply ∷ new) old t a = accepted_in new old t a
-
 pub accepted_new : (new old : List Asked) (t : First) → IsAccepted new t → IsAccepted (new ++ old) t
 accepted_new [] old t a = elim a [ ]
 accepted_new (Accepted s ∷ new) old t a = elim a [ inl e ↦ inl e | inr y ↦ inr (accepted_new new old t y) ]
@@ -123,13 +115,6 @@ heard_behind u (Opened s v ∷ new) old = heard_behind u new old
 heard_behind u (marks.Asked.Sealed v b ∷ new) old = heard_behind u new old
 
 -- ---- The responder.
-
-pub begun_in : (new old : List Served) (t : First) → HasBegun (new ++ old) t → HasBegun new t ⊎ HasBegun old t
-begun_in [] old t a = inr a
-begun_in (Began s ∷ new) old t a = elim a [ inl e ↦ inl (inl e) | inr y ↦ elim (begun_in new old t y) [ inl x ↦ inl (inr x) | inr z ↦ inr z ] ]
-begun_in (Finished s v ∷ new) old t a = begun_in new old t a
-begun_in (Refused s b ∷ new) old t a = begun_in new old t a
-begun_in (Took v b reply ∷ new) old t a = begun_in new old t a
 
 pub begun_new : (new old : List Served) (t : First) → HasBegun new t → HasBegun (new ++ old) t
 begun_new [] old t a = elim a [ ]
