@@ -28,7 +28,7 @@ use Rattle.spdm_agreement.proofs.Delivery.TakenAtRequester.{next_heard}
 use Rattle.spdm_agreement.proofs.Moves.MarkEffects.{own_key}
 use Rattle.spdm_agreement.proofs.Requester.SealAndHear.{inner_as}
 use Rattle.spdm_agreement.specs.Marks.{Text, heard}
-use Rattle.spdm_agreement.specs.Story.{answer_text, ask_in, ask_of, asked_marks, reply_text, request_text, sent_text, taken_marks}
+use Rattle.spdm_agreement.specs.Story.{Past, answer_text, ask_in, ask_of, asked_from, reply_text, request_text, sent_text, taken_marks}
 use Rattle.spdm_grammar.specs.Message.{ChunkMessage}
 use Rattle.spdm_grammar.specs.Message.RequestMessage.{ChunkGet, GetMeasurements}
 use Rattle.spdm_grammar.specs.declared.messages.error_code.ErrorCode.{ErrorCode}
@@ -64,7 +64,7 @@ error_short r s m f e = (let few = few_more e (answer_bytes r (session_place s) 
 
 -- ---- One exchange.
 
-module _ (q : ReqSetup) (h : History) (f : Free) (r : RspSetup) (tag of : ℕ) (sealed inner : List ℕ) (led : Led) (d : Draw) (sent : Sent) (ask : Ask)
+module _ (prior : Past) (q : ReqSetup) (h : History) (f : Free) (r : RspSetup) (tag of : ℕ) (sealed inner : List ℕ) (led : Led) (d : Draw) (sent : Sent) (ask : Ask)
     (waits : outstanding h ≡ Some sent) (aims : sent.aim ≡ InSession of ask) (is : led ≡ or_lost (came_to q h of ask sealed) (inner_led q h f (came_to q h of ask sealed) ask)) (at : stage_of (session_of of h) ≡ stage.Open) where
   abbrev s : Steps
   s = session_of of h
@@ -85,11 +85,11 @@ module _ (q : ReqSetup) (h : History) (f : Free) (r : RspSetup) (tag of : ℕ) (
   ask_is = ap ask_in waits ∙ ap ask_of aims
 
   -- It is the newest of its session.
-  pub heard_now : heard u (asked_marks q now) ≡ (request, reply) ∷ heard u (asked_marks q h)
+  pub heard_now : heard u (asked_from prior q now) ≡ (request, reply) ∷ heard u (asked_from prior q h)
   heard_now =
-      ap (λ (g : Stage). heard u (taken_marks g q s (outstanding h) sealed inner led ++ asked_marks q h)) at
-      ∙ next_heard u u request reply (Took sealed inner led.effect ∷ s) led.next (asked_marks q h)
-      ∙ ap (λ (b : Bool). cond b ((request, reply) ∷ heard u (asked_marks q h)) (heard u (asked_marks q h))) (own_key u)
+      ap (λ (g : Stage). heard u (taken_marks g q s (outstanding h) sealed inner led ++ asked_from prior q h)) at
+      ∙ next_heard u u request reply (Took sealed inner led.effect ∷ s) led.next (asked_from prior q h)
+      ∙ ap (λ (b : Bool). cond b ((request, reply) ∷ heard u (asked_from prior q h)) (heard u (asked_from prior q h))) (own_key u)
 
   request_inner : (m pad : List ℕ) → length (5 ∷ m) < 65536 → sent_text sent.content ≡ plain_text (5 ∷ m) pad → inner_in request ≡ 5 ∷ m
   request_inner m pad short text = ap (λ (o : Option Sent). inner_in (request_text o)) waits ∙ ap inner_in text ∙ inner_is (5 ∷ m) pad short
@@ -187,11 +187,11 @@ module _ (q : ReqSetup) (h : History) (f : Free) (r : RspSetup) (tag of : ℕ) (
     abbrev Led_on : ℕ → List Turn → Type 0
     Led_on op turns = LeadsOn r n of op turns led
 
-    pub measure_leads : (op : ℕ) → ask ≡ AskMeasure op → AwaitsAnswer h of op (sent_text sent.content) → (turns : List Turn) → AreTurns r n ((request, reply) ∷ heard u (asked_marks q h)) turns → Led_on op turns
+    pub measure_leads : (op : ℕ) → ask ≡ AskMeasure op → AwaitsAnswer h of op (sent_text sent.content) → (turns : List Turn) → AreTurns r n ((request, reply) ∷ heard u (asked_from prior q h)) turns → Led_on op turns
     measure_leads op asks k [] are = absurd are
     measure_leads op asks k (t ∷ before) are = measured_leads n t before are.0 op asks k.pad k.text_is
 
-    pub chunk_leads_on : (op handle number : ℕ) (chunks : List ChunkMessage) → ask ≡ AskChunk op handle number chunks → AwaitsChunk r q h of op handle number chunks (sent_text sent.content)
-        → (turns : List Turn) → AreTurns r n ((request, reply) ∷ heard u (asked_marks q h)) turns → Led_on op turns
+    pub chunk_leads_on : (op handle number : ℕ) (chunks : List ChunkMessage) → ask ≡ AskChunk op handle number chunks → AwaitsChunk prior r q h of op handle number chunks (sent_text sent.content)
+        → (turns : List Turn) → AreTurns r n ((request, reply) ∷ heard u (asked_from prior q h)) turns → Led_on op turns
     chunk_leads_on op handle number chunks asks k [] are = absurd are
     chunk_leads_on op handle number chunks asks k (t ∷ before) are = fetched_leads n t before are.0 op handle number chunks asks (k.fetching n before are.1) k.pad k.text_is

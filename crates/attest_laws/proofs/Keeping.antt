@@ -25,13 +25,12 @@ use Rattle.spdm_agreement.proofs.Worlds.EndSteps.{DoesWell, ServedStarts, Waits,
 use Rattle.spdm_agreement.specs.Claims.{IsReached}
 use Rattle.spdm_agreement.specs.Configured.{IsResponder}
 use Rattle.spdm_agreement.specs.Marks.{Asked, Exchange, Served}
-use Rattle.spdm_agreement.specs.Story.{no_past, record_marks, served_marks}
+use Rattle.spdm_agreement.specs.Story.{Past, record_marks, served_from}
 use Rattle.spdm_basis.specs.declared.causes.record_fault.RecordFault.{RecordFault}
 use Rattle.spdm_grammar.specs.declared.names.request_code.TheConstants.{END_SESSION, GET_VERSION, PSK_EXCHANGE}
 use Rattle.spdm_grammar.specs.declared.told.phase.Phase.{Phase}
 use Rattle.spdm_machine.specs.Keys.{Draw}
 use Rattle.spdm_machine.specs.TagLog.{Log}
-use Rattle.spdm_machine.specs.Terms.{no_negotiation}
 use Rattle.attest_laws.proofs.Exchanges.{AreServed}
 use Rattle.attest_laws.proofs.Served.{AllServed, IsKept, IsRecorded, IsShown, all_stage, cleared, cleared_taken, ended_by, gone, own_stage, past_marks, ticked}
 use Rattle.attest_laws.proofs.Turns.{IsSettled}
@@ -99,15 +98,15 @@ recorded r h tag sealed t reply d setup made drawn live =
       steady = (made_steady r (Sealed tag sealed t reply d ∷ h) made).0;
     }
 
-module _ (r : RspSetup) (h : History) (asked : List Asked) (log : Log) (made : IsMade r h) (reached : IsReached (reading_of r.psk) (serves_state no_past r h asked log)) (old : IsKept r h) (sealed : List ℕ) (t : Turn) (reply : List ℕ) where
+module _ (prior : Past) (r : RspSetup) (h : History) (asked : List Asked) (log : Log) (made : IsMade r h) (reached : IsReached (reading_of r.psk) (serves_state prior r h asked log)) (old : IsKept prior r h) (sealed : List ℕ) (t : Turn) (reply : List ℕ) where
   abbrev of : ℕ
   of = id_in_record sealed
 
   abbrev marks : List Served
-  marks = served_marks r h
+  marks = served_from prior r h
 
   stands : (id : ℕ) → ServedAt r.psk id (session_of id h) marks
-  stands id = served_stands no_past r.psk r h (made_steady r h made) id
+  stands id = served_stands prior r.psk r h (made_steady r h made) id
 
   module _ (e : Event) (s : Events) (is : session_of of h ≡ e ∷ s) (k : IsRecorded r (e ∷ s) sealed t reply) where
     shown : IsShown r (e ∷ s) marks
@@ -117,7 +116,7 @@ module _ (r : RspSetup) (h : History) (asked : List Asked) (log : Log) (made : I
     elsewhere id other =
         past_marks r (session_of id h) marks _
         (λ held. other_stage r (e ∷ s) sealed t reply (t2_of (session_of id h)) marks (stage_of (e ∷ s))
-        (λ past same. other_second r.psk id of (e ∷ s) (session_of id h) asked marks log (holds (reading_of r.psk) (serves_state no_past r h asked log) reached) (λ one. true≢false (sym (eq-eqb of id one) ∙ other))
+        (λ past same. other_second r.psk id of (e ∷ s) (session_of id h) asked marks log (holds (reading_of r.psk) (serves_state prior r h asked log) reached) (λ one. true≢false (sym (eq-eqb of id one) ∙ other))
         ((subst (λ (x : Events). ServedAt r.psk of x marks) is (stands of)).told past) ((stands id).told held) same))
         (old.held id)
 
@@ -149,61 +148,61 @@ module _ (r : RspSetup) (h : History) (asked : List Asked) (log : Log) (made : I
   held_after [] is k = λ id counted. none_by id (of == id) refl is
   held_after (e ∷ s) is k = λ id counted. held_by e s is (k refl) id (of == id) refl counted
 
-  all_after : (s : Events) → session_of of h ≡ s → (is_live s ≡ true → IsRecorded r s sealed t reply) → AllServed r (record_marks r s sealed t reply ++ marks)
+  all_after : (s : Events) → session_of of h ≡ s → (is_live s ≡ true → IsRecorded r s sealed t reply) → AllServed r (prior.served r) → AllServed r (record_marks r s sealed t reply ++ marks)
   all_after [] is k = old.all
-  all_after (e ∷ s) is k = all_stage r e s sealed t reply marks (stage_of (e ∷ s)) refl (k refl).steady (k refl) (shown e s is (k refl)) old.all
+  all_after (e ∷ s) is k = λ begins. all_stage r e s sealed t reply marks (stage_of (e ∷ s)) refl (k refl).steady (k refl) (shown e s is (k refl)) (old.all begins)
 
-sealed_kept : (r : RspSetup) (h : History) (asked : List Asked) (log : Log) (tag : ℕ) (sealed : List ℕ) (t : Turn) (reply : List ℕ) (d : Draw) → IsResponder r → IsMade r (Sealed tag sealed t reply d ∷ h) → length d.bytes ≡ 32
-    → IsReached (reading_of r.psk) (serves_state no_past r h asked log) → IsKept r h → serves.IsKept no_past r (Sealed tag sealed t reply d ∷ h) → IsKept r (Sealed tag sealed t reply d ∷ h)
+sealed_kept : (prior : Past) (r : RspSetup) (h : History) (asked : List Asked) (log : Log) (tag : ℕ) (sealed : List ℕ) (t : Turn) (reply : List ℕ) (d : Draw) → IsResponder r → IsMade r (Sealed tag sealed t reply d ∷ h) → length d.bytes ≡ 32
+    → IsReached (reading_of r.psk) (serves_state prior r h asked log) → IsKept prior r h → serves.IsKept prior r (Sealed tag sealed t reply d ∷ h) → IsKept prior r (Sealed tag sealed t reply d ∷ h)
 unfolding session_of
-sealed_kept r h asked log tag sealed t reply d setup made drawn reached old new =
+sealed_kept prior r h asked log tag sealed t reply d setup made drawn reached old new =
     let s = session_of (id_in_record sealed) h in record {
       kept = new;
-      held = λ id. held_after r h asked log made.1 reached old sealed t reply s refl (λ live. recorded r h tag sealed t reply d setup made drawn live) id (new.counted id);
-      all = all_after r h asked log made.1 reached old sealed t reply s refl (λ live. recorded r h tag sealed t reply d setup made drawn live);
+      held = λ id. held_after prior r h asked log made.1 reached old sealed t reply s refl (λ live. recorded r h tag sealed t reply d setup made drawn live) id (new.counted id);
+      all = all_after prior r h asked log made.1 reached old sealed t reply s refl (λ live. recorded r h tag sealed t reply d setup made drawn live);
     }
 
 -- ---- In the clear.
 
-clear_kept : (r : RspSetup) (h : History) (tag : ℕ) (t : Turn) (d : Draw) → IsKept r h → serves.IsKept no_past r (Clear tag t d ∷ h) → IsKept r (Clear tag t d ∷ h)
+clear_kept : (prior : Past) (r : RspSetup) (h : History) (tag : ℕ) (t : Turn) (d : Draw) → IsKept prior r h → serves.IsKept prior r (Clear tag t d ∷ h) → IsKept prior r (Clear tag t d ∷ h)
 unfolding session_of
-clear_kept r h tag t d old new = record {
+clear_kept prior r h tag t d old new = record {
   kept = new;
-  held = λ id. cleared r id (session_of id h) h t (served_marks r h) (takes GET_VERSION t) (takes PSK_EXCHANGE t) (old.held id);
-  all = λ u. subst (λ (xs : List Exchange). AreServed r xs) (sym (cleared_taken u _ (served_marks r h) (takes PSK_EXCHANGE t))) (old.all u);
+  held = λ id. cleared r id (session_of id h) h t (served_from prior r h) (takes GET_VERSION t) (takes PSK_EXCHANGE t) (old.held id);
+  all = λ begins u. subst (λ (xs : List Exchange). AreServed r xs) (sym (cleared_taken u _ (served_from prior r h) (takes PSK_EXCHANGE t))) (old.all begins u);
 }
 
 -- ---- Whatever a responder does.
 
-after_kept : (r : RspSetup) (h : History) (asked : List Asked) (log : Log) (d : Draw) (o : Outcome) → IsResponder r → IsMade r (after h o) → length d.bytes ≡ 32 → HasDraw d o
-    → IsReached (reading_of r.psk) (serves_state no_past r h asked log) → IsKept r h → serves.IsKept no_past r (after h o) → IsKept r (after h o)
-after_kept r h asked log d (Same body) setup made drawn has reached old new = record { kept = new; held = old.held; all = old.all }
-after_kept r h asked log d (Unopened body) setup made drawn has reached old new = record { kept = new; held = old.held; all = old.all }
-after_kept r h asked log d (Adds (Clear tag t d')) setup made drawn has reached old new = clear_kept r h tag t d' old new
-after_kept r h asked log d (Adds (Sealed tag sealed t reply d')) setup made drawn has reached old new =
-    sealed_kept r h asked log tag sealed t reply d' setup made (ap (λ (x : Draw). length x.bytes) (sym has) ∙ drawn) reached old new
-after_kept r h asked log d (Adds (Queued bytes)) setup made drawn has reached old new = absurd has
-after_kept r h asked log d (Adds (Ticked seconds)) setup made drawn has reached old new = absurd has
-after_kept r h asked log d (Adds (Dropped id)) setup made drawn has reached old new = absurd has
+after_kept : (prior : Past) (r : RspSetup) (h : History) (asked : List Asked) (log : Log) (d : Draw) (o : Outcome) → IsResponder r → IsMade r (after h o) → length d.bytes ≡ 32 → HasDraw d o
+    → IsReached (reading_of r.psk) (serves_state prior r h asked log) → IsKept prior r h → serves.IsKept prior r (after h o) → IsKept prior r (after h o)
+after_kept prior r h asked log d (Same body) setup made drawn has reached old new = record { kept = new; held = old.held; all = old.all }
+after_kept prior r h asked log d (Unopened body) setup made drawn has reached old new = record { kept = new; held = old.held; all = old.all }
+after_kept prior r h asked log d (Adds (Clear tag t d')) setup made drawn has reached old new = clear_kept prior r h tag t d' old new
+after_kept prior r h asked log d (Adds (Sealed tag sealed t reply d')) setup made drawn has reached old new =
+    sealed_kept prior r h asked log tag sealed t reply d' setup made (ap (λ (x : Draw). length x.bytes) (sym has) ∙ drawn) reached old new
+after_kept prior r h asked log d (Adds (Queued bytes)) setup made drawn has reached old new = absurd has
+after_kept prior r h asked log d (Adds (Ticked seconds)) setup made drawn has reached old new = absurd has
+after_kept prior r h asked log d (Adds (Dropped id)) setup made drawn has reached old new = absurd has
 
-pub does_well : DoesWell no_past IsKept
-does_well r h asked log tag body d ready =
-    let step = serves.does_well no_past r h asked log tag body d (record { setup = ready.setup; made = ready.made; kept = ready.kept.kept; reached = ready.reached; fresh = ready.fresh; draw = ready.draw }) in
+pub does_well : (prior : Past) → DoesWell prior (IsKept prior)
+does_well prior r h asked log tag body d ready =
+    let step = serves.does_well prior r h asked log tag body d (record { setup = ready.setup; made = ready.made; kept = ready.kept.kept; reached = ready.reached; fresh = ready.fresh; draw = ready.draw }) in
     let o = responder_does r h tag body d in
     record {
       leads = step.leads;
-      keeps = λ reached. after_kept r h asked log d o ready.setup (does_made r h tag body d ready.made).made ready.draw.bytes (does_draw r h tag body d) ready.reached ready.kept (step.keeps reached);
+      keeps = λ reached. after_kept prior r h asked log d o ready.setup (does_made r h tag body d ready.made).made ready.draw.bytes (does_draw r h tag body d) ready.reached ready.kept (step.keeps reached);
       draws = step.draws;
     }
 
-pub served_starts : ServedStarts IsKept
+pub served_starts : (prior : Past) → serves.BeginsDuly prior → ServedStarts (IsKept prior)
 unfolding session_of
-served_starts r = record { kept = serves.served_starts no_past serves.begins_duly r; held = λ id. gone r []; all = λ u. record { negotiation = no_negotiation; turns = []; are = tt } }
+served_starts prior duly r = record { kept = serves.served_starts prior duly r; held = λ id. gone r (prior.served r); all = λ begins. begins }
 
-pub waits : Waits IsKept
+pub waits : (prior : Past) → Waits (IsKept prior)
 unfolding session_of
-waits r h made old =
-    let l = serves.waits no_past r h made old.kept in (
+waits prior r h made old =
+    let l = serves.waits prior r h made old.kept in (
       λ bytes. record { kept = l.0 bytes; held = old.held; all = old.all },
-      λ seconds. record { kept = l.1 seconds; held = λ id. ticked r (session_of id h) seconds (served_marks r h) (old.held id); all = old.all },
+      λ seconds. record { kept = l.1 seconds; held = λ id. ticked r (session_of id h) seconds (served_from prior r h) (old.held id); all = old.all },
     )

@@ -14,3 +14,4 @@ pub mod AllBlocks
 pub mod Attesting
 pub mod TakingPart
 pub mod Verdicts
+pub mod Lives

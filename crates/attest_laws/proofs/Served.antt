@@ -14,7 +14,7 @@ use Rattle.spdm_agreement.proofs.Responder.OpenSessions.{EndsByFinish, same_seco
 use Rattle.spdm_agreement.specs.Marks.{Exchange, Served, count_of, taken}
 use Rattle.spdm_agreement.specs.Marks.Served.{Finished, Refused, Took}
 use Rattle.spdm_agreement.specs.Reading.{First}
-use Rattle.spdm_agreement.specs.Story.{no_past, reply_text, served_first, served_marks, served_turn, taken_text}
+use Rattle.spdm_agreement.specs.Story.{Past, reply_text, served_first, served_from, served_turn, taken_text}
 use Rattle.spdm_grammar.specs.declared.names.request_code.TheConstants.{PSK_FINISH}
 use Rattle.spdm_grammar.specs.declared.told.phase.Stage.{Stage}
 use Rattle.spdm_grammar.specs.declared.told.phase.Stage.TheVariants as stage
@@ -133,7 +133,8 @@ all_stage r e s sealed t reply m stage.Verifying is steady k i all = all_took r 
 
 -- ---- What a responder keeps.
 
-pub record IsKept (r : RspSetup) (h : History) : Type 0 where
-  pub kept : serves.IsKept no_past r h
-  pub held : (id : ℕ) → IsShown r (session_of id h) (served_marks r h)
-  pub all : AllServed r (served_marks r h)
+-- Of what it goes on from, its exchanges are asked to be such.
+pub record IsKept (prior : Past) (r : RspSetup) (h : History) : Type 0 where
+  pub kept : serves.IsKept prior r h
+  pub held : (id : ℕ) → IsShown r (session_of id h) (served_from prior r h)
+  pub all : AllServed r (prior.served r) → AllServed r (served_from prior r h)

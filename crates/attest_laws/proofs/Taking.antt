@@ -29,7 +29,7 @@ use Rattle.spdm_agreement.proofs.Requester.Entries.{IsTookRecord, clear_entry, r
 use Rattle.spdm_agreement.proofs.Requester.RecordLeads.{NextRecord}
 use Rattle.spdm_agreement.proofs.Requester.Waiting.{waited_for}
 use Rattle.spdm_agreement.specs.Marks.{Exchange, heard}
-use Rattle.spdm_agreement.specs.Story.{ask_in, ask_of, asked_marks, sent_text}
+use Rattle.spdm_agreement.specs.Story.{Past, ask_in, ask_of, asked_from, sent_text}
 use Rattle.spdm_grammar.specs.Message.{ChunkMessage, ResponseMessage}
 use Rattle.spdm_grammar.specs.declared.told.event.Event.TheVariants as event
 use Rattle.spdm_grammar.specs.declared.told.event.Finished.TheVariants as finished
@@ -86,7 +86,7 @@ measured_so r tag of number op sealed inner led d h k command told =
 
 -- ---- A record.
 
-module _ (r : RspSetup) (q : ReqSetup) (h : History) (tag of : ℕ) (sealed inner : List ℕ) (led : Led) (d : Draw) (made : IsMade q (TookRecord tag of sealed inner led d ∷ h)) (older : Awaits r q h (outstanding h)) where
+module _ (prior : Past) (r : RspSetup) (q : ReqSetup) (h : History) (tag of : ℕ) (sealed inner : List ℕ) (led : Led) (d : Draw) (made : IsMade q (TookRecord tag of sealed inner led d ∷ h)) (older : Awaits prior r q h (outstanding h)) where
   abbrev f : Free
   f = body_chosen q h d
 
@@ -102,8 +102,8 @@ module _ (r : RspSetup) (q : ReqSetup) (h : History) (tag of : ℕ) (sealed inne
   l : IsLedBy q h f of sealed led
   l = led_by q h false tag tag (record_body sealed) of sealed inner f led d d made.0
 
-  awaits : AskAwaits r q h of (sent_text l.sent.content) l.ask
-  awaits = subst (AimAwaits r q h l.sent.content) l.aims (subst (Awaits r q h) l.waits older)
+  awaits : AskAwaits prior r q h of (sent_text l.sent.content) l.ask
+  awaits = subst (AimAwaits prior r q h l.sent.content) l.aims (subst (Awaits prior r q h) l.waits older)
 
   live : is_live s ≡ true
   live = (waited_for q h f (record_body sealed) of sealed inner led k made.1).0
@@ -118,17 +118,17 @@ module _ (r : RspSetup) (q : ReqSetup) (h : History) (tag of : ℕ) (sealed inne
 
   -- Where measurements were asked for.
   abbrev Turned : (n : Negotiation) → List Turn → Type 0
-  Turned n turns = AreTurns r n (heard (t2_of s) (asked_marks q now)) turns
+  Turned n turns = AreTurns r n (heard (t2_of s) (asked_from prior q now)) turns
 
-  leads_by : (ask : Ask) → l.ask ≡ ask → AskAwaits r q h of (sent_text l.sent.content) ask → stage_of s ≡ stage_for ask → (op : ℕ) → op_asked ask ≡ Some op → (n : Negotiation) (turns : List Turn) → Turned n turns → LeadsOn r n of op turns led
+  leads_by : (ask : Ask) → l.ask ≡ ask → AskAwaits prior r q h of (sent_text l.sent.content) ask → stage_of s ≡ stage_for ask → (op : ℕ) → op_asked ask ≡ Some op → (n : Negotiation) (turns : List Turn) → Turned n turns → LeadsOn r n of op turns led
   leads_by (AskMeasure op) is waits at asked same n turns are =
       subst (λ (o : ℕ). LeadsOn r n of o turns led) (some_same op asked same)
-      (measure_leads q h f r tag of sealed inner led d l.sent l.ask l.waits l.aims l.is at n op is waits turns
-      (subst (λ (xs : List Exchange). AreTurns r n xs turns) (heard_now q h f r tag of sealed inner led d l.sent l.ask l.waits l.aims l.is at) are))
+      (measure_leads prior q h f r tag of sealed inner led d l.sent l.ask l.waits l.aims l.is at n op is waits turns
+      (subst (λ (xs : List Exchange). AreTurns r n xs turns) (heard_now prior q h f r tag of sealed inner led d l.sent l.ask l.waits l.aims l.is at) are))
   leads_by (AskChunk op handle number before) is waits at asked same n turns are =
       subst (λ (o : ℕ). LeadsOn r n of o turns led) (some_same op asked same)
-      (chunk_leads_on q h f r tag of sealed inner led d l.sent l.ask l.waits l.aims l.is at n op handle number before is waits turns
-      (subst (λ (xs : List Exchange). AreTurns r n xs turns) (heard_now q h f r tag of sealed inner led d l.sent l.ask l.waits l.aims l.is at) are))
+      (chunk_leads_on prior q h f r tag of sealed inner led d l.sent l.ask l.waits l.aims l.is at n op handle number before is waits turns
+      (subst (λ (xs : List Exchange). AreTurns r n xs turns) (heard_now prior q h f r tag of sealed inner led d l.sent l.ask l.waits l.aims l.is at) are))
   leads_by AskFinish is waits at asked same n turns are = absurd (cc)
   leads_by AskData is waits at asked same n turns are = absurd (cc)
   leads_by AskBeat is waits at asked same n turns are = absurd (cc)
@@ -140,7 +140,7 @@ module _ (r : RspSetup) (q : ReqSetup) (h : History) (tag of : ℕ) (sealed inne
   leads = leads_by l.ask refl awaits staged
 
   command_of : (op : ℕ) → op_asked l.ask ≡ Some op → last_command h ≡ Some (Measure (Some of) op)
-  command_of op is = awaited_command r q h of op (sent_text l.sent.content) l.ask awaits is
+  command_of op is = awaited_command prior r q h of op (sent_text l.sent.content) l.ask awaits is
 
   measured : (number : ℕ) → led.event ≡ event.Done (finished.Measured number) → (n : Negotiation) (turns : List Turn) → Turned n turns → IsMeasuredBy r of number led.effect now
   measured number told n turns are =
@@ -194,9 +194,9 @@ module _ (r : RspSetup) (q : ReqSetup) (h : History) (tag of : ℕ) (sealed inne
     asks_none : NoGet led.next → ⊥
     asks_none none = subst NoGetAim aim (subst NoGet next none)
 
-    fetching : op_asked l.ask ≡ Some op → (n : Negotiation) (turns : List Turn) → AreTurns r n (heard (t2_of (session_of id now)) (asked_marks q now)) turns → IsFetching r n op handle number before turns
+    fetching : op_asked l.ask ≡ Some op → (n : Negotiation) (turns : List Turn) → AreTurns r n (heard (t2_of (session_of id now)) (asked_from prior q now)) turns → IsFetching r n op handle number before turns
     fetching asked n turns are =
-        elim (leads op asked n turns (subst (λ (u : List ℕ). AreTurns r n (heard u (asked_marks q now)) turns) second are)) [
+        elim (leads op asked n turns (subst (λ (u : List ℕ). AreTurns r n (heard u (asked_from prior q now)) turns) second are)) [
           | inl quiet ↦ absurd (asks_none quiet.next)
           | inr y ↦ elim y [
             | inl m ↦ absurd (let none : None ≡ Some x = sym (ap (λ (z : Led). z.next) m.is) ∙ next in cc)
@@ -204,7 +204,7 @@ module _ (r : RspSetup) (q : ReqSetup) (h : History) (tag of : ℕ) (sealed inne
           ]
         ]
 
-  ask_by : (x : Sent) (id : ℕ) (ask : Ask) → led.next ≡ Some x → x.aim ≡ InSession id ask → AskShape of (op_asked l.ask) id (sent_text x.content) ask → AskAwaits r q now id (sent_text x.content) ask
+  ask_by : (x : Sent) (id : ℕ) (ask : Ask) → led.next ≡ Some x → x.aim ≡ InSession id ask → AskShape of (op_asked l.ask) id (sent_text x.content) ask → AskAwaits prior r q now id (sent_text x.content) ask
   ask_by x id (AskMeasure op) next aim shaped = absurd shaped
   ask_by x id (AskChunk op handle number before) next aim shaped = record {
     pad = shaped.2.0;
@@ -219,27 +219,27 @@ module _ (r : RspSetup) (q : ReqSetup) (h : History) (tag of : ℕ) (sealed inne
   ask_by x id AskVerify next aim shaped = tt
   ask_by x id AskEnd next aim shaped = tt
 
-  aim_by : (x : Sent) (aim : Aim) → led.next ≡ Some x → x.aim ≡ aim → AimShape of (op_asked l.ask) x.content aim → AimAwaits r q now x.content aim
+  aim_by : (x : Sent) (aim : Aim) → led.next ≡ Some x → x.aim ≡ aim → AimShape of (op_asked l.ask) x.content aim → AimAwaits prior r q now x.content aim
   aim_by x (Plain v) next is shaped = tt
   aim_by x (ByChunks v handle number) next is shaped = tt
   aim_by x (ForChunk v handle number before) next is shaped = tt
   aim_by x (InSession id ask) next is shaped = ask_by x id ask next is shaped
 
-  next_by : (o : Option Sent) → led.next ≡ o → NextShape of (op_asked l.ask) o → Awaits r q now o
+  next_by : (o : Option Sent) → led.next ≡ o → NextShape of (op_asked l.ask) o → Awaits prior r q now o
   next_by None is shaped = tt
   next_by (Some x) is shaped = aim_by x x.aim is refl shaped
 
-  next_awaits : Awaits r q now led.next
+  next_awaits : Awaits prior r q now led.next
   next_awaits = next_by led.next refl shape.next
 
 -- ---- All that a requester did.
 
-pub takes : (r : RspSetup) (q : ReqSetup) (h : History) → IsMade q h → Awaits r q h (outstanding h) × AreMeasured r q h
-takes r q [] made = (tt, tt)
-takes r q (Told c x d ∷ older) made = (told_awaits r q older c x d made.0, (takes r q older made.1).1)
-takes r q (TookClear tag m led d ∷ older) made =
+pub takes : (prior : Past) (r : RspSetup) (q : ReqSetup) (h : History) → IsMade q h → Awaits prior r q h (outstanding h) × AreMeasured prior r q h
+takes prior r q [] made = (tt, tt)
+takes prior r q (Told c x d ∷ older) made = (told_awaits prior r q older c x d made.0, (takes prior r q older made.1).1)
+takes prior r q (TookClear tag m led d ∷ older) made =
     let f = body_chosen q older d in
-    (clear_led_awaits r q older (TookClear tag m led d ∷ older) f (clear_body m) m led (clear_entry q older false tag tag (clear_body m) m f led d d made.0), (takes r q older made.1).1)
-takes r q (TookRecord tag of sealed inner led d ∷ older) made =
-    let was = takes r q older made.1 in
-    (next_awaits r q older tag of sealed inner led d made was.0, (measured r q older tag of sealed inner led d made was.0, was.1))
+    (clear_led_awaits prior r q older (TookClear tag m led d ∷ older) f (clear_body m) m led (clear_entry q older false tag tag (clear_body m) m f led d d made.0), (takes prior r q older made.1).1)
+takes prior r q (TookRecord tag of sealed inner led d ∷ older) made =
+    let was = takes prior r q older made.1 in
+    (next_awaits prior r q older tag of sealed inner led d made was.0, (measured prior r q older tag of sealed inner led d made was.0, was.1))

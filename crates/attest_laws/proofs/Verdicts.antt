@@ -13,7 +13,6 @@ use Rattle.spdm_agreement.specs.Configured.{IsConfigured, IsRequester, setups_of
 use Rattle.spdm_grammar.specs.declared.names.TheConstants.{ALL_BLOCKS}
 use Rattle.spdm_machine.proofs.Members.{IsIn, all_in, in_map, map_in}
 use Rattle.spdm_progress.proofs.QuietWorlds.{always_differ}
-use Rattle.world_machine.specs.Chance.{NoChance}
 use Rattle.world_machine.specs.Setup.{WorldSetup}
 use Rattle.world_machine.specs.Trace.{world_after}
 use Rattle.world_machine.specs.World.{World, new_world, requester_of}
@@ -27,7 +26,7 @@ use Rattle.attest_laws.proofs.Blocks.{stays_set_up}
 use Rattle.attest_laws.proofs.Following.{Stands}
 use Rattle.attest_laws.proofs.TakingPart.{all_stand}
 use Rattle.attest_laws.proofs.Worlds.{measured_in}
-use Rattle.attest_laws.specs.Attested.{AttestsAsConfigured, Happened, MayAllHappen, WorldsAttestAsConfigured, attested_after, events_after}
+use Rattle.attest_laws.specs.Attested.{AttestsAsConfigured, DecidesAsConfigured, Happened, MayAllHappen, WorldsAttestAsConfigured, attested_after, events_after}
 use Rattle.attest_laws.specs.Measured.{MeasuresAsConfigured, configured_record}
 
 -- ---- The beginning.
@@ -84,23 +83,22 @@ module _ (w : WorldSetup) (c : IsConfigured w) (n : ℕ) (requester : Requesting
   stands : Stands w.responder.part n requester.setup.eid now.requester world
   stands = all_stand w.responder.part n requester.setup.eid first happened (new_world w) may (begins w c n requester is)
 
-  measured : NoChance world.log → (blocks : List ℕ) → now.decision ≡ Measured blocks → blocks ≡ configured_record w.responder.part ALL_BLOCKS
-  measured chance blocks decided =
-      let kept = attends first happened (attends_first w c n requester is rules) in
-      let all = measured_in w c (events_after n first happened) chance now.requester (requester_in n world now.requester stands.at.is) in
-      all_blocks w.responder.part blocks now.requester.history kept.requester.asks (subst (λ (part : RspPart). MeasuresAsConfigured part now.requester.history) stands.setup.part_is all)
-      (was_decided now blocks kept decided)
+  -- Where requesters measure what the responder is set up with.
+  module _ (all : (a : Requesting) → IsIn world.requesters a → MeasuresAsConfigured world.responder.part a.history) where
+    measured : (blocks : List ℕ) → now.decision ≡ Measured blocks → blocks ≡ configured_record w.responder.part ALL_BLOCKS
+    measured blocks decided =
+        let kept = attends first happened (attends_first w c n requester is rules) in
+        let measures = all now.requester (requester_in n world now.requester stands.at.is) in
+        all_blocks w.responder.part blocks now.requester.history kept.requester.asks (subst (λ (part : RspPart). MeasuresAsConfigured part now.requester.history) stands.setup.part_is measures)
+        (was_decided now blocks kept decided)
 
-  verdict : NoChance world.log → (appraisal : Appraisal) → IsAnswer rules now.decision (Verdict appraisal) → IsTheAppraisal rules (configured_record w.responder.part ALL_BLOCKS) appraisal
-  verdict chance appraisal answer = answered_so rules (configured_record w.responder.part ALL_BLOCKS) now.decision (measured chance) appraisal answer
+    pub decides : DecidesAsConfigured w.responder.part rules now.decision
+    decides =
+        let answered = answered_so rules (configured_record w.responder.part ALL_BLOCKS) now.decision measured in
+        record { measured = measured; verdict = answered; trusted = λ appraisal answer. trusted_so rules (configured_record w.responder.part ALL_BLOCKS) appraisal (answered appraisal answer) }
 
   attested : AttestsAsConfigured w n first happened
-  attested = record {
-    is = stands.at.is;
-    measured = measured;
-    verdict = verdict;
-    trusted = λ chance appraisal answer. trusted_so rules (configured_record w.responder.part ALL_BLOCKS) appraisal (verdict chance appraisal answer);
-  }
+  attested = record { is = stands.at.is; decides = λ chance. decides (measured_in w c (events_after n first happened) chance) }
 
 pub worlds_attest : WorldsAttestAsConfigured
 worlds_attest w c n requester is rules happened may = attested w c n requester is rules happened may

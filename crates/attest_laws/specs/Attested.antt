@@ -12,6 +12,7 @@ use Rattle.requester_machine.specs.History.{outstanding}
 use Rattle.requester_machine.specs.Message.{Command, Sent}
 use Rattle.requester_machine.specs.Message.Command.{Connect, End, Measure, Open, Retry}
 use Rattle.requester_machine.specs.Requesting.{Requesting, requester_given}
+use Rattle.responder_machine.specs.Setup.{RspPart}
 use Rattle.script_text.specs.declared.texts.rule.Rule.{Rule}
 use Rattle.spdm_agreement.specs.Configured.{IsConfigured}
 use Rattle.spdm_grammar.specs.declared.names.TheConstants.{ALL_BLOCKS}
@@ -115,19 +116,22 @@ events_after n a (one ∷ others) = events_by n a one ++ events_after n (atteste
 
 -- ---- The verdict.
 
--- It does what requester n of the world does by these events, whatever happens. So where nothing agrees by chance, the
--- record that it appraises is that of all blocks that the responder is set up with; its verdict is what this record comes
--- to under the rules; and so it is `Trusted` exactly where this record is trusted.
+-- What is decided, under these rules, where the responder is set up like this. The record that is appraised is that of
+-- all its blocks; the verdict is what this record comes to under the rules; and so it is `Trusted` exactly where this
+-- record is trusted.
+pub record DecidesAsConfigured (part : RspPart) (rules : List Rule) (decision : Decision) : Type 0 where
+  pub measured : (blocks : List ℕ) → decision ≡ Measured blocks → blocks ≡ configured_record part ALL_BLOCKS
+  pub verdict : (appraisal : Appraisal) → IsAnswer rules decision (Verdict appraisal)
+      → IsTheAppraisal rules (configured_record part ALL_BLOCKS) appraisal
+  pub trusted : (appraisal : Appraisal) → IsAnswer rules decision (Verdict appraisal)
+      → (appraisal ≡ Trusted) ↔ IsTrusted rules (configured_record part ALL_BLOCKS)
+
+-- Whatever happens, the attesting requester does what requester n of the world does by these events. So where nothing
+-- agrees by chance, it decides by what the responder is set up with.
 pub record AttestsAsConfigured (w : WorldSetup) (n : ℕ) (a : Attesting) (happened : List Happened) : Type 0 where
   pub is : requester_of n (world_after w (events_after n a happened)) ≡ Some (attested_after a happened).requester
-  pub measured : NoChance (world_after w (events_after n a happened)).log
-      → (blocks : List ℕ) → (attested_after a happened).decision ≡ Measured blocks → blocks ≡ configured_record w.responder.part ALL_BLOCKS
-  pub verdict : NoChance (world_after w (events_after n a happened)).log
-      → (appraisal : Appraisal) → IsAnswer a.rules (attested_after a happened).decision (Verdict appraisal)
-      → IsTheAppraisal a.rules (configured_record w.responder.part ALL_BLOCKS) appraisal
-  pub trusted : NoChance (world_after w (events_after n a happened)).log
-      → (appraisal : Appraisal) → IsAnswer a.rules (attested_after a happened).decision (Verdict appraisal)
-      → (appraisal ≡ Trusted) ↔ IsTrusted a.rules (configured_record w.responder.part ALL_BLOCKS)
+  pub decides : NoChance (world_after w (events_after n a happened)).log
+      → DecidesAsConfigured w.responder.part a.rules (attested_after a happened).decision
 
 -- So it is in every configured world, for each of its requesters, under any rules.
 abbrev pub WorldsAttestAsConfigured : Type 0

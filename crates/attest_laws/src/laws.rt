@@ -1,6 +1,7 @@
 //! What attestation may rely on, each law stated as the contract of an empty function.
 
 ghost use Rattle.attest_laws.specs.Attested.{WorldsAttestAsConfigured};
+ghost use Rattle.attest_laws.specs.Lives.{LivesAttestAsConfigured, LivesMeasureAsConfigured};
 ghost use Rattle.attest_laws.specs.Measured.{WorldsMeasureAsConfigured};
 
 /// In every world that a set-up and events lead to, where no two tags agree by chance, the record of each `measured` in
@@ -15,4 +16,14 @@ pub fn measured_as_configured()
 /// what this record comes to under its rules, and `Trusted` exactly where this record is trusted.
 pub fn attested_as_configured()
     ensures { WorldsAttestAsConfigured }
+{}
+
+/// So it is of measurements in each life of ends that start again, where no two tags of all lives agree by chance.
+pub fn measured_in_lives()
+    ensures { LivesMeasureAsConfigured }
+{}
+
+/// So it is of an attesting requester in a life behind others.
+pub fn attested_in_lives()
+    ensures { LivesAttestAsConfigured }
 {}
