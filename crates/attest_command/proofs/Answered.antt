@@ -1,6 +1,5 @@
 -- What is answered to an input, by what its beginning and its frames came to.
-use Rattle.std.proofs.Common.{◌≡◌, ◌∙◌, ◌≤◌, ◌<◌, inl, inr, ℕ, List, [], refl, ap, sym, subst, length, Option, Some, Ok}
-use Rattle.std.specs.Option.{option_map}
+use Rattle.std.proofs.Common.{◌≡◌, ◌≤◌, inl, inr, ℕ, List, [], refl, sym, subst, Option, Some, Ok}
 use Rattle.appraise.specs.declared.appraisal.Appraisal.{Appraisal}
 use Rattle.attest_command.proofs.Streams.{in_part, so_far, whole, with_verdict}
 use Rattle.attest_command.specs.Begun.{IsBegun, IsBeginCause, setting_as}
@@ -8,31 +7,21 @@ use Rattle.attest_command.specs.Outcome as outcome
 use Rattle.attest_command.specs.Outcome.{IsAnswered, IsBegunToAttest, IsCause, IsSetUp}
 use Rattle.attest_command.specs.Text.{stream_in}
 use Rattle.attest_command.specs.declared.begin.Begun.{Begun}
-use Rattle.attestor.specs.Attesting.{Attesting, attesting_over}
+use Rattle.attestor.specs.Attesting.{Attesting}
 use Rattle.frame_stream.proofs.Fronts.{fault_later}
 use Rattle.frame_stream.specs.Frames.{Ending}
 use Rattle.frame_stream.specs.Frames.Ending.{Bad, TooLong}
 use Rattle.frame_stream.specs.Runs.{Counts}
 use Rattle.requester_attest.specs.Attested.{Appraises, HasVerdict, IsAttested, IsAttestedInPart, first_attesting}
 use Rattle.requester_attest.specs.Standing as attesting
-use Rattle.requester_drive.proofs.Faults.{some_requester}
 use Rattle.requester_drive.specs.declared.fault.DriveFault.{DriveFault}
 use Rattle.requester_drive.specs.declared.fault.DriveFault.TheVariants as drive
-use Rattle.requester_machine.specs.Requesting.{Requesting}
-use Rattle.script_text.specs.declared.configuration.config.ScriptConfig.{ScriptConfig}
-use Rattle.script_text.specs.declared.texts.rule.Rule.{Rule}
 use Rattle.spdm_basis.specs.Stream.{HasFault}
 use Rattle.stream_commands.specs.Begun.{Tries}
 use Rattle.stream_commands.specs.Outside.{Outside, outside}
 use Rattle.stream_commands.specs.Told.{IsDriveTold}
 use Rattle.stream_commands.specs.declared.fault.StreamFault.{StreamFault}
 use Rattle.stream_commands.specs.declared.fault.StreamFault.TheVariants as fault
-
--- there is a first requester, which appraises
-pub some_attesting : (c : ScriptConfig) (rules : List Rule) (seed : List ℕ) → 0 < length c.requesters → (a : Attesting) × (first_attesting c rules seed ≡ Some a)
-some_attesting c rules seed some =
-    let first = some_requester c seed some in
-    (attesting_over first.0 rules, ap (option_map (λ (r : Requesting). attesting_over r rules)) first.1)
 
 -- Where there is no beginning nothing was written, and no seed is gone.
 pub not_begun : (left rest held : Option (List ℕ)) (seeds others : Option (List (List ℕ))) (n : Tries) (written : ℕ) (f : StreamFault) → others ≡ seeds → IsBeginCause left n f →

@@ -56,7 +56,7 @@ module _ (before after : Outside) (input : List ℕ) (left : before.left ≡ Som
   answer_is (Ok verdict) is =
       let own = is.0 in
       let set = own.set_up.set input left in
-      inr (InStream Done, (set.0, (own.setting, set.1, (own.attested.whole.frames, own.attested.whole.stream (stream_behind input) (ap stream_in left)))), tt)
+      inr (InStream Done, (set.0, (own.setting, set.1, (own.attested.whole.frames, own.attested.whole.stream (stream_behind input) (ap stream_in left)))), refl)
   answer_is (Err fault.ReadFault) is = not_quiet before.read_faults after.read_faults read is.0
   answer_is (Err fault.WriteFault) is = not_quiet before.write_faults after.write_faults written is.0
   answer_is (Err fault.SeedFault) is = not_quiet before.seed_faults after.seed_faults seeded is.0

@@ -1,7 +1,7 @@
 pub mod Policies
 pub mod LineCounts
-pub mod Texts
-pub mod Parsing
+pub mod ReadTexts
+pub mod ParsedTexts
 pub mod Streams
 pub mod Answered
 pub mod Exactly

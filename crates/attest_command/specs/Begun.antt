@@ -1,5 +1,6 @@
 -- What precedes a stream: a configuration and a policy, and the seed of the requester that they set up. This project's own.
-use Rattle.std.specs.Prelude.{◌≡◌, ◌++◌, ℕ, List, Option, Some, Result, Ok, Err}
+use Rattle.std.specs.Prelude.{◌≡◌, ◌++◌, ℕ, List, Option, Some, None, Result, Ok, Err}
+use Rattle.appraise.specs.Policies.{policy_fault}
 use Rattle.attest_command.specs.Policy.{policy_of}
 use Rattle.attest_command.specs.Text.{IsBadText, IsLongText, IsSet, Setting, setting_in, stream_behind}
 use Rattle.attest_command.specs.declared.begin.Begun.{Begun}
@@ -47,7 +48,9 @@ told_of script.OutOfMemory = fault.OutOfMemory
 
 -- What was parsed of two texts.
 abbrev pub IsParsed : Texts → Result Parsed StreamFault → Type 0
-IsParsed texts (Ok parsed) = (setting_in texts.config texts.policy ≡ Ok (setting_as parsed)) × (config_in texts.config ≡ Ok parsed.config)
+IsParsed texts (Ok parsed) =
+    (setting_in texts.config texts.policy ≡ Ok (setting_as parsed)) × (config_in texts.config ≡ Ok parsed.config)
+    × (policy_fault parsed.policy ≡ None)
 IsParsed texts (Err (fault.BadScript line f)) = bad_line_in (setting_in texts.config texts.policy) ≡ Some (record { line = line; fault = f })
 IsParsed texts (Err fault.OutOfMemory) = Unit {0}
 IsParsed texts (Err other) = ⊥
@@ -60,6 +63,7 @@ pub record IsBegun (left : Option (List ℕ)) (seeds : Option (List (List ℕ)))
   pub set : IsSet (setting_as begun.parsed) left
   pub text : List ℕ
   pub is : config_in text ≡ Ok begun.parsed.config
+  pub sound : policy_fault begun.parsed.policy ≡ None
   pub read : (input : List ℕ) → left ≡ Some input → (behind : List ℕ) × (rest ≡ Some behind) × (stream_behind input ≡ begun.before ++ behind)
   pub seed : GivesSeed seeds begun.seed others
 

@@ -1,5 +1,5 @@
 -- How an input ends, and what is answered to it. This project's own.
-use Rattle.std.specs.Prelude.{◌≡◌, ◌<◌, ◌≤◌, ℕ, List, length, Option, Some, Result, Ok, Err, IsOk}
+use Rattle.std.specs.Prelude.{◌≡◌, ◌<◌, ◌≤◌, ℕ, List, length, Option, Some, Result, Ok, Err, is_ok, true}
 use Rattle.appraise.specs.declared.appraisal.Appraisal.{Appraisal}
 use Rattle.attest_command.specs.Text.{Setting, setting_before, stream_behind, whole_text}
 use Rattle.frame_stream.specs.Frames.{Ending, GivenFrame, IsStream, stream_limit}
@@ -27,6 +27,6 @@ HasEnd input (InStream ending) =
 abbrev pub Answers : InputEnd → Result (Option Appraisal) StreamFault → Type 0
 Answers LongText answer = answer ≡ Err fault.TooLong
 Answers (BadText bad) answer = answer ≡ Err (fault.BadScript bad.line bad.fault)
-Answers (InStream Done) answer = IsOk answer
+Answers (InStream Done) answer = is_ok answer ≡ true
 Answers (InStream (Bad at)) answer = answer ≡ Err (fault.BadFrame at)
 Answers (InStream TooLong) answer = answer ≡ Err fault.TooLong

@@ -6,7 +6,8 @@ ghost use Rattle.stream_commands.specs.InputEnds.{InputEnd};
 ghost use Rattle.stream_commands.specs.Outside.{outside};
 ghost use Rattle.stream_commands.specs.Told.{IsDriveTold, IsOfDriving};
 
-use crate::begin::begin;
+use crate::begin::{Begun, begin};
+use crate::parsing::Parsed;
 use appraise::Appraisal;
 use requester_attest::{DriveFault, attest};
 use spdm_basis::{Seeds, Sink, Source};
@@ -60,12 +61,18 @@ pub fn attest_input<S: Source, K: Sink, E: Seeds>(
         Ok(begun) => begun,
         Err(fault) => return Err(fault),
     };
+    let Begun {
+        parsed,
+        seed,
+        before,
+    } = begun;
+    let Parsed { config, policy } = parsed;
     match attest(
         alloc,
-        &begun.parsed.config,
-        begun.parsed.policy,
-        begun.seed,
-        begun.before.as_slice(),
+        &config,
+        policy,
+        seed,
+        before.as_slice(),
         source,
         sink,
     ) {

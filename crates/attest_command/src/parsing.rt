@@ -3,7 +3,7 @@ ghost use Rattle.attest_command.specs.Begun.{IsParsed, told_of};
 
 use crate::line_count::count_of_lines;
 use crate::texts::Texts;
-use appraise::{Policy, PolicyFault};
+use appraise::Policy;
 use script_text::{LineFault, ScriptConfig, ScriptFault, TEXT_LIMIT, parse_config, parse_policy};
 use std::alloc::Global;
 use stream_commands::StreamFault;
@@ -43,9 +43,9 @@ pub(crate) fn parse(alloc: Global, texts: &Texts) -> Result<Parsed, StreamFault>
         Ok(rules) => rules,
         Err(fault) => return Err(fault_of(fault)),
     };
+    // Rules that were read make a policy (`read_rules_are_sound`), so nothing but memory can be wanting.
     match Policy::new(alloc, rules.as_slice()) {
         Ok(policy) => Ok(Parsed { config, policy }),
-        Err(PolicyFault::OutOfMemory) => Err(StreamFault::OutOfMemory),
-        Err(_) => unreachable!(),
+        Err(_) => Err(StreamFault::OutOfMemory),
     }
 }

@@ -1,8 +1,10 @@
 -- What stands while an attestor reads its stream, and what the calls answer. This project's own.
-use Rattle.std.specs.Prelude.{◌≡◌, ◌++◌, ℕ, List, Bool, true, false, Option, Result, Ok, Err}
+use Rattle.std.specs.Prelude.{◌≡◌, ◌++◌, ℕ, List, Bool, true, false, Option, Some, Result, Ok, Err}
 use Rattle.appraise.specs.declared.appraisal.Appraisal.{Appraisal}
 use Rattle.attestor.specs.Attesting.{AttestStep, Attesting, attesting_started}
 use Rattle.attestor.specs.Standing as attestor
+use Rattle.attestor.specs.declared.progressed.Progressed.{Progressed}
+use Rattle.attestor.specs.declared.progressed.Progressed.TheVariants as progress
 use Rattle.frame_stream.specs.Frames.{GivenFrame}
 use Rattle.frame_stream.specs.Frames.Ending.{Bad, TooLong}
 use Rattle.frame_stream.specs.Runs.{AreRead, Counts, IsOver}
@@ -22,6 +24,12 @@ pub record StandsFor (seen : Attending) (appraised : List ℕ → Appraisal) (a 
   pub appraises : Appraises a.rules appraised
   pub verdict : seen.verdict ≡ verdict_of appraised a.decision
 
+-- The verdict after a packet that came to this.
+abbrev pub verdict_after : Progressed → (before : Option Appraisal) → Option Appraisal
+verdict_after progress.Going before = before
+verdict_after (progress.Verdict appraisal) before = Some appraisal
+verdict_after progress.Failed before = before
+
 -- It is kept of some attestor.
 pub record IsKept (seen : Attending) : Type 0 where
   pub appraised : List ℕ → Appraisal
@@ -35,6 +43,10 @@ abbrev pub IsAttestedBy : (List ℕ → Appraisal) → AttestStep → (held : Op
 IsAttestedBy appraised step held (Ok done) new holds = StandsFor new appraised step.after × Takes held (step_frames appraised step) holds
 IsAttestedBy appraised step held (Err fault.WriteFault) new holds = TakesPrefix held (step_frames appraised step) holds
 IsAttestedBy appraised step held (Err other) new holds = ⊥
+
+-- The first request was written, and what is kept is that of the attestor after it.
+abbrev pub IsStarted : (List ℕ → Appraisal) → Attesting → (held : Option (List ℕ)) → (new : Attending) → (holds : Option (List ℕ)) → Type 0
+IsStarted appraised a held new holds = StandsFor new appraised (attesting_started a).after × Takes held (step_frames appraised (attesting_started a)) holds
 
 -- A frame was read, and all that it led to was written.
 pub record IsAnswered (appraised : List ℕ → Appraisal) (a : Attesting) (old : Attending) (before held : Option (List ℕ)) (new : Attending) (after holds : Option (List ℕ)) : Type 0 where

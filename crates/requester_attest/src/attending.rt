@@ -1,4 +1,5 @@
 ghost use Rattle.std.specs.Prelude.{◌≡◌};
+ghost use Rattle.requester_attest.specs.Standing.{verdict_after};
 ghost use Rattle.requester_drive.specs.Told.{told_of};
 
 use crate::making::first_attestor;
@@ -9,7 +10,7 @@ use frame_stream::{FrameFault, FrameKind, FrameReader, Kinds};
 use mctp_framing::PacketList;
 use requester_drive::DriveFault;
 use script_text::ScriptConfig;
-use spdm_basis::{Sink, Source};
+use spdm_basis::{OutFault, Sink, Source};
 use std::alloc::Global;
 
 // An attestor reads packets and seconds that passed.
@@ -38,16 +39,26 @@ fn fault_of(fault: FrameFault) -> DriveFault
     }
 }
 
+// The verdict after a packet that came to this.
+fn verdict_after(progress: Progressed, before: Option<Appraisal>) -> Option<Appraisal>
+    ensures { result ≡ verdict_after progress before }
+{
+    match progress {
+        Progressed::Verdict(appraisal) => Some(appraisal),
+        Progressed::Going | Progressed::Failed => before,
+    }
+}
+
 impl Attending {
-    ghost use Rattle.std.specs.Prelude.{◌≡◌, ◌≤◌, ◌<◌, ℕ, List, Some, IfErr, IfOk, OnErr, length};
+    ghost use Rattle.std.specs.Prelude.{◌≡◌, ◌≤◌, ◌<◌, ℕ, List, Some, IfErr, IfOk, OnErr, OnOk, length};
     ghost use Rattle.appraise.specs.declared.appraisal.Appraisal.{Appraisal};
     ghost use Rattle.attestor.specs.Attesting.{Attesting, attesting_given, attesting_started, attesting_timed};
     ghost use Rattle.frame_stream.specs.Frames.{stream_limit};
     ghost use Rattle.frame_stream.specs.Standing.{IsNew, content_in};
-    ghost use Rattle.requester_attest.specs.Attested.{Appraises, attested_kinds, first_attesting};
-    ghost use Rattle.requester_attest.specs.Standing.{IsAttestedBy, IsKept, IsStep, IsStepFault, StandsFor};
+    ghost use Rattle.requester_attest.specs.Attested.{Appraises, attested_kinds, first_attesting, step_frames};
+    ghost use Rattle.requester_attest.specs.Standing.{IsAttestedBy, IsKept, IsStarted, IsStep, IsStepFault, StandsFor};
     ghost use Rattle.requester_drive.specs.Told.{IsEarly};
-    ghost use Rattle.spdm_basis.specs.Stream.{HasFault};
+    ghost use Rattle.spdm_basis.specs.Stream.{HasFault, TakesPrefix};
 
     // An attestor over the first requester of a configuration with this seed, and its stream, of which some bytes were
     // read already. Allocates all its memory here.
@@ -84,18 +95,22 @@ impl Attending {
     }
 
     // Writes the first request.
-    pub(crate) fn begin<K: Sink>(&mut self, sink: &mut K) -> Result<(), DriveFault>
+    pub(crate) fn begin<K: Sink>(&mut self, sink: &mut K) -> Result<(), OutFault>
+        requires { IsKept self.old }
         ensures reader { self.new.reader ≡ self.old.reader }
         ensures begun { (appraised : List ℕ → Appraisal) (a : Attesting)
-            → StandsFor self.old appraised a → IsAttestedBy appraised (attesting_started a)
-            (K.contents sink.old) result self.new (K.contents sink.new) }
+            → StandsFor self.old appraised a → OnOk result (IsStarted appraised a
+            (K.contents sink.old) self.new (K.contents sink.new)) }
+        ensures prefix { (appraised : List ℕ → Appraisal) (a : Attesting)
+            → StandsFor self.old appraised a → OnErr result (TakesPrefix (K.contents sink.old)
+            (step_frames appraised (attesting_started a)) (K.contents sink.new)) }
         ensures fault { OnErr result (HasFault (K.faults sink.old) (K.faults sink.new)) }
         ensures later { K.faults sink.old ≤ K.faults sink.new }
     {
         self.attestor.start(&mut self.out);
         match write_step(sink, Progressed::Going, &self.out) {
             Ok(()) => Ok(()),
-            Err(_) => Err(DriveFault::WriteFault),
+            Err(fault) => Err(fault),
         }
     }
 
@@ -113,9 +128,7 @@ impl Attending {
         let progress = self
             .attestor
             .on_packet(self.reader.content(), &mut self.out);
-        if let Progressed::Verdict(appraisal) = progress {
-            self.verdict = Some(appraisal);
-        }
+        self.verdict = verdict_after(progress, self.verdict);
         match write_step(sink, progress, &self.out) {
             Ok(()) => Ok(()),
             Err(_) => Err(DriveFault::WriteFault),

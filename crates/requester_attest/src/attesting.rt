@@ -1,4 +1,5 @@
-ghost use Rattle.std.specs.Prelude.{◌≡◌, ◌≤◌, ◌<◌, [], ℕ, List, Some, IfErr, IfOk, OnOk, length};
+ghost use Rattle.std.specs.Prelude.{◌≡◌, ◌≤◌, ◌<◌, [], ℕ, List, Some, None, IfErr, IfOk, OnOk, length};
+ghost use Rattle.appraise.specs.Policies.{policy_fault};
 ghost use Rattle.appraise.specs.declared.appraisal.Appraisal.{Appraisal};
 ghost use Rattle.attestor.specs.Attesting.{Attesting};
 ghost use Rattle.frame_stream.specs.Frames.{stream_limit};
@@ -37,7 +38,8 @@ pub fn attest<S: Source, K: Sink>(
     source: &mut S,
     sink: &mut K,
 ) -> Result<Option<Appraisal>, DriveFault>
-    requires { 0 < length config.now.requesters }
+    requires some { 0 < length config.now.requesters }
+    requires sound { policy_fault policy ≡ None }
     ensures attested { (appraised : List ℕ → Appraisal) (a : Attesting)
         → first_attesting config.now policy seed ≡ Some a → Appraises policy appraised
         → IfOk result (λ verdict. HasVerdict appraised a
@@ -96,8 +98,9 @@ fn run<S: Source, K: Sink>(
     ensures written_later { K.faults sink.old ≤ K.faults sink.new }
 {
     let mut attending = attending;
-    if let Err(fault) = attending.begin(sink) {
-        return Err(fault);
+    match attending.begin(sink) {
+        Ok(()) => {}
+        Err(_) => return Err(DriveFault::WriteFault),
     }
     loop {
         match attending.attest_next(source, sink) {
