@@ -26,7 +26,6 @@ pub fn bytes_in(rt: &impl AllocGlobal, word: &str) -> Result<Vec<u8>, CaseError>
     Ok(bytes)
 }
 
-
 /// The seed of 32 bytes that all have the number of a word.
 pub fn seed_in(word: &str) -> Result<[u8; 32], CaseError> {
     Ok([number_in::<u8>(word)?; 32])
