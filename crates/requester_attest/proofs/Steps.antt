@@ -139,7 +139,7 @@ first_stands c rules seed q seen a first stands is =
 -- there is a first attestor
 pub some_attesting : (c : ScriptConfig) (rules : List Rule) (seed : List ℕ) → 0 < length c.requesters → (a : Attesting) × (first_attesting c rules seed ≡ Some a)
 some_attesting c rules seed some =
-    let first = some_requester c seed some in
+    let first = some_requester c seed 0 some in
     (attesting_over first.0 rules, ap (option_map (λ (r : Requesting). attesting_over r rules)) first.1)
 
 -- of each record there is an appraisal

@@ -19,7 +19,7 @@ returns-in-Ok-drive-clause-answers g c =
     let rest = g.S.Source.remaining c.begin.new.source in
     let begun = c.in-Ok.ensures.begun in
     let sound = config_sound begun.text c.in-Ok.begun.config (replicate 32 0) refl begun.is in
-    let first = some_requester c.in-Ok.begun.config c.in-Ok.begun.seed sound.some in
+    let first = some_requester c.in-Ok.begun.config c.in-Ok.begun.seed 0 sound.some in
     all_driven before after c.in-Ok.begun rest (in_front c.as_slice.result.now rest) first.0 first.1 begun
     (same_stream before.left begun.text c.in-Ok.begun.before c.as_slice.result.now rest begun.read c.as_slice.ensures.value) (c.in-Ok-drive.ensures.driven first.0 first.1) c.in-Ok-drive.ensures.end
 
@@ -47,7 +47,7 @@ returns-clause-answers g c =
       written_after = g.K.Sink.faults c.drive.new.sink;
     } in
     let sound = config_sound begun.text c.in-Ok.begun.config (replicate 32 0) refl begun.is in
-    let first = some_requester c.in-Ok.begun.config c.in-Ok.begun.seed sound.some in
+    let first = some_requester c.in-Ok.begun.config c.in-Ok.begun.seed 0 sound.some in
     not_driven before after c.in-Ok.begun rest (in_front c.as_slice.result.now rest) first.0 first.1 n c.fault_of.result begun
     (same_stream before.left begun.text c.in-Ok.begun.before c.as_slice.result.now rest begun.read c.as_slice.ensures.value)
     c.in-Ok.ensures.read_later c.in-Err-drive.ensures.read_later refl refl refl c.in-Err-drive.fault (c.in-Err-drive.ensures.fault first.0 first.1) c.fault_of.ensures
@@ -58,5 +58,8 @@ returns-clause-exact g c = λ input end left has read written seeded.
     let after : Outside = outside (g.S.Source.remaining c.drive.new.source) (g.K.Sink.contents c.drive.new.sink) (g.E.Seeds.left c.begin.new.seeds) (g.S.Source.faults c.drive.new.source) (g.K.Sink.faults c.drive.new.sink) (g.E.Seeds.faults c.begin.new.seeds) in
     exactly IsStreamToDrive one_driving IsDriven IsBegunToDrive driven_end before after input left read written seeded end (Err c.fault_of.result) has (returns-clause-answers g c)
 
-pub drive-requires : goal.drive-requires
-drive-requires g c = (config_sound c.in-Ok.ensures.begun.text c.in-Ok.begun.config (replicate 32 0) refl c.in-Ok.ensures.begun.is).some
+pub drive-requires-clause-some : goal.drive-requires-clause-some
+drive-requires-clause-some g c = (config_sound c.in-Ok.ensures.begun.text c.in-Ok.begun.config (replicate 32 0) refl c.in-Ok.ensures.begun.is).some
+
+pub drive-requires-clause-boot : goal.drive-requires-clause-boot
+drive-requires-clause-boot g c = omega arith
