@@ -1,4 +1,4 @@
-use Rattle.std.proofs.Common.{Err, Ok, refl}
+use Rattle.std.proofs.Common.{Err, Ok, arith, refl}
 use Rattle.std.specs.Prelude.{replicate}
 use Rattle.frame_stream.specs.Runs.{Counts}
 use Rattle.frame_stream.specs.Standing.{in_front}
