@@ -87,7 +87,7 @@ impl Left {
         );
         assert_eq!(rt; outcome, Outcome::Done);
         let packets = packets_in(rt, sink.as_slice())?;
-        let world = left.unwrap_or_else(|| unreachable!());
+        let world = left.ok_or("the script left no world")?;
         Ok(Left { world, packets })
     }
 
