@@ -27,9 +27,29 @@ packet 10 010809cc060100010000003700d1f7e8c0c7c58c0a8f577f56da14fedf43dca1cbf47b
 packet 11 010908c40601000100000017003ffb6f0c506002d92c24d4917127d5ccbc952d28c67906
 ";
 
+// A policy, and the answers of a device that it trusts, as an independent program sends them.
+const TRUSTED: &[u8] = b"expect 1 1 07\ngo\n\
+    \x01\x0d\x00\x01\x09\x08\xc0\x05\x10\x04\x00\x00\x00\x01\x00\x12\
+    \x01\x19\x00\x01\x09\x08\xc1\x05\x12\x61\x00\x00\x00\x00\x00\x00\xc8\x68\x02\x00\x00\x04\x00\x00\x00\x10\x00\x00\
+    \x01\x39\x00\x01\x09\x08\xc2\x05\x12\x63\x04\x00\x34\x00\x01\x02\x02\x00\x00\x00\x00\x00\x00\x00\x01\x00\x00\x00\
+    \x00\x00\x00\x00\x00\x00\x00\x00\x00\x00\x00\x00\x00\x00\x00\x00\x02\x20\x00\x00\x03\x20\x01\x00\x04\x20\x00\x00\
+    \x05\x20\x01\x00\
+    \x01\x44\x00\x01\x09\x08\x83\x05\x12\x66\x1e\x00\x01\x00\x00\x00\x20\x00\x00\x00\x48\x31\x7b\x1d\x19\xdb\x42\x90\
+    \x65\x59\x46\xa2\xa2\x35\x3d\x34\x7c\x10\x5f\xd5\x77\xf8\xe4\x3e\x00\x00\x00\x00\x00\x00\x00\x00\x41\xab\x15\xb8\
+    \x2a\xcc\x95\xed\x86\xcd\x66\xdc\x17\xe1\x62\xe0\xc7\xe6\x20\
+    \x01\x11\x00\x01\x09\x08\x53\x57\xdf\xc8\xa6\x3e\x8b\x6e\x23\x3c\x05\xc6\x43\xfc\
+    \x01\x24\x00\x01\x09\x08\xc4\x06\x01\x00\x01\x00\x00\x00\x17\x00\x81\xa2\xaa\x03\xba\x98\xed\x6f\x0a\x36\x5a\x74\
+    \x99\x2a\xe9\x59\xb8\xf2\x53\xb2\x0f\x7e\xdf\
+    \x01\x44\x00\x01\x09\x08\x85\x06\x01\x00\x01\x00\x00\x00\x45\x00\xf9\xb5\x58\xa8\x5f\x0e\xb7\x4a\xc1\x6d\x59\x84\
+    \x6a\xb4\x77\x8b\x3b\xe2\xbe\xa4\x65\xeb\x7a\xb3\x79\x0c\x56\x52\x7a\xcb\x06\x61\x20\xbd\x41\x2f\x2b\x03\xe8\x7a\
+    \x9a\xf2\x67\xed\x10\x15\xef\xd9\x07\x7a\x15\x33\xc8\x0a\x9f\
+    \x01\x12\x00\x01\x09\x08\x55\x72\x81\xae\xca\xb7\x1f\x26\x38\xcd\x1e\xf7\xff\x4a\xb6\
+    \x01\x24\x00\x01\x09\x08\xc6\x06\x01\x00\x01\x00\x01\x00\x17\x00\xa2\x92\xcc\x2c\xca\xed\x47\x9e\x15\x02\xa6\xa4\
+    \xf0\xdd\xac\x5b\x41\x1d\xe7\x5f\x3e\x72\x34";
+
 // Each command with what stands behind the configuration: a negotiation, one in each of two lives, its requests in frames,
-// its commands and answers in frames, and a capture.
-const INPUTS: [(&str, &[u8]); 6] = [
+// its commands and answers in frames, an attestation, and a capture.
+const INPUTS: [(&str, &[u8]); 7] = [
     (
         "run",
         b"q1 connect\npump 1\npump 1\npump 1\npump 1\npump 1\npump 1\n",
@@ -47,6 +67,7 @@ const INPUTS: [(&str, &[u8]); 6] = [
         "drive",
         b"\x03\x0a\x00q1 connect\x01\x0d\x00\x01\x09\x08\xc0\x05\x10\x04\x00\x00\x00\x01\x00\x12",
     ),
+    ("attest", TRUSTED),
     ("check", OPENED),
 ];
 
@@ -119,7 +140,7 @@ fn fails_once(
 fn expect_prefix(rt: &impl Abort, word: &str, is_read: bool, written: &[u8], whole: &[u8]) {
     assert!(rt; whole.starts_with(written));
     assert!(rt; written.len() < whole.len() || is_read);
-    let is_stream = word == "serve" || word == "serve kept" || word == "drive";
+    let is_stream = word == "serve" || word == "serve kept" || word == "drive" || word == "attest";
     assert!(rt; is_stream || !is_read || written.is_empty());
 }
 
@@ -136,7 +157,7 @@ fn expect_faults(
         Outcome::WriteFault
     };
     let mut reached: u64 = 0;
-    for call in 0..16u64 {
+    for call in 0..64u64 {
         let (outcome, written) = fails_once(rt, input, is_read, call)?;
         if outcome == Outcome::Done {
             assert_eq!(rt; written.as_slice(), whole);
@@ -146,7 +167,7 @@ fn expect_faults(
         expect_prefix(rt, input.0, is_read, written.as_slice(), whole);
         reached = call.wrapping_add(1);
     }
-    assert!(rt; 2 <= reached && reached < 16);
+    assert!(rt; 2 <= reached && reached < 64);
     Ok(())
 }
 
@@ -165,8 +186,8 @@ fn each_call_fails(rt: HostRuntime) -> Result<(), Fail> {
 
 #[test]
 fn seed_fails(rt: HostRuntime) -> Result<(), Fail> {
-    let [_, _, kept, serve, drive, _] = INPUTS;
-    for input in [kept, serve, drive] {
+    let [_, _, kept, serve, drive, attest, _] = INPUTS;
+    for input in [kept, serve, drive, attest] {
         let (outcome, written) = fails(&rt, input, &[], &[], &[0], &[])?;
         assert_eq!(rt; outcome, Outcome::SeedFault);
         assert!(rt; written.is_empty());
@@ -177,7 +198,7 @@ fn seed_fails(rt: HostRuntime) -> Result<(), Fail> {
 // The keeper is read once, and three writes follow.
 #[test]
 fn keeper_fails(rt: HostRuntime) -> Result<(), Fail> {
-    let [_, _, kept, _, _, _] = INPUTS;
+    let [_, _, kept, _, _, _, _] = INPUTS;
     for call in 0..4u64 {
         let (outcome, written) = fails(&rt, kept, &[], &[], &[], &[call])?;
         assert_eq!(rt; outcome, Outcome::KeeperFault);
