@@ -1,6 +1,6 @@
-use boot_keeper::MemKeeper;
+use crate::stream_runs::outcome;
 use spdm_basis::{MemSeeds, MemSink, MemSource, Sink, Source, StdinSource, StdoutSink};
-use spdm_command::{Outcome, spdm};
+use spdm_command::Outcome;
 use std::io;
 use std::io::{Read, Write};
 use std::process::Abort;
@@ -71,18 +71,9 @@ const INPUTS: [(&str, &[u8]); 7] = [
     ("check", OPENED),
 ];
 
-// The words of a command.
-fn words_of(rt: &impl AllocGlobal, command: &str) -> Result<Vec<String>, Fail> {
-    let mut words = Vec::new(rt.alloc());
-    for word in command.split(' ') {
-        words.push(String::from_str(rt.alloc(), word)?)?;
-    }
-    Ok(words)
-}
-
 // What a command came to over a source and a sink, with one seed. The requests for seeds with these numbers fail, and so
 // do the calls of the keeper with those.
-fn outcome<S: Source, K: Sink>(
+fn with_one_seed<S: Source, K: Sink>(
     rt: &impl AllocGlobal,
     command: &str,
     source: &mut S,
@@ -90,19 +81,9 @@ fn outcome<S: Source, K: Sink>(
     seeds: &[u64],
     boots: &[u64],
 ) -> Result<Outcome, Fail> {
-    let words = words_of(rt, command)?;
     let mut seeds = MemSeeds::new(rt.alloc(), &[[0; 32]], seeds)?;
-    let mut keeper = MemKeeper::new(rt.alloc(), boots)?;
     let mut left = None;
-    Ok(spdm(
-        rt.alloc(),
-        words.as_slice(),
-        source,
-        sink,
-        &mut seeds,
-        &mut left,
-        &mut keeper,
-    ))
+    outcome(rt, command, source, sink, &mut seeds, boots, &mut left)
 }
 
 // What a command came to behind the configuration, and what it wrote. The calls with these numbers fail.
@@ -118,7 +99,7 @@ fn fails(
     input.extend_from_slice(behind)?;
     let mut source = MemSource::new(rt.alloc(), input.as_slice(), reads)?;
     let mut sink = MemSink::new(rt.alloc(), 4096, writes)?;
-    let outcome = outcome(rt, command, &mut source, &mut sink, seeds, boots)?;
+    let outcome = with_one_seed(rt, command, &mut source, &mut sink, seeds, boots)?;
     Ok((outcome, Vec::from_slice(rt.alloc(), sink.as_slice())?))
 }
 
@@ -279,7 +260,7 @@ fn moved(
         held: &mut held,
         counts: Counts { counts, at: 3 },
     });
-    let outcome = outcome(rt, command, &mut source, &mut sink, &[], &[])?;
+    let outcome = with_one_seed(rt, command, &mut source, &mut sink, &[], &[])?;
     assert_eq!(rt; outcome, Outcome::Done);
     drop(sink);
     Ok(held)

@@ -1,8 +1,8 @@
-use boot_keeper::MemKeeper;
+use crate::stream_runs::outcome;
 use key_schedule::HandshakeKeys;
 use link_world::World;
 use spdm_basis::{AeadAlg, Eid, HashAlg, HashBytes, MemSeeds, MemSink, MemSource, Psk};
-use spdm_command::{Outcome, spdm};
+use spdm_command::Outcome;
 use spdm_grammar::Stage;
 use std::process::Abort;
 use std::str;
@@ -69,22 +69,19 @@ impl Left {
     fn of(rt: &(impl AllocGlobal + Abort), events: &[u8]) -> Result<Left, Fail> {
         let mut script = Vec::from_slice(rt.alloc(), CONFIGURATION)?;
         script.extend_from_slice(events)?;
-        let mut words = Vec::new(rt.alloc());
-        words.push(String::from_str(rt.alloc(), "run")?)?;
         let mut source = MemSource::new(rt.alloc(), script.as_slice(), &[])?;
         let mut sink = MemSink::new(rt.alloc(), 8192, &[])?;
         let mut seeds = MemSeeds::new(rt.alloc(), &[], &[])?;
-        let mut keeper = MemKeeper::new(rt.alloc(), &[])?;
         let mut left = None;
-        let outcome = spdm(
-            rt.alloc(),
-            words.as_slice(),
+        let outcome = outcome(
+            rt,
+            "run",
             &mut source,
             &mut sink,
             &mut seeds,
+            &[],
             &mut left,
-            &mut keeper,
-        );
+        )?;
         assert_eq!(rt; outcome, Outcome::Done);
         let packets = packets_in(rt, sink.as_slice())?;
         let world = left.ok_or("the script left no world")?;
