@@ -1,18 +1,14 @@
 -- While a talk goes on a request of the requester is outstanding.
-use Rattle.std.proofs.Common.{◌≡◌, ℕ, List, Bool, true, Some, is_some, ap}
+use Rattle.std.proofs.Common.{◌≡◌, ℕ, Bool, true, Some, is_some, ap}
 use Rattle.spdm_grammar.specs.declared.told.event.Event.{Event}
 use Rattle.spdm_machine.proofs.Members.{none_some}
-use Rattle.spdm_machine.specs.Keys.{Draw}
 use Rattle.spdm_machine.specs.TagLog.{Log}
 use Rattle.requester_machine.specs.Asking.{Outcome}
 use Rattle.requester_machine.specs.Asking.Outcome.{Adds, Fails, Ignores, Resends, Warns}
-use Rattle.requester_machine.specs.Does.{requester_hears}
 use Rattle.requester_machine.specs.History as asked
 use Rattle.requester_machine.specs.Message.{Sent}
-use Rattle.requester_machine.specs.RequesterLog as asked_log
 use Rattle.requester_machine.specs.Shown as shown
 use Rattle.responder_machine.specs.History as served
-use Rattle.world_machine.specs.Chance.{NoChance}
 use Rattle.spdm_progress.proofs.PacketSteps.{Pair}
 use Rattle.spdm_progress.proofs.Talk.{AreShort, Further, IsTalk, Leads, Over, Stage}
 
