@@ -1,0 +1,72 @@
+-- A world in which a session is opened: one requester, connect and open, each with a pump after it. This project's own.
+use Rattle.std.specs.Prelude.{◌≡◌, ℕ, List, [], ◌∷◌, replicate, false, true}
+use Rattle.requester_machine.specs.Message.Command.{Connect, Open}
+use Rattle.requester_machine.specs.Requesting.{Requesting}
+use Rattle.requester_machine.specs.Session as asking
+use Rattle.requester_machine.specs.Setup.{ReqSetup}
+use Rattle.responder_machine.specs.Place.{is_held}
+use Rattle.responder_machine.specs.Responding.{Connection}
+use Rattle.responder_machine.specs.Session as serving
+use Rattle.responder_machine.specs.Setup.{RspPart}
+use Rattle.spdm_grammar.specs.declared.messages.choice.Pick.TheVariants.{Small}
+use Rattle.spdm_progress.specs.Scripts.{Order, with_pumps}
+use Rattle.world_machine.specs.Agreement.{ArePair, holds}
+use Rattle.world_machine.specs.Chance.{NoChance}
+use Rattle.world_machine.specs.Setup.{WorldSetup, script_world}
+use Rattle.world_machine.specs.Trace.{world_after}
+use Rattle.world_machine.specs.World.{World}
+
+abbrev pub requester : ReqSetup
+requester = record {
+  eid = 9;
+  responder = 8;
+  transfer = 1024;
+  max = 4096;
+  unit = 64;
+  pad = 0;
+  flags = record { measure = false; heartbeat = true; key_update = true; chunk = true };
+  hint = 1 ∷ [];
+  psk = 7 ∷ [];
+  opaque = [];
+  suites = record { hash = Small; aead = Small };
+}
+
+abbrev pub part : RspPart
+part = record {
+  eid = 8;
+  transfer = 1024;
+  max = 4096;
+  unit = 64;
+  beat = 5;
+  flags = record { measure = false; heartbeat = true; key_update = true; chunk = true };
+  opaque = [];
+  blocks = [];
+  suites = record { hash = Small; aead = Small };
+}
+
+-- The common seed has 32 zeros.
+abbrev pub setup : WorldSetup
+setup = script_world (record { responder = part; requesters = requester ∷ [] }) (replicate 32 0) 0
+
+-- Connect, and open a session without a summary.
+abbrev pub script : List Order
+script = record { line = 5; n = 1; command = Connect; pump_line = 6 } ∷ record { line = 7; n = 1; command = Open 0; pump_line = 8 } ∷ []
+
+abbrev pub world : World
+world = world_after setup (with_pumps script)
+
+-- Both ends of a pair hold a session open, with one T2.
+pub record HoldOne (w : World) : Type 0 where
+  pub asks : Requesting
+  pub answers : Connection
+  pub pair : ArePair w asks answers
+  pub req : ℕ
+  pub rsp : ℕ
+  pub held : holds asks.history req ≡ true
+  pub held_there : is_held answers.history rsp ≡ true
+  pub ids : asking.id_bytes (asking.session_of req asks.history) ≡ serving.id_bytes (serving.session_of rsp answers.history)
+  pub transcript : asking.t2_of (asking.session_of req asks.history) ≡ serving.t2_of (serving.session_of rsp answers.history)
+
+-- So it is in this world, unless two of the tags that its ends computed agree by chance.
+abbrev pub OpensUnlessChance : Type 0
+OpensUnlessChance = NoChance world.log → HoldOne world
