@@ -1,9 +1,10 @@
--- Unless tags agree by chance the open is done, so both ends hold the session.
+-- Nothing agrees by chance, so the open is done, and both ends hold the session.
 use Rattle.std.proofs.Common.{◌≡◌, ◌∙◌, ◌==◌, ◌&&◌, ℕ, List, [], ◌∷◌, refl, sym, ap, ap₂, subst, arith, Bool, true, false, Some, eqb-true}
 use Rattle.std.specs.Prelude.{replicate}
 use Rattle.std.proofs.lemmas.Option.{same_Some}
 use Rattle.example_world.proofs.Connected.{accepted, can_open, connected, asker, is_connection, is_requester, one, other, same_setup, server}
-use Rattle.example_world.specs.Example.{HoldOne, OpensUnlessChance, part, requester, script, setup, world}
+use Rattle.example_world.proofs.Logged.{no_chance}
+use Rattle.example_world.specs.Example.{HoldOne, SessionOpens, part, requester, script, setup, world}
 use Rattle.requester_machine.specs.Does.{free_id}
 use Rattle.requester_machine.specs.Message.Command.{Connect, Open}
 use Rattle.requester_machine.specs.Requesting.{Requesting}
@@ -14,7 +15,7 @@ use Rattle.responder_machine.specs.Session as serving
 use Rattle.responder_machine.specs.Setup.{RspSetup}
 use Rattle.spdm_agreement.proofs.Requester.OwnRequests.{offer_with}
 use Rattle.spdm_agreement.proofs.Worlds.AllEvents.{requester_in}
-use Rattle.spdm_agreement.proofs.Worlds.Configuration.{configuration}
+use Rattle.example_world.proofs.Configured.{configuration}
 use Rattle.spdm_agreement.proofs.Worlds.Scripts.{scripts_are_configured}
 use Rattle.spdm_agreement.specs.Configured.{IsConfigured}
 use Rattle.spdm_basis.specs.SessionIdBytes.{session_id_bytes}
@@ -115,7 +116,10 @@ hold_one w lines result id q r is held =
       transcript = t2_same (asking.session_of id is.requester.history) (serving.session_of (rsp_id (asking.session_of id is.requester.history)) is.connection.history) rest.in_step;
     }
 
-pub opens_unless_chance : OpensUnlessChance
+opens_unless_chance : NoChance world.log → HoldOne world
 opens_unless_chance chance =
     let over = done chance one other is_requester (ap (λ (n : ℕ). connection_of n connected.responder.connections) (ap (λ (q : ReqSetup). q.eid) same_setup) ∙ is_connection) accepted in
     hold_one world (lines_from (commanding connected 7 1 (Open 0)) behind) (result_for one other (Open 0)) (free_id one.history) one.setup other.setup over.0 over.1
+
+pub session_opens : SessionOpens
+session_opens = (configured, no_chance, opens_unless_chance no_chance)

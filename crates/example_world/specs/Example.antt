@@ -8,6 +8,7 @@ use Rattle.responder_machine.specs.Place.{is_held}
 use Rattle.responder_machine.specs.Responding.{Connection}
 use Rattle.responder_machine.specs.Session as serving
 use Rattle.responder_machine.specs.Setup.{RspPart}
+use Rattle.spdm_agreement.specs.Configured.{IsConfigured}
 use Rattle.spdm_grammar.specs.declared.messages.choice.Pick.TheVariants.{Small}
 use Rattle.spdm_progress.specs.Scripts.{Order, with_pumps}
 use Rattle.world_machine.specs.Agreement.{ArePair, holds}
@@ -20,8 +21,8 @@ abbrev pub requester : ReqSetup
 requester = record {
   eid = 9;
   responder = 8;
-  transfer = 1024;
-  max = 4096;
+  transfer = 512;
+  max = 2048;
   unit = 64;
   pad = 0;
   flags = record { measure = false; heartbeat = true; key_update = true; chunk = true };
@@ -34,8 +35,8 @@ requester = record {
 abbrev pub part : RspPart
 part = record {
   eid = 8;
-  transfer = 1024;
-  max = 4096;
+  transfer = 512;
+  max = 2048;
   unit = 64;
   beat = 5;
   flags = record { measure = false; heartbeat = true; key_update = true; chunk = true };
@@ -67,6 +68,6 @@ pub record HoldOne (w : World) : Type 0 where
   pub ids : asking.id_bytes (asking.session_of req asks.history) ≡ serving.id_bytes (serving.session_of rsp answers.history)
   pub transcript : asking.t2_of (asking.session_of req asks.history) ≡ serving.t2_of (serving.session_of rsp answers.history)
 
--- So it is in this world, unless two of the tags that its ends computed agree by chance.
-abbrev pub OpensUnlessChance : Type 0
-OpensUnlessChance = NoChance world.log → HoldOne world
+-- So it is in this world: it keeps all limits, nothing agrees by chance in it, and both ends hold a session open.
+abbrev pub SessionOpens : Type 0
+SessionOpens = IsConfigured setup × NoChance world.log × HoldOne world
