@@ -1,5 +1,5 @@
--- The bytes of the run: packets 7 to 11, and what is computed for them. An independent program gave them; the proofs here compute them from
--- the definitions.
+-- The bytes of the run: its packets, and what the two ends compute. An independent program gave them; the proofs here
+-- compute them from the definitions.
 use Rattle.std.specs.Prelude.{ℕ, List, [], ◌∷◌}
 
 -- Packet 7.
@@ -22,6 +22,14 @@ packet_10 = 1 ∷ 8 ∷ 9 ∷ 204 ∷ 6 ∷ 1 ∷ 0 ∷ 1 ∷ 0 ∷ 0 ∷ 0 ∷ 
 abbrev pub packet_11 : List ℕ
 packet_11 = 1 ∷ 9 ∷ 8 ∷ 196 ∷ 6 ∷ 1 ∷ 0 ∷ 1 ∷ 0 ∷ 0 ∷ 0 ∷ 23 ∷ 0 ∷ 197 ∷ 75 ∷ 183 ∷ 237 ∷ 24 ∷ 228 ∷ 122 ∷ 108 ∷ 62 ∷ 237 ∷ 53 ∷ 222 ∷ 204 ∷ 120 ∷ 42 ∷ 14 ∷ 27 ∷ 252 ∷ 33 ∷ 228 ∷ 216 ∷ 50 ∷ 203 ∷ []
 
+-- Packet 12.
+abbrev pub packet_12 : List ℕ
+packet_12 = 1 ∷ 8 ∷ 9 ∷ 205 ∷ 6 ∷ 1 ∷ 0 ∷ 1 ∷ 0 ∷ 0 ∷ 0 ∷ 21 ∷ 0 ∷ 31 ∷ 172 ∷ 52 ∷ 87 ∷ 241 ∷ 56 ∷ 232 ∷ 5 ∷ 21 ∷ 230 ∷ 57 ∷ 168 ∷ 248 ∷ 66 ∷ 171 ∷ 108 ∷ 161 ∷ 93 ∷ 162 ∷ 40 ∷ 235 ∷ []
+
+-- Packet 13.
+abbrev pub packet_13 : List ℕ
+packet_13 = 1 ∷ 9 ∷ 8 ∷ 197 ∷ 6 ∷ 1 ∷ 0 ∷ 1 ∷ 0 ∷ 0 ∷ 0 ∷ 19 ∷ 0 ∷ 127 ∷ 123 ∷ 90 ∷ 162 ∷ 99 ∷ 109 ∷ 232 ∷ 47 ∷ 240 ∷ 233 ∷ 151 ∷ 6 ∷ 176 ∷ 87 ∷ 239 ∷ 59 ∷ 230 ∷ 130 ∷ 198 ∷ []
+
 -- PSK_EXCHANGE, and PSK_EXCHANGE_RSP with its verify data.
 abbrev pub exchange_bytes : List ℕ
 exchange_bytes = 18 ∷ 230 ∷ 0 ∷ 0 ∷ 1 ∷ 0 ∷ 1 ∷ 0 ∷ 32 ∷ 0 ∷ 0 ∷ 0 ∷ 1 ∷ 100 ∷ 235 ∷ 55 ∷ 243 ∷ 72 ∷ 110 ∷ 86 ∷ 160 ∷ 236 ∷ 115 ∷ 69 ∷ 43 ∷ 200 ∷ 195 ∷ 37 ∷ 125 ∷ 180 ∷ 238 ∷ 14 ∷ 81 ∷ 173 ∷ 211 ∷ 31 ∷ 246 ∷ 0 ∷ 0 ∷ 0 ∷ 0 ∷ 0 ∷ 0 ∷ 0 ∷ 0 ∷ []
@@ -42,6 +50,10 @@ transcript = 16 ∷ 132 ∷ 0 ∷ 0 ∷ 16 ∷ 4 ∷ 0 ∷ 0 ∷ 0 ∷ 1 ∷ 0 �
 
 abbrev pub covered : List ℕ
 covered = 16 ∷ 132 ∷ 0 ∷ 0 ∷ 16 ∷ 4 ∷ 0 ∷ 0 ∷ 0 ∷ 1 ∷ 0 ∷ 18 ∷ 18 ∷ 225 ∷ 0 ∷ 0 ∷ 0 ∷ 0 ∷ 0 ∷ 0 ∷ 192 ∷ 100 ∷ 2 ∷ 0 ∷ 0 ∷ 2 ∷ 0 ∷ 0 ∷ 0 ∷ 8 ∷ 0 ∷ 0 ∷ 18 ∷ 97 ∷ 0 ∷ 0 ∷ 0 ∷ 0 ∷ 0 ∷ 0 ∷ 192 ∷ 104 ∷ 2 ∷ 0 ∷ 0 ∷ 2 ∷ 0 ∷ 0 ∷ 0 ∷ 8 ∷ 0 ∷ 0 ∷ 18 ∷ 227 ∷ 4 ∷ 0 ∷ 48 ∷ 0 ∷ 1 ∷ 2 ∷ 0 ∷ 0 ∷ 0 ∷ 0 ∷ 1 ∷ 0 ∷ 0 ∷ 0 ∷ 0 ∷ 0 ∷ 0 ∷ 0 ∷ 0 ∷ 0 ∷ 0 ∷ 0 ∷ 0 ∷ 0 ∷ 0 ∷ 0 ∷ 0 ∷ 0 ∷ 0 ∷ 0 ∷ 2 ∷ 32 ∷ 0 ∷ 0 ∷ 3 ∷ 32 ∷ 1 ∷ 0 ∷ 4 ∷ 32 ∷ 0 ∷ 0 ∷ 5 ∷ 32 ∷ 1 ∷ 0 ∷ 18 ∷ 99 ∷ 4 ∷ 0 ∷ 52 ∷ 0 ∷ 0 ∷ 2 ∷ 0 ∷ 0 ∷ 0 ∷ 0 ∷ 0 ∷ 0 ∷ 0 ∷ 0 ∷ 1 ∷ 0 ∷ 0 ∷ 0 ∷ 0 ∷ 0 ∷ 0 ∷ 0 ∷ 0 ∷ 0 ∷ 0 ∷ 0 ∷ 0 ∷ 0 ∷ 0 ∷ 0 ∷ 0 ∷ 0 ∷ 0 ∷ 0 ∷ 2 ∷ 32 ∷ 0 ∷ 0 ∷ 3 ∷ 32 ∷ 1 ∷ 0 ∷ 4 ∷ 32 ∷ 0 ∷ 0 ∷ 5 ∷ 32 ∷ 1 ∷ 0 ∷ 18 ∷ 230 ∷ 0 ∷ 0 ∷ 1 ∷ 0 ∷ 1 ∷ 0 ∷ 32 ∷ 0 ∷ 0 ∷ 0 ∷ 1 ∷ 100 ∷ 235 ∷ 55 ∷ 243 ∷ 72 ∷ 110 ∷ 86 ∷ 160 ∷ 236 ∷ 115 ∷ 69 ∷ 43 ∷ 200 ∷ 195 ∷ 37 ∷ 125 ∷ 180 ∷ 238 ∷ 14 ∷ 81 ∷ 173 ∷ 211 ∷ 31 ∷ 246 ∷ 0 ∷ 0 ∷ 0 ∷ 0 ∷ 0 ∷ 0 ∷ 0 ∷ 0 ∷ 18 ∷ 102 ∷ 5 ∷ 0 ∷ 1 ∷ 0 ∷ 0 ∷ 0 ∷ 32 ∷ 0 ∷ 0 ∷ 0 ∷ 34 ∷ 230 ∷ 60 ∷ 56 ∷ 254 ∷ 212 ∷ 171 ∷ 26 ∷ 249 ∷ 187 ∷ 187 ∷ 139 ∷ 237 ∷ 128 ∷ 105 ∷ 97 ∷ 240 ∷ 95 ∷ 11 ∷ 149 ∷ 87 ∷ 101 ∷ 253 ∷ 153 ∷ 0 ∷ 0 ∷ 0 ∷ 0 ∷ 0 ∷ 0 ∷ 0 ∷ 0 ∷ 69 ∷ 200 ∷ 181 ∷ 182 ∷ 56 ∷ 127 ∷ 247 ∷ 107 ∷ 33 ∷ 218 ∷ 102 ∷ 2 ∷ 132 ∷ 113 ∷ 61 ∷ 62 ∷ 232 ∷ 15 ∷ 241 ∷ 2 ∷ 39 ∷ 150 ∷ 42 ∷ 156 ∷ 79 ∷ 232 ∷ 64 ∷ 8 ∷ 55 ∷ 164 ∷ 154 ∷ 11 ∷ 18 ∷ 231 ∷ 0 ∷ 0 ∷ []
+
+-- T2.
+abbrev pub whole_transcript : List ℕ
+whole_transcript = 16 ∷ 132 ∷ 0 ∷ 0 ∷ 16 ∷ 4 ∷ 0 ∷ 0 ∷ 0 ∷ 1 ∷ 0 ∷ 18 ∷ 18 ∷ 225 ∷ 0 ∷ 0 ∷ 0 ∷ 0 ∷ 0 ∷ 0 ∷ 192 ∷ 100 ∷ 2 ∷ 0 ∷ 0 ∷ 2 ∷ 0 ∷ 0 ∷ 0 ∷ 8 ∷ 0 ∷ 0 ∷ 18 ∷ 97 ∷ 0 ∷ 0 ∷ 0 ∷ 0 ∷ 0 ∷ 0 ∷ 192 ∷ 104 ∷ 2 ∷ 0 ∷ 0 ∷ 2 ∷ 0 ∷ 0 ∷ 0 ∷ 8 ∷ 0 ∷ 0 ∷ 18 ∷ 227 ∷ 4 ∷ 0 ∷ 48 ∷ 0 ∷ 1 ∷ 2 ∷ 0 ∷ 0 ∷ 0 ∷ 0 ∷ 1 ∷ 0 ∷ 0 ∷ 0 ∷ 0 ∷ 0 ∷ 0 ∷ 0 ∷ 0 ∷ 0 ∷ 0 ∷ 0 ∷ 0 ∷ 0 ∷ 0 ∷ 0 ∷ 0 ∷ 0 ∷ 0 ∷ 0 ∷ 2 ∷ 32 ∷ 0 ∷ 0 ∷ 3 ∷ 32 ∷ 1 ∷ 0 ∷ 4 ∷ 32 ∷ 0 ∷ 0 ∷ 5 ∷ 32 ∷ 1 ∷ 0 ∷ 18 ∷ 99 ∷ 4 ∷ 0 ∷ 52 ∷ 0 ∷ 0 ∷ 2 ∷ 0 ∷ 0 ∷ 0 ∷ 0 ∷ 0 ∷ 0 ∷ 0 ∷ 0 ∷ 1 ∷ 0 ∷ 0 ∷ 0 ∷ 0 ∷ 0 ∷ 0 ∷ 0 ∷ 0 ∷ 0 ∷ 0 ∷ 0 ∷ 0 ∷ 0 ∷ 0 ∷ 0 ∷ 0 ∷ 0 ∷ 0 ∷ 0 ∷ 2 ∷ 32 ∷ 0 ∷ 0 ∷ 3 ∷ 32 ∷ 1 ∷ 0 ∷ 4 ∷ 32 ∷ 0 ∷ 0 ∷ 5 ∷ 32 ∷ 1 ∷ 0 ∷ 18 ∷ 230 ∷ 0 ∷ 0 ∷ 1 ∷ 0 ∷ 1 ∷ 0 ∷ 32 ∷ 0 ∷ 0 ∷ 0 ∷ 1 ∷ 100 ∷ 235 ∷ 55 ∷ 243 ∷ 72 ∷ 110 ∷ 86 ∷ 160 ∷ 236 ∷ 115 ∷ 69 ∷ 43 ∷ 200 ∷ 195 ∷ 37 ∷ 125 ∷ 180 ∷ 238 ∷ 14 ∷ 81 ∷ 173 ∷ 211 ∷ 31 ∷ 246 ∷ 0 ∷ 0 ∷ 0 ∷ 0 ∷ 0 ∷ 0 ∷ 0 ∷ 0 ∷ 18 ∷ 102 ∷ 5 ∷ 0 ∷ 1 ∷ 0 ∷ 0 ∷ 0 ∷ 32 ∷ 0 ∷ 0 ∷ 0 ∷ 34 ∷ 230 ∷ 60 ∷ 56 ∷ 254 ∷ 212 ∷ 171 ∷ 26 ∷ 249 ∷ 187 ∷ 187 ∷ 139 ∷ 237 ∷ 128 ∷ 105 ∷ 97 ∷ 240 ∷ 95 ∷ 11 ∷ 149 ∷ 87 ∷ 101 ∷ 253 ∷ 153 ∷ 0 ∷ 0 ∷ 0 ∷ 0 ∷ 0 ∷ 0 ∷ 0 ∷ 0 ∷ 69 ∷ 200 ∷ 181 ∷ 182 ∷ 56 ∷ 127 ∷ 247 ∷ 107 ∷ 33 ∷ 218 ∷ 102 ∷ 2 ∷ 132 ∷ 113 ∷ 61 ∷ 62 ∷ 232 ∷ 15 ∷ 241 ∷ 2 ∷ 39 ∷ 150 ∷ 42 ∷ 156 ∷ 79 ∷ 232 ∷ 64 ∷ 8 ∷ 55 ∷ 164 ∷ 154 ∷ 11 ∷ 18 ∷ 231 ∷ 0 ∷ 0 ∷ 155 ∷ 81 ∷ 34 ∷ 235 ∷ 169 ∷ 147 ∷ 108 ∷ 1 ∷ 251 ∷ 146 ∷ 201 ∷ 167 ∷ 193 ∷ 185 ∷ 0 ∷ 99 ∷ 214 ∷ 113 ∷ 139 ∷ 73 ∷ 113 ∷ 228 ∷ 13 ∷ 196 ∷ 186 ∷ 231 ∷ 229 ∷ 80 ∷ 78 ∷ 78 ∷ 140 ∷ 192 ∷ 18 ∷ 103 ∷ 0 ∷ 0 ∷ []
 
 -- The first record: its inner message, its plain text, its encrypted text, its tag, and the whole.
 abbrev pub first_inner : List ℕ
@@ -88,3 +100,49 @@ second_key = 185 ∷ 129 ∷ 108 ∷ 206 ∷ 176 ∷ 249 ∷ 172 ∷ 115 ∷ 223
 
 abbrev pub second_iv : List ℕ
 second_iv = 92 ∷ 177 ∷ 20 ∷ 85 ∷ 111 ∷ 76 ∷ 92 ∷ 5 ∷ 23 ∷ 104 ∷ 93 ∷ 231 ∷ []
+
+-- The third record: its inner message, its plain text, its encrypted text, its tag, and the whole.
+abbrev pub third_inner : List ℕ
+third_inner = 1 ∷ 104 ∷ 105 ∷ []
+
+abbrev pub third_plain : List ℕ
+third_plain = 3 ∷ 0 ∷ 1 ∷ 104 ∷ 105 ∷ []
+
+abbrev pub third_text : List ℕ
+third_text = 31 ∷ 172 ∷ 52 ∷ 87 ∷ 241 ∷ []
+
+abbrev pub third_tag : List ℕ
+third_tag = 56 ∷ 232 ∷ 5 ∷ 21 ∷ 230 ∷ 57 ∷ 168 ∷ 248 ∷ 66 ∷ 171 ∷ 108 ∷ 161 ∷ 93 ∷ 162 ∷ 40 ∷ 235 ∷ []
+
+abbrev pub third_record : List ℕ
+third_record = 1 ∷ 0 ∷ 1 ∷ 0 ∷ 0 ∷ 0 ∷ 21 ∷ 0 ∷ 31 ∷ 172 ∷ 52 ∷ 87 ∷ 241 ∷ 56 ∷ 232 ∷ 5 ∷ 21 ∷ 230 ∷ 57 ∷ 168 ∷ 248 ∷ 66 ∷ 171 ∷ 108 ∷ 161 ∷ 93 ∷ 162 ∷ 40 ∷ 235 ∷ []
+
+-- Its key and its initialization vector.
+abbrev pub third_key : List ℕ
+third_key = 188 ∷ 124 ∷ 17 ∷ 212 ∷ 29 ∷ 17 ∷ 16 ∷ 103 ∷ 44 ∷ 0 ∷ 212 ∷ 189 ∷ 75 ∷ 88 ∷ 252 ∷ 90 ∷ []
+
+abbrev pub third_iv : List ℕ
+third_iv = 212 ∷ 183 ∷ 226 ∷ 158 ∷ 187 ∷ 66 ∷ 155 ∷ 14 ∷ 105 ∷ 253 ∷ 232 ∷ 194 ∷ []
+
+-- The fourth record: its inner message, its plain text, its encrypted text, its tag, and the whole.
+abbrev pub fourth_inner : List ℕ
+fourth_inner = 1 ∷ []
+
+abbrev pub fourth_plain : List ℕ
+fourth_plain = 1 ∷ 0 ∷ 1 ∷ []
+
+abbrev pub fourth_text : List ℕ
+fourth_text = 127 ∷ 123 ∷ 90 ∷ []
+
+abbrev pub fourth_tag : List ℕ
+fourth_tag = 162 ∷ 99 ∷ 109 ∷ 232 ∷ 47 ∷ 240 ∷ 233 ∷ 151 ∷ 6 ∷ 176 ∷ 87 ∷ 239 ∷ 59 ∷ 230 ∷ 130 ∷ 198 ∷ []
+
+abbrev pub fourth_record : List ℕ
+fourth_record = 1 ∷ 0 ∷ 1 ∷ 0 ∷ 0 ∷ 0 ∷ 19 ∷ 0 ∷ 127 ∷ 123 ∷ 90 ∷ 162 ∷ 99 ∷ 109 ∷ 232 ∷ 47 ∷ 240 ∷ 233 ∷ 151 ∷ 6 ∷ 176 ∷ 87 ∷ 239 ∷ 59 ∷ 230 ∷ 130 ∷ 198 ∷ []
+
+-- Its key and its initialization vector.
+abbrev pub fourth_key : List ℕ
+fourth_key = 254 ∷ 87 ∷ 78 ∷ 225 ∷ 6 ∷ 117 ∷ 197 ∷ 174 ∷ 92 ∷ 95 ∷ 189 ∷ 131 ∷ 43 ∷ 168 ∷ 168 ∷ 114 ∷ []
+
+abbrev pub fourth_iv : List ℕ
+fourth_iv = 78 ∷ 121 ∷ 96 ∷ 26 ∷ 27 ∷ 156 ∷ 50 ∷ 124 ∷ 208 ∷ 125 ∷ 188 ∷ 69 ∷ []

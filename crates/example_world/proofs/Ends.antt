@@ -29,9 +29,9 @@ use Rattle.hmac_hkdf.specs.Hkdf.{block_of, blocks_of, expand}
 use Rattle.hmac_hkdf.specs.Hmac.{hmac}
 use Rattle.key_schedule.specs.Schedule.{secret_at}
 use Rattle.sha2.specs.Sha256.{sha256, digest_bytes, hash_after, compress, rounds, schedule, first_words}
-use Rattle.example_world.proofs.Bytes.{covered, exchange_bytes, first_inner, first_record, first_tag, packet_10, packet_11, packet_7, packet_8, packet_9, request_verify, response_bytes, response_verify, second_inner, second_record, second_tag, transcript}
+use Rattle.example_world.proofs.Bytes.{covered, exchange_bytes, first_inner, first_record, first_tag, packet_10, packet_11, packet_7, packet_12, packet_13, packet_8, packet_9, request_verify, response_bytes, response_verify, second_inner, second_record, second_tag, third_inner, third_record, third_tag, fourth_inner, fourth_record, fourth_tag, transcript}
 use Rattle.example_world.proofs.Connected.{connected, one, other}
-use Rattle.example_world.proofs.Keys.{choice, fits_first, fits_second, opens_first, opens_second, psk, request, response, seals_first, seals_second, tags_first, tags_second}
+use Rattle.example_world.proofs.Keys.{choice, data_request, data_response, fits_first, fits_fourth, fits_second, fits_third, opens_first, opens_fourth, opens_second, opens_third, psk, request, response, seals_first, seals_fourth, seals_second, seals_third, tags_first, tags_fourth, tags_second, tags_third}
 use Rattle.example_world.specs.Example.{requester}
 use Rattle.key_schedule.specs.Purpose.{verify}
 use Rattle.key_schedule.specs.declared.direction.Direction.TheVariants as direction
@@ -40,17 +40,17 @@ use Rattle.requester_machine.specs.Answers.{goes_on}
 use Rattle.requester_machine.specs.Commands.{Free as FreeHere}
 use Rattle.requester_machine.specs.Does.{body_chosen}
 use Rattle.requester_machine.specs.Hearing.{record_outcome}
-use Rattle.requester_machine.specs.History.Effect.{Answers}
+use Rattle.requester_machine.specs.History.Effect.{Answers, Grants}
 use Rattle.requester_machine.specs.History.Entry.{Told, TookClear}
 use Rattle.requester_machine.specs.InnerMessages.{Came}
 use Rattle.requester_machine.specs.Message.{Sent}
 use Rattle.requester_machine.specs.Message.Aim.{InSession, Plain}
-use Rattle.requester_machine.specs.Message.Ask.{AskFinish}
-use Rattle.requester_machine.specs.Message.Command.{Open}
+use Rattle.requester_machine.specs.Message.Ask.{AskData, AskFinish}
+use Rattle.requester_machine.specs.Message.Command.{Open, Send}
 use Rattle.requester_machine.specs.Message.Content.{Clear as InClear, Sealed as InRecord}
 use Rattle.requester_machine.specs.Requesting.{CommandStep, PacketStep, Requesting, heard_by, ignores, packets_of_sent}
 use Rattle.requester_machine.specs.Session.{Steps}
-use Rattle.requester_machine.specs.Session.Step.{Accepted, Asked, Started}
+use Rattle.requester_machine.specs.Session.Step.{Accepted, Asked, Started, Took as TookStep}
 use Rattle.responder_machine.specs.Answer.{Free}
 use Rattle.responder_machine.specs.Does.{record_chosen}
 use Rattle.responder_machine.specs.History.{Entry}
@@ -60,9 +60,9 @@ use Rattle.responder_machine.specs.Responder.Outcome.{Adds}
 use Rattle.responder_machine.specs.ResponderLog.{inner_acts}
 use Rattle.responder_machine.specs.Responding.{Connection, Responding, RspStep, answers}
 use Rattle.responder_machine.specs.Session.{Events}
-use Rattle.responder_machine.specs.Session.Event.{Began}
+use Rattle.responder_machine.specs.Session.Event.{Began, Heard}
 use Rattle.responder_machine.specs.Turn.{Turn}
-use Rattle.responder_machine.specs.Turn.Effect.{Took}
+use Rattle.responder_machine.specs.Turn.Effect.{Took, TookData}
 use Rattle.secured_record.specs.Faults.{header_fault}
 use Rattle.spdm_basis.specs.declared.causes.record_fault.RecordFault.{RecordFault}
 use Rattle.spdm_grammar.specs.Message.{ExchangeMessage}
@@ -341,3 +341,175 @@ last_by = refl
 
 pub last_made : took_last.acts ≡ last_acts
 last_made = last_by ∙ ap (λ (x : List ℕ). Checked response (record_input 0 second_record) x second_tag ∷ []) tags_second
+
+-- ---- Application data is sent.
+
+abbrev pub opened_end : Requesting
+opened_end = took_last.after
+
+abbrev data_bytes : List ℕ
+data_bytes = 104 ∷ 105 ∷ []
+
+abbrev opened_steps : Steps
+opened_steps = TookStep second_record second_inner (Grants AskFinish (18 ∷ 103 ∷ 0 ∷ 0 ∷ [])) ∷ asked
+
+abbrev data_sent : List ℕ → Sent
+data_sent sealed = record { tag = 5; content = InRecord sealed third_inner []; aim = InSession 1 AskData }
+
+abbrev told_data_with : List ℕ → List ℕ → CommandStep
+told_data_with sealed tag = record {
+  fault = None;
+  sent = packets_of_sent requester (Some (data_sent sealed));
+  acts = Made data_request (record_input 0 sealed) tag ∷ [];
+  after = record opened_end { commands = 3; history = Told (Send 1 data_bytes) (data_sent sealed) second_draw ∷ opened_end.history };
+}
+
+abbrev pub sending : Requesting
+sending = record opened_end { commands = 3; history = Told (Send 1 data_bytes) (data_sent third_record) second_draw ∷ opened_end.history }
+
+abbrev pub told_send : CommandStep
+told_send = record { fault = None; sent = packet_12 ∷ []; acts = Made data_request (record_input 0 third_record) third_tag ∷ []; after = sending }
+
+told_data_by : requester_told opened_end (Send 1 data_bytes) ≡ told_data_with (sealed_next psk opened_steps third_inner []) (record_tag choice data_request 0 (sealed_next psk opened_steps third_inner []))
+unfolding field_at number_at optional_at behind_table behind_tables tables_at get_version_layout get_capabilities_layout negotiate_algorithms_layout get_measurements_layout psk_exchange_layout psk_finish_layout heartbeat_layout key_update_layout end_session_layout chunk_send_layout chunk_get_layout request_body version_layout capabilities_layout algorithms_layout measurements_layout psk_exchange_rsp_layout psk_finish_rsp_layout heartbeat_ack_layout key_update_ack_layout end_session_ack_layout chunk_send_ack_layout chunk_response_layout error_layout response_body terms_of gathered_from inner_led here_record hears asks session_of chosen next_draw requester_told requester_given command_fault carried_by clear_led body_fault there_session_of there_chosen answer_bytes turn_of refused_form refused_contents refusal on_clear session_turn in_session on_record there_next_draw responder_hears pumps happens verify_data expand blocks_of block_of secret_at hmac sha256 digest_bytes hash_after compress rounds schedule first_words
+told_data_by = refl
+
+sealed_data : sealed_next psk opened_steps third_inner [] ≡ third_record
+unfolding sealed_next field_at number_at optional_at behind_table behind_tables tables_at get_version_layout get_capabilities_layout negotiate_algorithms_layout get_measurements_layout psk_exchange_layout psk_finish_layout heartbeat_layout key_update_layout end_session_layout chunk_send_layout chunk_get_layout request_body version_layout capabilities_layout algorithms_layout measurements_layout psk_exchange_rsp_layout psk_finish_rsp_layout heartbeat_ack_layout key_update_ack_layout end_session_ack_layout chunk_send_ack_layout chunk_response_layout error_layout response_body terms_of gathered_from inner_led here_record hears asks session_of chosen next_draw requester_told requester_given command_fault carried_by clear_led body_fault there_session_of there_chosen answer_bytes turn_of refused_form refused_contents refusal on_clear session_turn in_session on_record there_next_draw responder_hears pumps happens verify_data expand blocks_of block_of secret_at hmac sha256 digest_bytes hash_after compress rounds schedule first_words
+sealed_data = seals_third
+
+told_data_whole : told_data_with third_record third_tag ≡ told_send
+unfolding field_at number_at optional_at behind_table behind_tables tables_at get_version_layout get_capabilities_layout negotiate_algorithms_layout get_measurements_layout psk_exchange_layout psk_finish_layout heartbeat_layout key_update_layout end_session_layout chunk_send_layout chunk_get_layout request_body version_layout capabilities_layout algorithms_layout measurements_layout psk_exchange_rsp_layout psk_finish_rsp_layout heartbeat_ack_layout key_update_ack_layout end_session_ack_layout chunk_send_ack_layout chunk_response_layout error_layout response_body terms_of gathered_from inner_led here_record hears asks session_of chosen next_draw requester_told requester_given command_fault carried_by clear_led body_fault there_session_of there_chosen answer_bytes turn_of refused_form refused_contents refusal on_clear session_turn in_session on_record there_next_draw responder_hears pumps happens
+told_data_whole = refl
+
+pub told_data : requester_told opened_end (Send 1 data_bytes) ≡ told_send
+told_data =
+    told_data_by ∙ ap (λ (x : List ℕ). told_data_with x (record_tag choice data_request 0 x)) sealed_data ∙ ap (told_data_with third_record) tags_third ∙ told_data_whole
+
+-- ---- It comes to the responder.
+
+abbrev pub serving : Responding
+serving = answered_finish.after
+
+abbrev opened_there : Connection
+opened_there = record began { history = finish_entry ∷ began.history }
+
+abbrev events : Events
+events = Heard first_record finish_turn second_record ∷ opening
+
+abbrev data_free : Free
+data_free = record_chosen opened_there.setup opened_there.history third_record next_own_draw
+
+abbrev data_route : RouteFields
+data_route = record { to = 8; from = 9; owner = true; tag = 5 }
+
+abbrev data_led : Option RecordFault → Outcome
+data_led fault = in_session_by opened_there.setup Negotiated events data_free 5 third_record next_own_draw fault
+
+data_answers_by : responder_hears serving packet_12 ≡ answers serving opened_there packet_12 data_route (record_body third_record) (data_led (opening_fault psk events third_record))
+unfolding field_at number_at optional_at behind_table behind_tables tables_at get_version_layout get_capabilities_layout negotiate_algorithms_layout get_measurements_layout psk_exchange_layout psk_finish_layout heartbeat_layout key_update_layout end_session_layout chunk_send_layout chunk_get_layout request_body version_layout capabilities_layout algorithms_layout measurements_layout psk_exchange_rsp_layout psk_finish_rsp_layout heartbeat_ack_layout key_update_ack_layout end_session_ack_layout chunk_send_ack_layout chunk_response_layout error_layout response_body terms_of gathered_from inner_led here_record hears asks session_of chosen next_draw requester_told requester_given command_fault carried_by clear_led body_fault there_session_of there_chosen answer_bytes turn_of refused_form refused_contents refusal on_clear session_turn in_session on_record there_next_draw responder_hears pumps happens hmac sha256 digest_bytes hash_after compress rounds schedule first_words
+data_answers_by = refl
+
+no_data_fault : opening_fault psk events third_record ≡ None
+unfolding opening_fault field_at number_at optional_at behind_table behind_tables tables_at get_version_layout get_capabilities_layout negotiate_algorithms_layout get_measurements_layout psk_exchange_layout psk_finish_layout heartbeat_layout key_update_layout end_session_layout chunk_send_layout chunk_get_layout request_body version_layout capabilities_layout algorithms_layout measurements_layout psk_exchange_rsp_layout psk_finish_rsp_layout heartbeat_ack_layout key_update_ack_layout end_session_ack_layout chunk_send_ack_layout chunk_response_layout error_layout response_body terms_of gathered_from inner_led here_record hears asks session_of chosen next_draw requester_told requester_given command_fault carried_by clear_led body_fault there_session_of there_chosen answer_bytes turn_of refused_form refused_contents refusal on_clear session_turn in_session on_record there_next_draw responder_hears pumps happens verify_data expand blocks_of block_of secret_at hmac sha256 digest_bytes hash_after compress rounds schedule first_words
+no_data_fault = fits_third
+
+opened_data : opened psk events third_record ≡ third_inner
+unfolding opened field_at number_at optional_at behind_table behind_tables tables_at get_version_layout get_capabilities_layout negotiate_algorithms_layout get_measurements_layout psk_exchange_layout psk_finish_layout heartbeat_layout key_update_layout end_session_layout chunk_send_layout chunk_get_layout request_body version_layout capabilities_layout algorithms_layout measurements_layout psk_exchange_rsp_layout psk_finish_rsp_layout heartbeat_ack_layout key_update_ack_layout end_session_ack_layout chunk_send_ack_layout chunk_response_layout error_layout response_body terms_of gathered_from inner_led here_record hears asks session_of chosen next_draw requester_told requester_given command_fault carried_by clear_led body_fault there_session_of there_chosen answer_bytes turn_of refused_form refused_contents refusal on_clear session_turn in_session on_record there_next_draw responder_hears pumps happens verify_data expand blocks_of block_of secret_at hmac sha256 digest_bytes hash_after compress rounds schedule first_words
+opened_data = opens_third
+
+abbrev data_turn : Turn
+data_turn = record { message = data_bytes; refused = None; chunk = None; effect = TookData data_bytes []; reply = [] }
+
+data_turns : session_turn opened_there.setup events third_inner data_free ≡ data_turn
+unfolding field_at number_at optional_at behind_table behind_tables tables_at get_version_layout get_capabilities_layout negotiate_algorithms_layout get_measurements_layout psk_exchange_layout psk_finish_layout heartbeat_layout key_update_layout end_session_layout chunk_send_layout chunk_get_layout request_body version_layout capabilities_layout algorithms_layout measurements_layout psk_exchange_rsp_layout psk_finish_rsp_layout heartbeat_ack_layout key_update_ack_layout end_session_ack_layout chunk_send_ack_layout chunk_response_layout error_layout response_body terms_of gathered_from inner_led here_record hears asks session_of chosen next_draw requester_told requester_given command_fault carried_by clear_led body_fault there_session_of there_chosen answer_bytes turn_of refused_form refused_contents refusal on_clear session_turn in_session on_record there_next_draw responder_hears pumps happens
+data_turns = refl
+
+data_replies : reply_record psk events data_turn fourth_inner [] ≡ fourth_record
+unfolding reply_record field_at number_at optional_at behind_table behind_tables tables_at get_version_layout get_capabilities_layout negotiate_algorithms_layout get_measurements_layout psk_exchange_layout psk_finish_layout heartbeat_layout key_update_layout end_session_layout chunk_send_layout chunk_get_layout request_body version_layout capabilities_layout algorithms_layout measurements_layout psk_exchange_rsp_layout psk_finish_rsp_layout heartbeat_ack_layout key_update_ack_layout end_session_ack_layout chunk_send_ack_layout chunk_response_layout error_layout response_body terms_of gathered_from inner_led here_record hears asks session_of chosen next_draw requester_told requester_given command_fault carried_by clear_led body_fault there_session_of there_chosen answer_bytes turn_of refused_form refused_contents refusal on_clear session_turn in_session on_record there_next_draw responder_hears pumps happens verify_data expand blocks_of block_of secret_at hmac sha256 digest_bytes hash_after compress rounds schedule first_words
+data_replies = seals_fourth
+
+abbrev data_entry : Entry
+data_entry = Sealed 5 third_record data_turn fourth_record next_own_draw
+
+data_entered : data_led None ≡ Adds data_entry
+unfolding field_at number_at optional_at behind_table behind_tables tables_at get_version_layout get_capabilities_layout negotiate_algorithms_layout get_measurements_layout psk_exchange_layout psk_finish_layout heartbeat_layout key_update_layout end_session_layout chunk_send_layout chunk_get_layout request_body version_layout capabilities_layout algorithms_layout measurements_layout psk_exchange_rsp_layout psk_finish_rsp_layout heartbeat_ack_layout key_update_ack_layout end_session_ack_layout chunk_send_ack_layout chunk_response_layout error_layout response_body terms_of gathered_from inner_led here_record hears asks session_of chosen next_draw requester_told requester_given command_fault carried_by clear_led body_fault there_session_of there_chosen answer_bytes turn_of refused_form refused_contents refusal on_clear session_turn in_session on_record there_next_draw responder_hears pumps happens
+data_entered =
+    ap (λ (x : List ℕ). Adds (sealed_entry opened_there.setup events data_free 5 third_record next_own_draw (session_turn opened_there.setup events x data_free))) opened_data
+    ∙ ap (λ (t : Turn). Adds (sealed_entry opened_there.setup events data_free 5 third_record next_own_draw t)) data_turns
+    ∙ ap (λ (x : List ℕ). Adds (Sealed 5 third_record data_turn x next_own_draw)) data_replies
+
+abbrev pub answered_data : RspStep
+answered_data = answers serving opened_there packet_12 data_route (record_body third_record) (Adds data_entry)
+
+pub heard_data : responder_hears serving packet_12 ≡ answered_data
+heard_data =
+    data_answers_by ∙ ap (λ (o : Option RecordFault). answers serving opened_there packet_12 data_route (record_body third_record) (data_led o)) no_data_fault
+    ∙ ap (answers serving opened_there packet_12 data_route (record_body third_record)) data_entered
+
+pub data_answer_sent : answered_data.sent ≡ packet_13 ∷ []
+unfolding field_at number_at optional_at behind_table behind_tables tables_at get_version_layout get_capabilities_layout negotiate_algorithms_layout get_measurements_layout psk_exchange_layout psk_finish_layout heartbeat_layout key_update_layout end_session_layout chunk_send_layout chunk_get_layout request_body version_layout capabilities_layout algorithms_layout measurements_layout psk_exchange_rsp_layout psk_finish_rsp_layout heartbeat_ack_layout key_update_ack_layout end_session_ack_layout chunk_send_ack_layout chunk_response_layout error_layout response_body terms_of gathered_from inner_led here_record hears asks session_of chosen next_draw requester_told requester_given command_fault carried_by clear_led body_fault there_session_of there_chosen answer_bytes turn_of refused_form refused_contents refusal on_clear session_turn in_session on_record there_next_draw responder_hears pumps happens
+data_answer_sent = refl
+
+abbrev data_acts_with : (inner one_tag other_tag : List ℕ) → List Act
+data_acts_with inner one_tag other_tag =
+    Made data_response (record_input 0 fourth_record) other_tag ∷ inner_acts opened_there.setup events inner ++ Checked data_request (record_input 0 third_record) one_tag third_tag ∷ []
+
+abbrev pub data_acts : List Act
+data_acts = Made data_response (record_input 0 fourth_record) fourth_tag ∷ Checked data_request (record_input 0 third_record) third_tag third_tag ∷ []
+
+data_acts_by : answered_data.acts ≡ data_acts_with (opened psk events third_record) (record_tag choice data_request 0 third_record) (record_tag choice data_response 0 fourth_record)
+unfolding header_fault field_at number_at optional_at behind_table behind_tables tables_at get_version_layout get_capabilities_layout negotiate_algorithms_layout get_measurements_layout psk_exchange_layout psk_finish_layout heartbeat_layout key_update_layout end_session_layout chunk_send_layout chunk_get_layout request_body version_layout capabilities_layout algorithms_layout measurements_layout psk_exchange_rsp_layout psk_finish_rsp_layout heartbeat_ack_layout key_update_ack_layout end_session_ack_layout chunk_send_ack_layout chunk_response_layout error_layout response_body terms_of gathered_from inner_led here_record hears asks session_of chosen next_draw requester_told requester_given command_fault carried_by clear_led body_fault there_session_of there_chosen answer_bytes turn_of refused_form refused_contents refusal on_clear session_turn in_session on_record there_next_draw responder_hears pumps happens
+data_acts_by = refl
+
+data_checked : data_acts_with third_inner third_tag fourth_tag ≡ data_acts
+unfolding field_at number_at optional_at behind_table behind_tables tables_at get_version_layout get_capabilities_layout negotiate_algorithms_layout get_measurements_layout psk_exchange_layout psk_finish_layout heartbeat_layout key_update_layout end_session_layout chunk_send_layout chunk_get_layout request_body version_layout capabilities_layout algorithms_layout measurements_layout psk_exchange_rsp_layout psk_finish_rsp_layout heartbeat_ack_layout key_update_ack_layout end_session_ack_layout chunk_send_ack_layout chunk_response_layout error_layout response_body terms_of gathered_from inner_led here_record hears asks session_of chosen next_draw requester_told requester_given command_fault carried_by clear_led body_fault there_session_of there_chosen answer_bytes turn_of refused_form refused_contents refusal on_clear session_turn in_session on_record there_next_draw responder_hears pumps happens
+data_checked = refl
+
+pub data_made : answered_data.acts ≡ data_acts
+data_made =
+    data_acts_by ∙ ap (λ (x : List ℕ). data_acts_with x (record_tag choice data_request 0 third_record) (record_tag choice data_response 0 fourth_record)) opened_data
+    ∙ ap₂ (λ (x y : List ℕ). data_acts_with third_inner x y) tags_third tags_fourth ∙ data_checked
+
+-- ---- Its answer comes to the requester.
+
+abbrev asked_data : Steps
+asked_data = Asked AskData third_inner third_record ∷ opened_steps
+
+abbrev data_answer_free : FreeHere
+data_answer_free = body_chosen requester sending.history second_draw
+
+abbrev data_came : List ℕ → Came
+data_came inner = record { id = 1; steps = asked_data; sealed = fourth_record; inner = inner }
+
+abbrev data_step : List ℕ → Option RecordFault → PacketStep
+data_step inner fault = heard_by sending packet_13 (record_body fourth_record) (record_outcome requester sending.history data_answer_free 5 AskData (data_came inner) second_draw fault)
+
+data_hears_by : requester_given sending packet_13 ≡ data_step (answer_inner psk asked_data AskData fourth_record) (answer_fault psk asked_data AskData fourth_record)
+unfolding field_at number_at optional_at behind_table behind_tables tables_at get_version_layout get_capabilities_layout negotiate_algorithms_layout get_measurements_layout psk_exchange_layout psk_finish_layout heartbeat_layout key_update_layout end_session_layout chunk_send_layout chunk_get_layout request_body version_layout capabilities_layout algorithms_layout measurements_layout psk_exchange_rsp_layout psk_finish_rsp_layout heartbeat_ack_layout key_update_ack_layout end_session_ack_layout chunk_send_ack_layout chunk_response_layout error_layout response_body terms_of gathered_from inner_led here_record hears asks session_of chosen next_draw requester_told requester_given command_fault carried_by clear_led body_fault there_session_of there_chosen answer_bytes turn_of refused_form refused_contents refusal on_clear session_turn in_session on_record there_next_draw responder_hears pumps happens hmac sha256 digest_bytes hash_after compress rounds schedule first_words
+data_hears_by = refl
+
+no_data_answer_fault : answer_fault psk asked_data AskData fourth_record ≡ None
+unfolding answer_fault field_at number_at optional_at behind_table behind_tables tables_at get_version_layout get_capabilities_layout negotiate_algorithms_layout get_measurements_layout psk_exchange_layout psk_finish_layout heartbeat_layout key_update_layout end_session_layout chunk_send_layout chunk_get_layout request_body version_layout capabilities_layout algorithms_layout measurements_layout psk_exchange_rsp_layout psk_finish_rsp_layout heartbeat_ack_layout key_update_ack_layout end_session_ack_layout chunk_send_ack_layout chunk_response_layout error_layout response_body terms_of gathered_from inner_led here_record hears asks session_of chosen next_draw requester_told requester_given command_fault carried_by clear_led body_fault there_session_of there_chosen answer_bytes turn_of refused_form refused_contents refusal on_clear session_turn in_session on_record there_next_draw responder_hears pumps happens verify_data expand blocks_of block_of secret_at hmac sha256 digest_bytes hash_after compress rounds schedule first_words
+no_data_answer_fault = fits_fourth
+
+opened_data_answer : answer_inner psk asked_data AskData fourth_record ≡ fourth_inner
+unfolding answer_inner field_at number_at optional_at behind_table behind_tables tables_at get_version_layout get_capabilities_layout negotiate_algorithms_layout get_measurements_layout psk_exchange_layout psk_finish_layout heartbeat_layout key_update_layout end_session_layout chunk_send_layout chunk_get_layout request_body version_layout capabilities_layout algorithms_layout measurements_layout psk_exchange_rsp_layout psk_finish_rsp_layout heartbeat_ack_layout key_update_ack_layout end_session_ack_layout chunk_send_ack_layout chunk_response_layout error_layout response_body terms_of gathered_from inner_led here_record hears asks session_of chosen next_draw requester_told requester_given command_fault carried_by clear_led body_fault there_session_of there_chosen answer_bytes turn_of refused_form refused_contents refusal on_clear session_turn in_session on_record there_next_draw responder_hears pumps happens verify_data expand blocks_of block_of secret_at hmac sha256 digest_bytes hash_after compress rounds schedule first_words
+opened_data_answer = opens_fourth
+
+abbrev pub took_data : PacketStep
+took_data = data_step fourth_inner None
+
+pub given_data : requester_given sending packet_13 ≡ took_data
+given_data = data_hears_by ∙ ap₂ data_step opened_data_answer no_data_answer_fault
+
+pub no_more_sent : took_data.sent ≡ []
+unfolding field_at number_at optional_at behind_table behind_tables tables_at get_version_layout get_capabilities_layout negotiate_algorithms_layout get_measurements_layout psk_exchange_layout psk_finish_layout heartbeat_layout key_update_layout end_session_layout chunk_send_layout chunk_get_layout request_body version_layout capabilities_layout algorithms_layout measurements_layout psk_exchange_rsp_layout psk_finish_rsp_layout heartbeat_ack_layout key_update_ack_layout end_session_ack_layout chunk_send_ack_layout chunk_response_layout error_layout response_body terms_of gathered_from inner_led here_record hears asks session_of chosen next_draw requester_told requester_given command_fault carried_by clear_led body_fault there_session_of there_chosen answer_bytes turn_of refused_form refused_contents refusal on_clear session_turn in_session on_record there_next_draw responder_hears pumps happens
+no_more_sent = refl
+
+data_last_by : took_data.acts ≡ Checked data_response (record_input 0 fourth_record) (record_tag choice data_response 0 fourth_record) fourth_tag ∷ []
+unfolding header_fault field_at number_at optional_at behind_table behind_tables tables_at get_version_layout get_capabilities_layout negotiate_algorithms_layout get_measurements_layout psk_exchange_layout psk_finish_layout heartbeat_layout key_update_layout end_session_layout chunk_send_layout chunk_get_layout request_body version_layout capabilities_layout algorithms_layout measurements_layout psk_exchange_rsp_layout psk_finish_rsp_layout heartbeat_ack_layout key_update_ack_layout end_session_ack_layout chunk_send_ack_layout chunk_response_layout error_layout response_body terms_of gathered_from inner_led here_record hears asks session_of chosen next_draw requester_told requester_given command_fault carried_by clear_led body_fault there_session_of there_chosen answer_bytes turn_of refused_form refused_contents refusal on_clear session_turn in_session on_record there_next_draw responder_hears pumps happens
+data_last_by = refl
+
+pub data_last_made : took_data.acts ≡ Checked data_response (record_input 0 fourth_record) fourth_tag fourth_tag ∷ []
+data_last_made = data_last_by ∙ ap (λ (x : List ℕ). Checked data_response (record_input 0 fourth_record) x fourth_tag ∷ []) tags_fourth

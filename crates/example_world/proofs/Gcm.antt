@@ -1,4 +1,4 @@
--- The two records of the handshake under their keys.
+-- The records under their keys.
 use Rattle.std.proofs.Common.{◌≡◌, ◌<◌, ◌-◌, ◌*◌, ◌^◌, ◌/◌, ◌%◌, ◌∙◌, ◌++◌, ◌==◌, ℕ, List, [], ◌∷◌, refl, sym, ap, ap₂, arith, map, take, drop, length, nat_lt, Bool, true, None}
 use Rattle.std.specs.Prelude.{if◌then◌else◌, bit_xor, bytes_eq, not, slice_index}
 use Rattle.std.specs.List.{range_with_len}
@@ -6,7 +6,7 @@ use Rattle.aes.specs.ByteField.{sbox_of, product_below, reduced, inverse_below, 
 use Rattle.aes.specs.Cipher.{cipher, rounds, round_keys, expanded}
 use Rattle.aes_gcm.specs.Gcm.{crypt, hash_key, hashed_blocks, stream_block, tag_of}
 use Rattle.byteorder.specs.Endian.{little_number}
-use Rattle.example_world.proofs.Bytes.{first_inner, first_iv, first_key, first_plain, first_record, first_tag, first_text, second_inner, second_iv, second_key, second_plain, second_record, second_tag, second_text}
+use Rattle.example_world.proofs.Bytes.{first_inner, first_iv, first_key, first_plain, first_record, first_tag, first_text, second_inner, second_iv, second_key, second_plain, second_record, second_tag, second_text, third_inner, third_iv, third_key, third_plain, third_record, third_tag, third_text, fourth_inner, fourth_iv, fourth_key, fourth_plain, fourth_record, fourth_tag, fourth_text}
 use Rattle.ghash.proofs.Blocks.{product-folded}
 use Rattle.ghash.proofs.Sums.{ghash-append, no_blocks}
 use Rattle.ghash.specs.CarryLess.{carry_less}
@@ -245,3 +245,193 @@ second_opened = ap (λ (x : List ℕ). take (little_number 2 x) (drop 2 x)) seco
 
 pub second_tag_is : tag_of second_key (nonce second_iv 0) (take 8 second_record) (text_part second_record) ≡ second_tag
 second_tag_is = second_tagged
+
+-- ---- The third record.
+
+third_zero : cipher third_key (0 ∷ 0 ∷ 0 ∷ 0 ∷ 0 ∷ 0 ∷ 0 ∷ 0 ∷ 0 ∷ 0 ∷ 0 ∷ 0 ∷ 0 ∷ 0 ∷ 0 ∷ 0 ∷ []) ≡ 167 ∷ 134 ∷ 197 ∷ 11 ∷ 90 ∷ 228 ∷ 182 ∷ 139 ∷ 146 ∷ 132 ∷ 57 ∷ 212 ∷ 140 ∷ 160 ∷ 121 ∷ 108 ∷ []
+unfolding cipher rounds round_keys expanded power sbox_of product_below reduced inverse_below
+third_zero = refl
+
+third_block_1 : cipher third_key (212 ∷ 183 ∷ 226 ∷ 158 ∷ 187 ∷ 66 ∷ 155 ∷ 14 ∷ 105 ∷ 253 ∷ 232 ∷ 194 ∷ 0 ∷ 0 ∷ 0 ∷ 1 ∷ []) ≡ 44 ∷ 228 ∷ 213 ∷ 68 ∷ 77 ∷ 63 ∷ 14 ∷ 229 ∷ 217 ∷ 213 ∷ 234 ∷ 6 ∷ 104 ∷ 45 ∷ 169 ∷ 31 ∷ []
+unfolding cipher rounds round_keys expanded power sbox_of product_below reduced inverse_below
+third_block_1 = refl
+
+third_block_2 : cipher third_key (212 ∷ 183 ∷ 226 ∷ 158 ∷ 187 ∷ 66 ∷ 155 ∷ 14 ∷ 105 ∷ 253 ∷ 232 ∷ 194 ∷ 0 ∷ 0 ∷ 0 ∷ 2 ∷ []) ≡ 28 ∷ 172 ∷ 53 ∷ 63 ∷ 152 ∷ 115 ∷ 82 ∷ 144 ∷ 8 ∷ 25 ∷ 48 ∷ 222 ∷ 32 ∷ 244 ∷ 137 ∷ 94 ∷ []
+unfolding cipher rounds round_keys expanded power sbox_of product_below reduced inverse_below
+third_block_2 = refl
+
+third_none : ghash 222680839609456472729288223882058168684 [] ≡ 0
+third_none = sym (no_blocks 222680839609456472729288223882058168684)
+
+third_hash_1 : ghash 222680839609456472729288223882058168684 (1329248278194618694270371270081118208 ∷ []) ≡ 45117528873693620072503461068442619914
+unfolding moved carry_less
+third_hash_1 = one_more 222680839609456472729288223882058168684 0 1329248278194618694270371270081118208 1329248278194618694270371270081118208 45117528873693620072503461068442619914 ([]) third_none refl (omega arith) (omega arith) refl
+
+third_hash_2 : ghash 222680839609456472729288223882058168684 (1329248278194618694270371270081118208 ∷ 42100204581735798406928841695379324928 ∷ []) ≡ 159754705454689476606616607845225005371
+unfolding moved carry_less
+third_hash_2 = one_more 222680839609456472729288223882058168684 45117528873693620072503461068442619914 82897082864964949699035336966945296394 42100204581735798406928841695379324928 159754705454689476606616607845225005371 (1329248278194618694270371270081118208 ∷ []) third_hash_1 refl (omega arith) (omega arith) refl
+
+third_hash_3 : ghash 222680839609456472729288223882058168684 (1329248278194618694270371270081118208 ∷ 42100204581735798406928841695379324928 ∷ 1180591620717411303464 ∷ []) ≡ 26651092689609433285842003268213899764
+unfolding moved carry_less
+third_hash_3 = one_more 222680839609456472729288223882058168684 159754705454689476606616607845225005371 159754705454689477787208228562636308755 1180591620717411303464 26651092689609433285842003268213899764 (1329248278194618694270371270081118208 ∷ 42100204581735798406928841695379324928 ∷ []) third_hash_2 refl (omega arith) (omega arith) refl
+
+abbrev pub third_nonce : List ℕ
+third_nonce = 212 ∷ 183 ∷ 226 ∷ 158 ∷ 187 ∷ 66 ∷ 155 ∷ 14 ∷ 105 ∷ 253 ∷ 232 ∷ 194 ∷ []
+
+abbrev pub third_header : List ℕ
+third_header = 1 ∷ 0 ∷ 1 ∷ 0 ∷ 0 ∷ 0 ∷ 21 ∷ 0 ∷ []
+
+third_hash_key : hash_key third_key ≡ 222680839609456472729288223882058168684
+unfolding block_number
+third_hash_key = ap block_number third_zero
+
+third_mask : block_number (stream_block third_key third_nonce 1) ≡ 59674201062949446318858875314753087775
+unfolding block_number
+third_mask = ap block_number third_block_1
+
+third_blocks : hashed_blocks third_header third_text ≡ 1329248278194618694270371270081118208 ∷ 42100204581735798406928841695379324928 ∷ 1180591620717411303464 ∷ []
+unfolding block_number
+third_blocks = refl
+
+third_written : block_bytes (bit_xor 26651092689609433285842003268213899764 59674201062949446318858875314753087775) ≡ third_tag
+unfolding block_bytes
+third_written = refl
+
+third_tagged : tag_of third_key third_nonce third_header third_text ≡ third_tag
+third_tagged = tag_by third_key third_nonce third_header third_text 222680839609456472729288223882058168684 26651092689609433285842003268213899764 59674201062949446318858875314753087775 (1329248278194618694270371270081118208 ∷ 42100204581735798406928841695379324928 ∷ 1180591620717411303464 ∷ []) third_tag third_hash_key third_blocks third_hash_3 third_mask third_written
+
+third_encrypted_by : crypt third_key third_nonce third_plain ≡ crypted_by third_plain (stream_block third_key third_nonce 2) [] []
+third_encrypted_by = refl
+
+third_encrypted : crypt third_key third_nonce third_plain ≡ third_text
+third_encrypted =
+    third_encrypted_by
+    ∙ ap (λ (x : List ℕ). crypted_by third_plain x [] []) third_block_2
+
+third_decrypted_by : crypt third_key third_nonce third_text ≡ crypted_by third_text (stream_block third_key third_nonce 2) [] []
+third_decrypted_by = refl
+
+third_decrypted : crypt third_key third_nonce third_text ≡ third_plain
+third_decrypted =
+    third_decrypted_by
+    ∙ ap (λ (x : List ℕ). crypted_by third_text x [] []) third_block_2
+
+pub third_sealed : record_of third_key third_iv (1 ∷ 0 ∷ 1 ∷ 0 ∷ []) 0 third_inner [] ≡ third_record
+unfolding record_of
+third_sealed =
+    ap (λ (x : List ℕ). third_header ++ x ++ tag_of third_key third_nonce third_header x) third_encrypted
+    ∙ ap (λ (x : List ℕ). third_header ++ third_text ++ x) third_tagged
+
+third_right : is_authentic third_key third_iv 0 third_record ≡ true
+unfolding is_authentic
+third_right = ap (bytes_eq third_tag) third_tagged
+
+third_read : opened_text third_key third_iv 0 third_record ≡ third_plain
+unfolding opened_text
+third_read = third_decrypted
+
+pub third_fits : fault_of third_key third_iv (1 ∷ 0 ∷ 1 ∷ 0 ∷ []) 0 third_record ≡ None
+unfolding fault_of header_fault
+third_fits = ap₂ (λ (b : Bool) (x : List ℕ). first_of_tests ((not b, BadTag) ∷ (nat_lt (length x - 2) (little_number 2 x), BadInnerLength) ∷ [])) third_right third_read
+
+pub third_opened : inner_of third_key third_iv 0 third_record ≡ third_inner
+unfolding inner_of
+third_opened = ap (λ (x : List ℕ). take (little_number 2 x) (drop 2 x)) third_read
+
+pub third_tag_is : tag_of third_key (nonce third_iv 0) (take 8 third_record) (text_part third_record) ≡ third_tag
+third_tag_is = third_tagged
+
+-- ---- The fourth record.
+
+fourth_zero : cipher fourth_key (0 ∷ 0 ∷ 0 ∷ 0 ∷ 0 ∷ 0 ∷ 0 ∷ 0 ∷ 0 ∷ 0 ∷ 0 ∷ 0 ∷ 0 ∷ 0 ∷ 0 ∷ 0 ∷ []) ≡ 167 ∷ 91 ∷ 220 ∷ 111 ∷ 217 ∷ 125 ∷ 131 ∷ 41 ∷ 48 ∷ 43 ∷ 233 ∷ 150 ∷ 57 ∷ 231 ∷ 111 ∷ 113 ∷ []
+unfolding cipher rounds round_keys expanded power sbox_of product_below reduced inverse_below
+fourth_zero = refl
+
+fourth_block_1 : cipher fourth_key (78 ∷ 121 ∷ 96 ∷ 26 ∷ 27 ∷ 156 ∷ 50 ∷ 124 ∷ 208 ∷ 125 ∷ 188 ∷ 69 ∷ 0 ∷ 0 ∷ 0 ∷ 1 ∷ []) ≡ 242 ∷ 118 ∷ 21 ∷ 17 ∷ 151 ∷ 149 ∷ 140 ∷ 98 ∷ 152 ∷ 134 ∷ 32 ∷ 14 ∷ 57 ∷ 103 ∷ 128 ∷ 72 ∷ []
+unfolding cipher rounds round_keys expanded power sbox_of product_below reduced inverse_below
+fourth_block_1 = refl
+
+fourth_block_2 : cipher fourth_key (78 ∷ 121 ∷ 96 ∷ 26 ∷ 27 ∷ 156 ∷ 50 ∷ 124 ∷ 208 ∷ 125 ∷ 188 ∷ 69 ∷ 0 ∷ 0 ∷ 0 ∷ 2 ∷ []) ≡ 126 ∷ 123 ∷ 91 ∷ 233 ∷ 66 ∷ 201 ∷ 54 ∷ 234 ∷ 135 ∷ 86 ∷ 110 ∷ 122 ∷ 244 ∷ 231 ∷ 207 ∷ 35 ∷ []
+unfolding cipher rounds round_keys expanded power sbox_of product_below reduced inverse_below
+fourth_block_2 = refl
+
+fourth_none : ghash 222458045301956444788447391786413289329 [] ≡ 0
+fourth_none = sym (no_blocks 222458045301956444788447391786413289329)
+
+fourth_hash_1 : ghash 222458045301956444788447391786413289329 (1329248278194609249537405530790690816 ∷ []) ≡ 286023701712811546247295967119400710664
+unfolding moved carry_less
+fourth_hash_1 = one_more 222458045301956444788447391786413289329 0 1329248278194609249537405530790690816 1329248278194609249537405530790690816 286023701712811546247295967119400710664 ([]) fourth_none refl (omega arith) (omega arith) refl
+
+fourth_hash_2 : ghash 222458045301956444788447391786413289329 (1329248278194609249537405530790690816 ∷ 169452433395148428307430902956713574400 ∷ []) ≡ 286362898033878922359627400641662819742
+unfolding moved carry_less
+fourth_hash_2 = one_more 222458045301956444788447391786413289329 286023701712811546247295967119400710664 223753986386714028721941096739659264520 169452433395148428307430902956713574400 286362898033878922359627400641662819742 (1329248278194609249537405530790690816 ∷ []) fourth_hash_1 refl (omega arith) (omega arith) refl
+
+fourth_hash_3 : ghash 222458045301956444788447391786413289329 (1329248278194609249537405530790690816 ∷ 169452433395148428307430902956713574400 ∷ 1180591620717411303448 ∷ []) ≡ 106449731570855230269550709107979256462
+unfolding moved carry_less
+fourth_hash_3 = one_more 222458045301956444788447391786413289329 286362898033878922359627400641662819742 286362898033878921179035779924251516294 1180591620717411303448 106449731570855230269550709107979256462 (1329248278194609249537405530790690816 ∷ 169452433395148428307430902956713574400 ∷ []) fourth_hash_2 refl (omega arith) (omega arith) refl
+
+abbrev pub fourth_nonce : List ℕ
+fourth_nonce = 78 ∷ 121 ∷ 96 ∷ 26 ∷ 27 ∷ 156 ∷ 50 ∷ 124 ∷ 208 ∷ 125 ∷ 188 ∷ 69 ∷ []
+
+abbrev pub fourth_header : List ℕ
+fourth_header = 1 ∷ 0 ∷ 1 ∷ 0 ∷ 0 ∷ 0 ∷ 19 ∷ 0 ∷ []
+
+fourth_hash_key : hash_key fourth_key ≡ 222458045301956444788447391786413289329
+unfolding block_number
+fourth_hash_key = ap block_number fourth_zero
+
+fourth_mask : block_number (stream_block fourth_key fourth_nonce 1) ≡ 322286293333650219710685262421663645768
+unfolding block_number
+fourth_mask = ap block_number fourth_block_1
+
+fourth_blocks : hashed_blocks fourth_header fourth_text ≡ 1329248278194609249537405530790690816 ∷ 169452433395148428307430902956713574400 ∷ 1180591620717411303448 ∷ []
+unfolding block_number
+fourth_blocks = refl
+
+fourth_written : block_bytes (bit_xor 106449731570855230269550709107979256462 322286293333650219710685262421663645768) ≡ fourth_tag
+unfolding block_bytes
+fourth_written = refl
+
+fourth_tagged : tag_of fourth_key fourth_nonce fourth_header fourth_text ≡ fourth_tag
+fourth_tagged = tag_by fourth_key fourth_nonce fourth_header fourth_text 222458045301956444788447391786413289329 106449731570855230269550709107979256462 322286293333650219710685262421663645768 (1329248278194609249537405530790690816 ∷ 169452433395148428307430902956713574400 ∷ 1180591620717411303448 ∷ []) fourth_tag fourth_hash_key fourth_blocks fourth_hash_3 fourth_mask fourth_written
+
+fourth_encrypted_by : crypt fourth_key fourth_nonce fourth_plain ≡ crypted_by fourth_plain (stream_block fourth_key fourth_nonce 2) [] []
+fourth_encrypted_by = refl
+
+fourth_encrypted : crypt fourth_key fourth_nonce fourth_plain ≡ fourth_text
+fourth_encrypted =
+    fourth_encrypted_by
+    ∙ ap (λ (x : List ℕ). crypted_by fourth_plain x [] []) fourth_block_2
+
+fourth_decrypted_by : crypt fourth_key fourth_nonce fourth_text ≡ crypted_by fourth_text (stream_block fourth_key fourth_nonce 2) [] []
+fourth_decrypted_by = refl
+
+fourth_decrypted : crypt fourth_key fourth_nonce fourth_text ≡ fourth_plain
+fourth_decrypted =
+    fourth_decrypted_by
+    ∙ ap (λ (x : List ℕ). crypted_by fourth_text x [] []) fourth_block_2
+
+pub fourth_sealed : record_of fourth_key fourth_iv (1 ∷ 0 ∷ 1 ∷ 0 ∷ []) 0 fourth_inner [] ≡ fourth_record
+unfolding record_of
+fourth_sealed =
+    ap (λ (x : List ℕ). fourth_header ++ x ++ tag_of fourth_key fourth_nonce fourth_header x) fourth_encrypted
+    ∙ ap (λ (x : List ℕ). fourth_header ++ fourth_text ++ x) fourth_tagged
+
+fourth_right : is_authentic fourth_key fourth_iv 0 fourth_record ≡ true
+unfolding is_authentic
+fourth_right = ap (bytes_eq fourth_tag) fourth_tagged
+
+fourth_read : opened_text fourth_key fourth_iv 0 fourth_record ≡ fourth_plain
+unfolding opened_text
+fourth_read = fourth_decrypted
+
+pub fourth_fits : fault_of fourth_key fourth_iv (1 ∷ 0 ∷ 1 ∷ 0 ∷ []) 0 fourth_record ≡ None
+unfolding fault_of header_fault
+fourth_fits = ap₂ (λ (b : Bool) (x : List ℕ). first_of_tests ((not b, BadTag) ∷ (nat_lt (length x - 2) (little_number 2 x), BadInnerLength) ∷ [])) fourth_right fourth_read
+
+pub fourth_opened : inner_of fourth_key fourth_iv 0 fourth_record ≡ fourth_inner
+unfolding inner_of
+fourth_opened = ap (λ (x : List ℕ). take (little_number 2 x) (drop 2 x)) fourth_read
+
+pub fourth_tag_is : tag_of fourth_key (nonce fourth_iv 0) (take 8 fourth_record) (text_part fourth_record) ≡ fourth_tag
+fourth_tag_is = fourth_tagged

@@ -1,5 +1,5 @@
-//! A world in which a session is opened and nothing agrees by chance, so that the laws of agreement and of honest
-//! completion speak of something. No code runs here: the function below has the statement as its contract.
+//! A world in which a session is opened, data is sent in it, and nothing agrees by chance: so the laws of agreement and
+//! of honest completion speak of something. No code runs here: the function below has the statement as its contract.
 //!
 //! Read first: `SessionOpens` in `specs/Example.antt`. The proof computes the run of the two ends packet by packet, with
 //! HMAC, SHA-256, AES and GHASH as they are defined.
@@ -7,7 +7,8 @@
 
 ghost use Rattle.example_world.specs.Example.{SessionOpens};
 
-/// The world keeps all limits, no two tags of it agree by chance, and both of its ends hold one session open.
+/// The world keeps all limits, no two of its tags agree by chance, both of its ends hold one session open under which the
+/// responder took data, and its script is honest.
 pub fn session_opens()
     ensures { SessionOpens }
 {}
