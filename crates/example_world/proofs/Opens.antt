@@ -1,50 +1,60 @@
--- Unless tags agree by chance the open is done, so both ends hold the session.
-use Rattle.std.proofs.Common.{◌≡◌, ◌∙◌, ◌==◌, ◌&&◌, ℕ, List, [], ◌∷◌, refl, sym, ap, ap₂, subst, arith, Bool, true, false, Some, eqb-true}
-use Rattle.std.specs.Prelude.{replicate}
+-- What the world holds, and what its script asks for.
+use Rattle.std.proofs.Common.{◌≡◌, ◌∙◌, ℕ, List, [], ◌∷◌, refl, sym, ap, subst, arith, inl, true, false, Some}
+use Rattle.std.specs.Prelude.{Contains, replicate, unwrap_or}
 use Rattle.std.proofs.lemmas.Option.{same_Some}
-use Rattle.example_world.proofs.Connected.{accepted, can_open, connected, asker, is_connection, is_requester, one, other, same_setup, server}
-use Rattle.example_world.specs.Example.{HoldOne, OpensUnlessChance, part, requester, script, setup, world}
-use Rattle.requester_machine.specs.Does.{free_id}
+use Rattle.spdm_grammar.specs.Reading.{field_at, number_at, optional_at, behind_table, behind_tables, tables_at}
+use Rattle.spdm_grammar.specs.Requests.{get_version_layout, get_capabilities_layout, negotiate_algorithms_layout, get_measurements_layout, psk_exchange_layout, psk_finish_layout, heartbeat_layout, key_update_layout, end_session_layout, chunk_send_layout, chunk_get_layout, request_body}
+use Rattle.spdm_grammar.specs.Responses.{version_layout, capabilities_layout, algorithms_layout, measurements_layout, psk_exchange_rsp_layout, psk_finish_rsp_layout, heartbeat_ack_layout, key_update_ack_layout, end_session_ack_layout, chunk_send_ack_layout, chunk_response_layout, error_layout, response_body}
+use Rattle.spdm_machine.specs.Terms.{terms_of}
+use Rattle.spdm_machine.specs.Packets.{gathered_from}
+use Rattle.requester_machine.specs.InnerMessages.{inner_led}
+use Rattle.requester_machine.specs.Hearing.{on_record as here_record, hears}
+use Rattle.requester_machine.specs.Asking.{asks}
+use Rattle.requester_machine.specs.Session.{session_of}
+use Rattle.requester_machine.specs.Does.{chosen}
+use Rattle.requester_machine.specs.Requesting.{next_draw, requester_told, requester_given}
+use Rattle.requester_machine.specs.Commands.{command_fault}
+use Rattle.requester_machine.specs.ClearAnswers.{carried_by, clear_led}
+use Rattle.requester_machine.specs.Bodies.{body_fault}
+use Rattle.responder_machine.specs.Session.{session_of as there_session_of}
+use Rattle.responder_machine.specs.Does.{chosen as there_chosen}
+use Rattle.responder_machine.specs.Answer.{answer_bytes}
+use Rattle.responder_machine.specs.Handling.{turn_of}
+use Rattle.responder_machine.specs.Refusal.{refused_form, refused_contents, refusal}
+use Rattle.responder_machine.specs.Responder.{on_clear, session_turn, in_session, on_record}
+use Rattle.responder_machine.specs.Responding.{next_draw as there_next_draw, responder_hears}
+use Rattle.world_machine.specs.World.{pumps, happens}
+use Rattle.example_world.proofs.Configured.{configuration}
+use Rattle.example_world.proofs.Connected.{asker, can_open, connected, is_connection, is_requester, one, other, same_setup, server}
+use Rattle.example_world.proofs.Ends.{answered_data, took_data}
+use Rattle.example_world.proofs.Logged.{log_end, no_chance, sent_end, world_is}
+use Rattle.example_world.proofs.Walk.{at}
+use Rattle.example_world.specs.Example.{HoldOne, IsHonestly, SessionOpens, data_bytes, entries, part, requester, script, setup}
 use Rattle.requester_machine.specs.Message.Command.{Connect, Open}
 use Rattle.requester_machine.specs.Requesting.{Requesting}
 use Rattle.requester_machine.specs.Session as asking
 use Rattle.requester_machine.specs.Setup.{ReqSetup}
+use Rattle.responder_machine.specs.Place.{is_held}
 use Rattle.responder_machine.specs.Responding.{Connection, connection_of}
 use Rattle.responder_machine.specs.Session as serving
-use Rattle.responder_machine.specs.Setup.{RspSetup}
 use Rattle.spdm_agreement.proofs.Requester.OwnRequests.{offer_with}
-use Rattle.spdm_agreement.proofs.Worlds.AllEvents.{requester_in}
-use Rattle.spdm_agreement.proofs.Worlds.Configuration.{configuration}
 use Rattle.spdm_agreement.proofs.Worlds.Scripts.{scripts_are_configured}
 use Rattle.spdm_agreement.specs.Configured.{IsConfigured}
-use Rattle.spdm_basis.specs.SessionIdBytes.{session_id_bytes}
 use Rattle.spdm_basis.specs.declared.values.aead_alg.AeadAlg.TheVariants.{Aes128Gcm}
 use Rattle.spdm_basis.specs.declared.values.hash_alg.HashAlg.TheVariants.{Sha256}
-use Rattle.spdm_grammar.specs.Lines.{Line}
-use Rattle.spdm_grammar.specs.declared.told.event.Finished.{Finished}
-use Rattle.spdm_grammar.specs.declared.told.phase.Stage.{Stage}
-use Rattle.spdm_machine.proofs.Members.{found_in}
-use Rattle.spdm_machine.specs.Sessions.{id_in_exchange, is_past_handshake}
-use Rattle.spdm_progress.proofs.OpenStages.{resting_held}
 use Rattle.spdm_progress.proofs.PumpedScripts.{pumped_scripts_are_honest}
-use Rattle.spdm_progress.proofs.ScriptsComplete.{honest_scripts_complete}
 use Rattle.spdm_progress.proofs.Told.{contained}
 use Rattle.spdm_progress.specs.Connecting.{CanConnect}
-use Rattle.spdm_progress.specs.InStep.{AreInStep, rsp_id}
 use Rattle.spdm_progress.specs.Opening.{CanOpen}
-use Rattle.spdm_progress.specs.Scripts.{CanBeDone, Holds, IsDone, OfEachCommand, WillBeDone, result_for, with_pumps}
-use Rattle.spdm_progress.specs.SessionCommands.{commanding, most_packets}
-use Rattle.transcript.specs.Transcripts as transcript
-use Rattle.transcript.specs.Transcripts.{Negotiation, vca_of}
-use Rattle.world_machine.specs.Chance.{NoChance}
-use Rattle.world_machine.specs.Happenings.{Entry}
+use Rattle.spdm_progress.specs.Scripts.{CanBeDone, OfEachCommand}
+use Rattle.spdm_progress.specs.SessionCommands.{most_packets}
+use Rattle.world_machine.specs.Agreement.{holds, requests_taken}
 use Rattle.world_machine.specs.Happenings.Happening.{Pump}
-use Rattle.world_machine.specs.Trace.{lines_from}
-use Rattle.world_machine.specs.World.{World, new_world}
+use Rattle.world_machine.specs.World.{new_world}
 
 -- ---- What each command needs.
 
-abbrev can_connect : CanConnect asker server
+can_connect : CanConnect asker server
 can_connect = record {
   offer = offer_with 1 1;
   offered = refl;
@@ -73,49 +83,67 @@ opens a c is con ok =
 configured : IsConfigured setup
 configured = scripts_are_configured (record { responder = part; requesters = requester ∷ [] }) (replicate 32 0) 0 configuration (omega arith)
 
-each : OfEachCommand CanBeDone (new_world setup) (with_pumps script)
-each = (connects, (tt, (opens, (tt, tt))))
+each : OfEachCommand CanBeDone (new_world setup) entries
+each = (connects, (tt, (opens, (tt, (λ a c is con ok. tt, (tt, tt))))))
 
--- ---- The open.
+honestly : IsHonestly
+honestly =
+    let runs = pumped_scripts_are_honest setup configured script (omega arith) no_chance each in
+    record { honest = runs.0; idle = runs.1; can = each }
 
-abbrev behind : List Entry
-behind = record { line = 8; happening = Pump most_packets } ∷ []
+-- ---- What both ends hold.
 
-done : NoChance world.log → WillBeDone connected 7 1 (Open 0) behind
-done chance =
-    let honest = pumped_scripts_are_honest setup configured script (omega arith) chance each in
-    (honest_scripts_complete setup configured (with_pumps script) (omega arith) honest.0 honest.1 chance each).0.1.1.0
+abbrev end : Requesting
+end = took_data.after
 
-t2_same : (s : asking.Steps) (e : serving.Events) → AreInStep s e → asking.t2_of s ≡ serving.t2_of e
-t2_same s e k =
-    ap (λ (n : Negotiation). transcript.t2_of (vca_of n) (asking.exchange_of s) (asking.exchange_answer s) (asking.finish_of s) (asking.finish_answer s)) k.negotiation
-    ∙ ap₂ (λ (x y : List ℕ). transcript.t2_of (serving.session_vca e) x y (asking.finish_of s) (asking.finish_answer s)) k.exchange k.answer
-    ∙ ap₂ (λ (x y : List ℕ). transcript.t2_of (serving.session_vca e) (serving.exchange_of e) (serving.exchange_answer e) x y) k.finish k.finish_answer
+abbrev there : Connection
+there = unwrap_or (connection_of 9 answered_data.after.connections) server
 
--- What both ends hold.
-hold_one : (w : World) (lines : List Line) (result : Finished) (id : ℕ) (q : ReqSetup) (r : RspSetup) → IsDone 1 q r result w lines → Holds 1 id true w → HoldOne w
-hold_one w lines result id q r is held =
-    let same : held.requester ≡ is.requester = same_Some held.requester is.requester (sym held.is_requester ∙ is.is_requester) in
-    let live : asking.is_live (asking.session_of id is.requester.history) ≡ true = ap (λ (x : Requesting). asking.is_live (asking.session_of id x.history)) (sym same) ∙ held.session in
-    let rest = is.quiet.sessions id live in
-    let found = found_in (λ (c : Connection). c.setup.peer == q.eid) w.responder.connections is.connection is.is_connection in
-    record {
-      asks = is.requester;
-      answers = is.connection;
-      pair = record {
-        requester = contained w.requesters is.requester (requester_in 1 w is.requester is.is_requester);
-        connection = contained w.responder.connections is.connection found.0;
-        peer = eqb-true is.connection.setup.peer q.eid found.1 ∙ ap (λ (x : ReqSetup). x.eid) (sym is.requester_setup);
-      };
-      req = id;
-      rsp = rsp_id (asking.session_of id is.requester.history);
-      held = ap₂ (λ (a : Bool) (s : Stage). a && is_past_handshake s) live rest.stage;
-      held_there = resting_held q.psk w.log (asking.session_of id is.requester.history) is.connection.history rest;
-      ids = ap₂ (λ (x y : List ℕ). session_id_bytes (id_in_exchange x) (id_in_exchange y)) rest.in_step.exchange rest.in_step.answer;
-      transcript = t2_same (asking.session_of id is.requester.history) (serving.session_of (rsp_id (asking.session_of id is.requester.history)) is.connection.history) rest.in_step;
-    }
+one_connection : answered_data.after.connections ≡ there ∷ []
+unfolding field_at number_at optional_at behind_table behind_tables tables_at get_version_layout get_capabilities_layout negotiate_algorithms_layout get_measurements_layout psk_exchange_layout psk_finish_layout heartbeat_layout key_update_layout end_session_layout chunk_send_layout chunk_get_layout request_body version_layout capabilities_layout algorithms_layout measurements_layout psk_exchange_rsp_layout psk_finish_rsp_layout heartbeat_ack_layout key_update_ack_layout end_session_ack_layout chunk_send_ack_layout chunk_response_layout error_layout response_body terms_of gathered_from inner_led here_record hears asks session_of chosen next_draw requester_told requester_given command_fault carried_by clear_led body_fault there_session_of there_chosen answer_bytes turn_of refused_form refused_contents refusal on_clear session_turn in_session on_record there_next_draw responder_hears pumps happens
+one_connection = refl
 
-pub opens_unless_chance : OpensUnlessChance
-opens_unless_chance chance =
-    let over = done chance one other is_requester (ap (λ (n : ℕ). connection_of n connected.responder.connections) (ap (λ (q : ReqSetup). q.eid) same_setup) ∙ is_connection) accepted in
-    hold_one world (lines_from (commanding connected 7 1 (Open 0)) behind) (result_for one other (Open 0)) (free_id one.history) one.setup other.setup over.0 over.1
+peer_is : there.setup.peer ≡ end.setup.eid
+unfolding field_at number_at optional_at behind_table behind_tables tables_at get_version_layout get_capabilities_layout negotiate_algorithms_layout get_measurements_layout psk_exchange_layout psk_finish_layout heartbeat_layout key_update_layout end_session_layout chunk_send_layout chunk_get_layout request_body version_layout capabilities_layout algorithms_layout measurements_layout psk_exchange_rsp_layout psk_finish_rsp_layout heartbeat_ack_layout key_update_ack_layout end_session_ack_layout chunk_send_ack_layout chunk_response_layout error_layout response_body terms_of gathered_from inner_led here_record hears asks session_of chosen next_draw requester_told requester_given command_fault carried_by clear_led body_fault there_session_of there_chosen answer_bytes turn_of refused_form refused_contents refusal on_clear session_turn in_session on_record there_next_draw responder_hears pumps happens
+peer_is = refl
+
+end_holds : holds end.history 1 ≡ true
+unfolding field_at number_at optional_at behind_table behind_tables tables_at get_version_layout get_capabilities_layout negotiate_algorithms_layout get_measurements_layout psk_exchange_layout psk_finish_layout heartbeat_layout key_update_layout end_session_layout chunk_send_layout chunk_get_layout request_body version_layout capabilities_layout algorithms_layout measurements_layout psk_exchange_rsp_layout psk_finish_rsp_layout heartbeat_ack_layout key_update_ack_layout end_session_ack_layout chunk_send_ack_layout chunk_response_layout error_layout response_body terms_of gathered_from inner_led here_record hears asks session_of chosen next_draw requester_told requester_given command_fault carried_by clear_led body_fault there_session_of there_chosen answer_bytes turn_of refused_form refused_contents refusal on_clear session_turn in_session on_record there_next_draw responder_hears pumps happens
+end_holds = refl
+
+there_holds : is_held there.history 1 ≡ true
+unfolding field_at number_at optional_at behind_table behind_tables tables_at get_version_layout get_capabilities_layout negotiate_algorithms_layout get_measurements_layout psk_exchange_layout psk_finish_layout heartbeat_layout key_update_layout end_session_layout chunk_send_layout chunk_get_layout request_body version_layout capabilities_layout algorithms_layout measurements_layout psk_exchange_rsp_layout psk_finish_rsp_layout heartbeat_ack_layout key_update_ack_layout end_session_ack_layout chunk_send_ack_layout chunk_response_layout error_layout response_body terms_of gathered_from inner_led here_record hears asks session_of chosen next_draw requester_told requester_given command_fault carried_by clear_led body_fault there_session_of there_chosen answer_bytes turn_of refused_form refused_contents refusal on_clear session_turn in_session on_record there_next_draw responder_hears pumps happens
+there_holds = refl
+
+same_ids : asking.id_bytes (asking.session_of 1 end.history) ≡ serving.id_bytes (serving.session_of 1 there.history)
+unfolding field_at number_at optional_at behind_table behind_tables tables_at get_version_layout get_capabilities_layout negotiate_algorithms_layout get_measurements_layout psk_exchange_layout psk_finish_layout heartbeat_layout key_update_layout end_session_layout chunk_send_layout chunk_get_layout request_body version_layout capabilities_layout algorithms_layout measurements_layout psk_exchange_rsp_layout psk_finish_rsp_layout heartbeat_ack_layout key_update_ack_layout end_session_ack_layout chunk_send_ack_layout chunk_response_layout error_layout response_body terms_of gathered_from inner_led here_record hears asks session_of chosen next_draw requester_told requester_given command_fault carried_by clear_led body_fault there_session_of there_chosen answer_bytes turn_of refused_form refused_contents refusal on_clear session_turn in_session on_record there_next_draw responder_hears pumps happens
+same_ids = refl
+
+same_transcript : asking.t2_of (asking.session_of 1 end.history) ≡ serving.t2_of (serving.session_of 1 there.history)
+unfolding field_at number_at optional_at behind_table behind_tables tables_at get_version_layout get_capabilities_layout negotiate_algorithms_layout get_measurements_layout psk_exchange_layout psk_finish_layout heartbeat_layout key_update_layout end_session_layout chunk_send_layout chunk_get_layout request_body version_layout capabilities_layout algorithms_layout measurements_layout psk_exchange_rsp_layout psk_finish_rsp_layout heartbeat_ack_layout key_update_ack_layout end_session_ack_layout chunk_send_ack_layout chunk_response_layout error_layout response_body terms_of gathered_from inner_led here_record hears asks session_of chosen next_draw requester_told requester_given command_fault carried_by clear_led body_fault there_session_of there_chosen answer_bytes turn_of refused_form refused_contents refusal on_clear session_turn in_session on_record there_next_draw responder_hears pumps happens
+same_transcript = refl
+
+data_taken : requests_taken (asking.t2_of (asking.session_of 1 end.history)) there.history ≡ data_bytes ∷ []
+unfolding field_at number_at optional_at behind_table behind_tables tables_at get_version_layout get_capabilities_layout negotiate_algorithms_layout get_measurements_layout psk_exchange_layout psk_finish_layout heartbeat_layout key_update_layout end_session_layout chunk_send_layout chunk_get_layout request_body version_layout capabilities_layout algorithms_layout measurements_layout psk_exchange_rsp_layout psk_finish_rsp_layout heartbeat_ack_layout key_update_ack_layout end_session_ack_layout chunk_send_ack_layout chunk_response_layout error_layout response_body terms_of gathered_from inner_led here_record hears asks session_of chosen next_draw requester_told requester_given command_fault carried_by clear_led body_fault there_session_of there_chosen answer_bytes turn_of refused_form refused_contents refusal on_clear session_turn in_session on_record there_next_draw responder_hears pumps happens
+data_taken = refl
+
+hold_one : HoldOne (at end answered_data.after sent_end log_end)
+hold_one = record {
+  asks = end;
+  answers = there;
+  pair = record {
+    requester = contained (end ∷ []) end (inl refl);
+    connection = subst (λ (cs : List Connection). Contains cs there) (sym one_connection) (contained (there ∷ []) there (inl refl));
+    peer = peer_is;
+  };
+  req = 1;
+  rsp = 1;
+  held = end_holds;
+  held_there = there_holds;
+  ids = same_ids;
+  transcript = same_transcript;
+  taken = data_taken;
+}
+
+pub session_opens : SessionOpens
+session_opens = (configured, no_chance, subst HoldOne (sym world_is) hold_one, honestly)
