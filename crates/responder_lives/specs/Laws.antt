@@ -1,5 +1,5 @@
 -- What holds of a responder that starts again beside requesters that go on.
-use Rattle.std.specs.Prelude.{◌≡◌, ◌++◌, ℕ, List, map, true, Contains}
+use Rattle.std.specs.Prelude.{◌≡◌, ◌++◌, ℕ, List, [], ◌∷◌, map, true, Contains}
 use Rattle.key_schedule.specs.Purpose.{Purpose}
 use Rattle.key_schedule.specs.declared.direction.Direction.TheVariants.{Request}
 use Rattle.requester_machine.specs.Requesting.{Requesting}
@@ -8,11 +8,13 @@ use Rattle.responder_lives.specs.Restarts.{Again, AreRestarts, BootsRiseAbove, I
 use Rattle.responder_machine.specs.Responding.{Connection}
 use Rattle.spdm_agreement.specs.Configured.{IsConfiguration}
 use Rattle.spdm_agreement.specs.Moves.{IsPassed}
+use Rattle.spdm_lives.specs.Apart.{HasBegun}
 use Rattle.spdm_lives.specs.Lives.{Booted}
 use Rattle.world_machine.specs.Agreement.{Agreement, ArePair, HasOpened, HashesAgree, IsMade, IsPrefixOf, SealedOnce, WasOpened, WereOpenedApart, holds, requests_sealed, requests_taken, responses_sealed, responses_taken}
 use Rattle.world_machine.specs.Chance.{NoChance}
 use Rattle.world_machine.specs.Happenings.{Entry}
 use Rattle.world_machine.specs.Setup.{Configuration, WorldSetup, script_world}
+use Rattle.world_machine.specs.Trace.{world_after}
 use Rattle.world_machine.specs.World.{World}
 
 -- What the responder took of application data in its newest life is the beginning of what the requester sealed.
@@ -69,3 +71,28 @@ ScriptRestartsHold =
     (c : Configuration) (seed : List ℕ) (boot : ℕ) (entries : List Entry) (booted : List Booted) → IsConfiguration c → BootsRiseAbove boot booted
     → NoChance (world_after_lives (script_world c seed boot) entries (map (again_at seed) booted)).log
     → HoldBeside (script_world c seed boot) entries (map (again_at seed) booted)
+
+-- ---- Whatever agrees by chance.
+
+-- No session that the responder ever began in one of these worlds, with whatever requesters, has the T1 of one that it ever
+-- began in the other.
+abbrev pub BegunApart : (world other : World) → Type 0
+BegunApart world other =
+    (c d : Connection) → Contains world.responder.connections c → Contains other.responder.connections d
+    → (t1 : List ℕ) → HasBegun t1 c.history → HasBegun t1 d.history → ⊥
+
+-- So it is of this world and that of each of these lives.
+abbrev pub IsApart : WorldSetup → List Entry → World → List Again → Type 0
+IsApart w entries world [] = BegunApart world (world_after w entries)
+IsApart w entries world (life ∷ earlier) =
+    BegunApart world (world_after_lives w entries (life ∷ earlier)) × IsApart w entries world earlier
+
+-- So it is of each life and all before it.
+abbrev pub AreApart : WorldSetup → List Entry → List Again → Type 0
+AreApart w entries [] = Unit {0}
+AreApart w entries (life ∷ earlier) =
+    IsApart w entries (world_after_lives w entries (life ∷ earlier)) earlier × AreApart w entries earlier
+
+-- The sessions of a responder in two of its lives have different T1.
+abbrev pub RestartedApart : Type 0
+RestartedApart = (w : WorldSetup) (entries : List Entry) (lives : List Again) → AreRestarts w lives → AreApart w entries lives

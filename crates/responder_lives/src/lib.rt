@@ -7,4 +7,4 @@
 
 mod laws;
 
-pub use laws::{responder_lives_hold, script_restarts_hold};
+pub use laws::{responder_lives_hold, restarted_apart, script_restarts_hold};
