@@ -85,11 +85,14 @@ class Carrier:
         for end in (requester, responder):
             self.readable.register(end.process.stdout, selectors.EVENT_READ, end)
 
-    def replace_responder(self, responder):
-        """Another responder stands in the place of this one, which has ended."""
-        self.readable.unregister(self.responder.process.stdout)
-        self.responder, self.starts = responder, None
-        self.readable.register(responder.process.stdout, selectors.EVENT_READ, responder)
+    def replace(self, old, new):
+        """Another end stands in the place of this one, which has ended."""
+        self.readable.unregister(old.process.stdout)
+        if old is self.responder:
+            self.responder, self.starts = new, None
+        else:
+            self.requester = new
+        self.readable.register(new.process.stdout, selectors.EVENT_READ, new)
 
     def other(self, end):
         return self.responder if end is self.requester else self.requester

@@ -4,4 +4,4 @@ pub mod ReadTexts
 pub mod ParsedTexts
 pub mod Streams
 pub mod Answered
-pub mod Exactly
+pub mod Ends

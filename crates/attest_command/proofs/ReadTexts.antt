@@ -1,5 +1,5 @@
 -- The two texts that were read are those before the stream.
-use Rattle.std.proofs.Common.{◌≡◌, ◌∙◌, ◌≤◌, ◌<◌, ◌+◌, ◌-◌, ◌++◌, ℕ, List, ap, arith, length, length-append, subst, sym, Option, Some, Ok}
+use Rattle.std.proofs.Common.{◌≡◌, ◌∙◌, ◌≤◌, ◌<◌, ◌+◌, ◌-◌, ◌++◌, ℕ, List, ap, arith, length, length-append, sym, Option, Some, Ok}
 use Rattle.attest_command.specs.Policy.{IsPolicyOf, behind_policy, policy_of}
 use Rattle.attest_command.specs.Text.{IsBadText, IsLongText, IsSet, Setting, setting_before, setting_in, stream_behind, whole_text}
 use Rattle.frame_stream.proofs.Fronts.{in_front_of}
@@ -7,7 +7,7 @@ use Rattle.frame_stream.specs.Parts.{IsTextOf}
 use Rattle.frame_stream.specs.Standing.{in_front}
 use Rattle.frame_stream.specs.Text.{stream_of, text_of}
 use Rattle.script_text.specs.Reading.{BadLine, bad_line_in}
-use Rattle.stream_commands.specs.Begun.{text_limit}
+use Rattle.stream_commands.specs.Texts.{text_limit}
 
 -- what was read of an input, one text behind the other
 pub record AreTexts (input config policy before : List ℕ) (new : Option (List ℕ)) : Type 0 where

@@ -2,18 +2,15 @@
 use Rattle.std.specs.Prelude.{◌≡◌, ◌++◌, ℕ, List, Option, Some, None, Result, Ok, Err}
 use Rattle.appraise.specs.Policies.{policy_fault}
 use Rattle.attest_command.specs.Policy.{policy_of}
-use Rattle.attest_command.specs.Text.{IsBadText, IsLongText, IsSet, Setting, setting_in, stream_behind}
+use Rattle.attest_command.specs.Text.{IsLongText, IsSet, Setting, setting_in, stream_behind, texts_before}
 use Rattle.attest_command.specs.declared.begin.Begun.{Begun}
 use Rattle.attest_command.specs.declared.parsing.Parsed.{Parsed}
 use Rattle.attest_command.specs.declared.texts.Texts.{Texts}
 use Rattle.frame_stream.specs.Text.{stream_of, text_of}
 use Rattle.script_text.specs.ConfigText.{config_in}
 use Rattle.script_text.specs.Reading.{bad_line_in}
-use Rattle.script_text.specs.declared.texts.faults.LineFault.TheVariants.{TooManyEvents}
-use Rattle.script_text.specs.declared.texts.faults.ScriptFault.{ScriptFault}
-use Rattle.script_text.specs.declared.texts.faults.ScriptFault.TheVariants as script
 use Rattle.spdm_basis.specs.Stream.{GivesSeed, HasFault}
-use Rattle.stream_commands.specs.Begun.{Tries}
+use Rattle.stream_commands.specs.Texts.{IsBeginCauseOf, Tries}
 use Rattle.stream_commands.specs.declared.fault.StreamFault.{StreamFault}
 use Rattle.stream_commands.specs.declared.fault.StreamFault.TheVariants as fault
 
@@ -40,12 +37,6 @@ IsReadCause left before after other = ⊥
 abbrev pub setting_as : Parsed → Setting
 setting_as parsed = record { config = parsed.config; rules = parsed.policy }
 
--- Why a text is not taken, as it is reported.
-abbrev pub told_of : ScriptFault → StreamFault
-told_of (script.Line line f) = fault.BadScript line f
-told_of (script.TooManyEvents line) = fault.BadScript line TooManyEvents
-told_of script.OutOfMemory = fault.OutOfMemory
-
 -- What was parsed of two texts.
 abbrev pub IsParsed : Texts → Result Parsed StreamFault → Type 0
 IsParsed texts (Ok parsed) =
@@ -69,10 +60,8 @@ pub record IsBegun (left : Option (List ℕ)) (seeds : Option (List (List ℕ)))
 
 -- Why there is no beginning.
 abbrev pub IsBeginCause : (left : Option (List ℕ)) → Tries → StreamFault → Type 0
-IsBeginCause left n fault.ReadFault = HasFault n.read_before n.read_after
-IsBeginCause left n fault.SeedFault = HasFault n.seeded_before n.seeded_after × ((setting : Setting) × IsSet setting left)
-IsBeginCause left n fault.TooLong = IsLongText left
-IsBeginCause left n (fault.BadScript line f) = IsBadText (record { line = line; fault = f }) left
-IsBeginCause left n fault.OutOfMemory = Unit {0}
-IsBeginCause left n fault.WriteFault = ⊥
-IsBeginCause left n (fault.BadFrame at) = ⊥
+IsBeginCause left n fault = IsBeginCauseOf texts_before left n fault
+
+-- A configuration and a policy that were read.
+abbrev pub IsRead : Parsed → Type 0
+IsRead parsed = ((text : List ℕ) × (config_in text ≡ Ok parsed.config)) × (policy_fault parsed.policy ≡ None)

@@ -2,11 +2,11 @@
 use Rattle.std.specs.Prelude.{◌≡◌, ◌<◌, ◌≤◌, ℕ, List, length, Option, Some, Result, Ok, Err, is_ok, true}
 use Rattle.appraise.specs.declared.appraisal.Appraisal.{Appraisal}
 use Rattle.attest_command.specs.Text.{Setting, setting_before, stream_behind, whole_text}
-use Rattle.frame_stream.specs.Frames.{Ending, GivenFrame, IsStream, stream_limit}
+use Rattle.frame_stream.specs.Frames.{GivenFrame, IsStream, stream_limit}
 use Rattle.frame_stream.specs.Frames.Ending.{Bad, Done, TooLong}
 use Rattle.requester_attest.specs.Attested.{attested_kinds}
 use Rattle.script_text.specs.Reading.{bad_line_in}
-use Rattle.stream_commands.specs.Begun.{text_limit}
+use Rattle.stream_commands.specs.Texts.{text_limit}
 use Rattle.stream_commands.specs.InputEnds.{InputEnd}
 use Rattle.stream_commands.specs.InputEnds.InputEnd.{BadText, InStream, LongText}
 use Rattle.stream_commands.specs.declared.fault.StreamFault.{StreamFault}

@@ -1,5 +1,5 @@
 -- The policy before a stream: what follows the configuration, up to the line `go`. This project's own.
-use Rattle.std.specs.Prelude.{◌≡◌, ◌++◌, ◌+◌, ◌==◌, ◌&&◌, ℕ, List, [], ◌∷◌, Bool, true, length, drop, if◌then◌else◌, Option, Some}
+use Rattle.std.specs.Prelude.{◌≡◌, ◌++◌, ◌==◌, ◌&&◌, ℕ, List, [], ◌∷◌, Bool, true, length, drop, if◌then◌else◌, Option, Some}
 use Rattle.frame_stream.specs.Text.{begin_with}
 
 -- The line `go` with its line feed.

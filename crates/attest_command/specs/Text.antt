@@ -11,7 +11,7 @@ use Rattle.script_text.specs.Reading.{BadLine, bad_line_in}
 use Rattle.script_text.specs.declared.configuration.config.ScriptConfig.{ScriptConfig}
 use Rattle.script_text.specs.declared.texts.faults.ScriptFault.{ScriptFault}
 use Rattle.script_text.specs.declared.texts.rule.Rule.{Rule}
-use Rattle.stream_commands.specs.Begun.{text_limit}
+use Rattle.stream_commands.specs.Texts.{TextKind, text_limit}
 
 -- The text of an input: its bytes up to and with the first line that is `go` behind the first that is `end`, or all of them.
 abbrev pub whole_text : List ℕ → List ℕ
@@ -68,3 +68,11 @@ abbrev pub IsBadText : BadLine → (left : Option (List ℕ)) → Type 0
 IsBadText bad left =
     (input : List ℕ) → left ≡ Some input
     → (length (whole_text input) ≤ text_limit) × (bad_line_in (setting_before input) ≡ Some bad)
+
+abbrev pub texts_before : TextKind
+texts_before = record {
+  good = λ left. (setting : Setting) × IsSet setting left;
+  long = IsLongText;
+  bad = IsBadText;
+  behind = stream_behind;
+}

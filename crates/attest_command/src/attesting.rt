@@ -1,31 +1,50 @@
-ghost use Rattle.std.specs.Prelude.{◌≡◌, ◌≤◌, ◌⊎◌, List, ℕ, Err, Some};
+ghost use Rattle.std.specs.Prelude.{◌≡◌, ◌≤◌, ◌⊎◌, ◌-◌, ◌^◌, List, Option, ℕ, Err, Some};
+ghost use Rattle.attest_command.specs.Begun.{IsBegun, IsRead};
 ghost use Rattle.attest_command.specs.InputEnds.{Answers, HasEnd};
-ghost use Rattle.attest_command.specs.Outcome.{IsAnswered};
+ghost use Rattle.attest_command.specs.Outcome.{IsAnswered, attesting_command};
 ghost use Rattle.spdm_basis.specs.Stream.{IsQuiet};
 ghost use Rattle.stream_commands.specs.InputEnds.{InputEnd};
-ghost use Rattle.stream_commands.specs.Outside.{outside};
-ghost use Rattle.stream_commands.specs.Told.{IsDriveTold, IsOfDriving};
+ghost use Rattle.stream_commands.specs.Outside.{IsFollowedBy, outside};
 
 use crate::begin::{Begun, begin};
 use crate::parsing::Parsed;
-use appraise::Appraisal;
-use requester_attest::{DriveFault, attest};
+use appraise::{Appraisal, Policy};
+use requester_attest::attest;
+use script_text::ScriptConfig;
 use spdm_basis::{Seeds, Sink, Source};
 use std::alloc::Global;
 use stream_commands::StreamFault;
 
-// Why no stream was followed to its end.
-fn fault_of(fault: DriveFault) -> StreamFault
-    requires { IsOfDriving fault }
-    ensures { IsDriveTold fault result }
+/// Runs the first requester up to a verdict on the stream behind a beginning, in the life of a boot number.
+pub(crate) fn attest_behind<S: Source, K: Sink>(
+    alloc: Global,
+    config: &ScriptConfig,
+    policy: Policy,
+    seed: [u8; 32],
+    boot: u32,
+    before: &[u8],
+    source: &mut S,
+    sink: &mut K,
+) -> Result<Option<Appraisal>, StreamFault>
+    requires read { IsRead (record { config = config.now; policy = policy }) }
+    requires boot { boot ≤ 2 ^ 24 - 2 }
+    ensures followed { (left : Option (List ℕ)) (seeds others : Option (List (List ℕ)))
+        (reads seeded_before seeded_after : ℕ)
+        → IsBegun left seeds (record {
+          parsed = record { config = config.now; policy = policy };
+          seed = seed;
+          before = before.now;
+        }) (S.remaining source.old) others → reads ≤ S.faults source.old
+        → IsFollowedBy attesting_command boot
+        (outside left (K.contents sink.old) seeds reads (K.faults sink.old) seeded_before)
+        (outside (S.remaining source.new) (K.contents sink.new) others (S.faults source.new)
+        (K.faults sink.new) seeded_after) result }
+    ensures read_later { S.faults source.old ≤ S.faults source.new }
+    ensures written_later { K.faults sink.old ≤ K.faults sink.new }
 {
-    match fault {
-        DriveFault::ReadFault => StreamFault::ReadFault,
-        DriveFault::WriteFault => StreamFault::WriteFault,
-        DriveFault::TooLong => StreamFault::TooLong,
-        DriveFault::BadFrame { at } => StreamFault::BadFrame { at },
-        DriveFault::OutOfMemory => StreamFault::OutOfMemory,
-        DriveFault::Requester(_) => unreachable!(),
+    match attest(alloc, config, policy, seed, boot, before, source, sink) {
+        Ok(verdict) => Ok(verdict),
+        Err(fault) => Err(StreamFault::of_driving(fault)),
     }
 }
 
@@ -67,16 +86,14 @@ pub fn attest_input<S: Source, K: Sink, E: Seeds>(
         before,
     } = begun;
     let Parsed { config, policy } = parsed;
-    match attest(
+    attest_behind(
         alloc,
         &config,
         policy,
         seed,
+        0,
         before.as_slice(),
         source,
         sink,
-    ) {
-        Ok(verdict) => Ok(verdict),
-        Err(fault) => Err(fault_of(fault)),
-    }
+    )
 }

@@ -1,10 +1,10 @@
-ghost use Rattle.std.specs.Prelude.{◌≡◌, ◌+◌, ◌≤◌, length};
-ghost use Rattle.attest_command.specs.Begun.{IsParsed, told_of};
+ghost use Rattle.std.specs.Prelude.{◌+◌, ◌≤◌, length};
+ghost use Rattle.attest_command.specs.Begun.{IsParsed};
 
 use crate::line_count::count_of_lines;
 use crate::texts::Texts;
 use appraise::Policy;
-use script_text::{LineFault, ScriptConfig, ScriptFault, TEXT_LIMIT, parse_config, parse_policy};
+use script_text::{ScriptConfig, TEXT_LIMIT, parse_config, parse_policy};
 use std::alloc::Global;
 use stream_commands::StreamFault;
 
@@ -15,20 +15,6 @@ pub(crate) struct Parsed {
     pub(crate) policy: Policy,
 }
 
-// Why a text is not taken, as it is reported.
-fn fault_of(fault: ScriptFault) -> StreamFault
-    ensures { result ≡ told_of fault }
-{
-    match fault {
-        ScriptFault::Line(line, fault) => StreamFault::BadScript { line, fault },
-        ScriptFault::TooManyEvents(line) => StreamFault::BadScript {
-            line,
-            fault: LineFault::TooManyEvents,
-        },
-        ScriptFault::OutOfMemory => StreamFault::OutOfMemory,
-    }
-}
-
 /// What two texts say.
 pub(crate) fn parse(alloc: Global, texts: &Texts) -> Result<Parsed, StreamFault>
     requires { length texts.now.config + length texts.now.policy ≤ TEXT_LIMIT }
@@ -36,12 +22,12 @@ pub(crate) fn parse(alloc: Global, texts: &Texts) -> Result<Parsed, StreamFault>
 {
     let config = match parse_config(alloc, texts.config.as_slice()) {
         Ok(config) => config,
-        Err(fault) => return Err(fault_of(fault)),
+        Err(fault) => return Err(StreamFault::of_text(fault)),
     };
     let first = count_of_lines(texts.config.as_slice()) + 1;
     let rules = match parse_policy(alloc, texts.policy.as_slice(), first) {
         Ok(rules) => rules,
-        Err(fault) => return Err(fault_of(fault)),
+        Err(fault) => return Err(StreamFault::of_text(fault)),
     };
     // Rules that were read make a policy (`read_rules_are_sound`), so nothing but memory can be wanting.
     match Policy::new(alloc, rules.as_slice()) {

@@ -1,11 +1,10 @@
-ghost use Rattle.std.specs.Prelude.{◌≡◌, ◌+◌, ◌≤◌, length, IfErr, IfOk};
+ghost use Rattle.std.specs.Prelude.{◌+◌, ◌≤◌, length, IfErr, IfOk};
 ghost use Rattle.attest_command.specs.Begun.{AreTextsOf, IsReadCause};
-ghost use Rattle.stream_commands.specs.Begun.{told_of};
 
 use crate::policy_text::read_policy;
 use frame_stream::read_text;
 use script_text::TEXT_LIMIT;
-use spdm_basis::{Buffer, Bytes, InFault, Source};
+use spdm_basis::{Buffer, Bytes, Source};
 use std::alloc::Global;
 use stream_commands::StreamFault;
 
@@ -15,17 +14,6 @@ pub(crate) struct Texts {
     pub(crate) config: Bytes,
     pub(crate) policy: Bytes,
     pub(crate) before: Buffer<4096>,
-}
-
-// Why no text was read.
-fn fault_of(fault: InFault) -> StreamFault
-    ensures { result ≡ told_of fault }
-{
-    match fault {
-        InFault::ReadFault => StreamFault::ReadFault,
-        InFault::TooLong => StreamFault::TooLong,
-        InFault::OutOfMemory => StreamFault::OutOfMemory,
-    }
 }
 
 /// Reads a configuration up to `end`, and a policy after it up to `go`. Where one of these lines is missing, what follows
@@ -41,7 +29,7 @@ pub(crate) fn read_texts<S: Source>(alloc: Global, source: &mut S) -> Result<Tex
 {
     let config = match read_text(alloc, source, TEXT_LIMIT) {
         Ok(config) => config,
-        Err(fault) => return Err(fault_of(fault)),
+        Err(fault) => return Err(StreamFault::of_reading(fault)),
     };
     let limit = TEXT_LIMIT - config.text.as_slice().len();
     match read_policy(alloc, config.before, source, limit) {
@@ -50,6 +38,6 @@ pub(crate) fn read_texts<S: Source>(alloc: Global, source: &mut S) -> Result<Tex
             policy: policy.text,
             before: policy.before,
         }),
-        Err(fault) => Err(fault_of(fault)),
+        Err(fault) => Err(StreamFault::of_reading(fault)),
     }
 }

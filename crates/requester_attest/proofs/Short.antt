@@ -1,7 +1,7 @@
 -- Each packet that an attestor sends fits into a frame.
-use Rattle.std.proofs.Common.{◌≡◌, ◌≤◌, ◌∙◌, ℕ, List, Bool, true, false, Option, Some, None, Result, Ok, Err, refl, subst, sym, arith}
+use Rattle.std.proofs.Common.{◌≡◌, ◌≤◌, ℕ, List, Bool, true, false, Option, Some, None, Result, Ok, Err, refl, subst, sym, arith}
 use Rattle.std.specs.Prelude.{if◌then◌else◌, is_some}
-use Rattle.attestor.specs.Attesting.{AttestStep, Attesting, Decision, attesting_given, attesting_started, attesting_timed, ends, follows, given_by, goes, goes_on, goes_on_by, own_session, started_by, tells, with_requester}
+use Rattle.attestor.specs.Attesting.{AttestStep, Attesting, Decision, attesting_given, attesting_started, attesting_timed, follows, given_by, goes, goes_on, goes_on_by, own_session, started_by, tells, with_requester}
 use Rattle.attestor.specs.Attesting.Decision.{Undecided, Measured, Failed}
 use Rattle.attestor.specs.Standing as attestor
 use Rattle.attestor.specs.declared.attestor.Attestor.{Attestor}

@@ -1,12 +1,12 @@
 -- What a call that was answered is told as, and the verdict after it.
-use Rattle.std.proofs.Common.{◌≡◌, ◌<◌, ◌∙◌, ℕ, List, [], Bool, true, false, Option, Some, None, Result, Ok, Err, ap, length, refl, subst, sym}
+use Rattle.std.proofs.Common.{◌≡◌, ◌<◌, ◌∙◌, ℕ, List, [], Bool, true, false, Option, Some, None, ap, length, refl, subst, sym}
 use Rattle.std.proofs.lemmas.Option.{none-some, same_Some}
 use Rattle.std.specs.Option.{option_map}
 use Rattle.std.specs.Prelude.{◌++◌, if◌then◌else◌, is_some}
 use Rattle.appraise.proofs.Existence.{one_answer}
 use Rattle.appraise.specs.Policies.{policy_fault}
 use Rattle.appraise.specs.declared.appraisal.Appraisal.{Appraisal}
-use Rattle.attestor.specs.Attesting.{AttestStep, Attesting, Decision, attesting_given, attesting_over, attesting_started, attesting_timed, ends, follows, given_by, goes, goes_on, goes_on_by, own_session, started_by, tells, with_requester}
+use Rattle.attestor.specs.Attesting.{AttestStep, Attesting, Decision, attesting_given, attesting_over, attesting_started, attesting_timed, follows, given_by, goes, goes_on_by, own_session, started_by, tells, with_requester}
 use Rattle.attestor.specs.Attesting.Decision.{Undecided, Measured, Failed}
 use Rattle.attestor.specs.Standing as attestor
 use Rattle.attestor.specs.Standing.{IsAnswer}
@@ -14,15 +14,14 @@ use Rattle.attestor.specs.declared.attestor.Attestor.{Attestor}
 use Rattle.attestor.specs.declared.progressed.Progressed.{Progressed}
 use Rattle.attestor.specs.declared.progressed.Progressed.TheVariants as progress
 use Rattle.frame_stream.specs.Packets.{packet_frames}
-use Rattle.requester_attest.specs.Attested.{Appraises, first_attesting, step_frames, told_as, verdict_of}
+use Rattle.requester_attest.specs.Attested.{Appraises, attesting_in_life, step_frames, told_as, verdict_of}
 use Rattle.requester_attest.specs.Standing.{StandsFor, verdict_after}
 use Rattle.requester_attest.specs.Words.{progress_frame}
 use Rattle.requester_attest.specs.declared.attending.Attending.{Attending}
 use Rattle.requester_drive.proofs.Faults.{some_requester}
-use Rattle.requester_drive.specs.First.{first_of, first_requester, requester_as}
+use Rattle.requester_drive.specs.First.{first_in_life, first_of, requester_in_life}
 use Rattle.requester_machine.specs.History.{outstanding}
-use Rattle.requester_machine.specs.Message.{Command}
-use Rattle.requester_machine.specs.Message.Command.{Connect, End, Measure, Open, Retry}
+use Rattle.requester_machine.specs.Message.Command.{Measure, Open, Retry}
 use Rattle.requester_machine.specs.Requesting.{CommandStep, PacketStep, Requesting, requester_given, requester_told}
 use Rattle.script_text.specs.declared.configuration.config.ReqPart.{ReqPart}
 use Rattle.script_text.specs.declared.configuration.config.ScriptConfig.{ScriptConfig}
@@ -129,17 +128,17 @@ written_of appraised step told sends is sent =
 
 -- ---- The first attestor.
 
-pub first_stands : (c : ScriptConfig) (rules : List Rule) (seed : List ℕ) (q : ReqPart) (seen : Attestor) (a : Attesting) → first_of c.requesters ≡ Some q → attestor.StandsFor seen (attesting_over (requester_as c seed q) rules) →
-    first_attesting c rules seed ≡ Some a → attestor.StandsFor seen a
-first_stands c rules seed q seen a first stands is =
+pub first_stands : (c : ScriptConfig) (rules : List Rule) (seed : List ℕ) (boot : ℕ) (q : ReqPart) (seen : Attestor) (a : Attesting) → first_of c.requesters ≡ Some q → attestor.StandsFor seen (attesting_over (requester_in_life c seed boot q) rules) →
+    attesting_in_life c rules seed boot ≡ Some a → attestor.StandsFor seen a
+first_stands c rules seed boot q seen a first stands is =
     let over = λ (r : Requesting). attesting_over r rules in
-    let own : first_attesting c rules seed ≡ Some (attesting_over (requester_as c seed q) rules) = ap (λ (o : Option ReqPart). option_map over (option_map (requester_as c seed) o)) first in
-    subst (λ (b : Attesting). attestor.StandsFor seen b) (same_Some (attesting_over (requester_as c seed q) rules) a (sym own ∙ is)) stands
+    let own : attesting_in_life c rules seed boot ≡ Some (attesting_over (requester_in_life c seed boot q) rules) = ap (λ (o : Option ReqPart). option_map over (option_map (requester_in_life c seed boot) o)) first in
+    subst (λ (b : Attesting). attestor.StandsFor seen b) (same_Some (attesting_over (requester_in_life c seed boot q) rules) a (sym own ∙ is)) stands
 
 -- there is a first attestor
-pub some_attesting : (c : ScriptConfig) (rules : List Rule) (seed : List ℕ) → 0 < length c.requesters → (a : Attesting) × (first_attesting c rules seed ≡ Some a)
-some_attesting c rules seed some =
-    let first = some_requester c seed 0 some in
+pub some_attesting : (c : ScriptConfig) (rules : List Rule) (seed : List ℕ) (boot : ℕ) → 0 < length c.requesters → (a : Attesting) × (attesting_in_life c rules seed boot ≡ Some a)
+some_attesting c rules seed boot some =
+    let first = some_requester c seed boot some in
     (attesting_over first.0 rules, ap (option_map (λ (r : Requesting). attesting_over r rules)) first.1)
 
 -- of each record there is an appraisal
@@ -150,10 +149,10 @@ over_is : (rules : List Rule) (o : Option Requesting) (a : Attesting) → option
 over_is rules None a is = absurd (none-some a is)
 over_is rules (Some r) a is = (r, same_Some (attesting_over r rules) a is)
 
-pub first_kept : (c : ScriptConfig) (rules : List Rule) (seed : List ℕ) (seen : Attending) (appraised : List ℕ → Appraisal) (a : Attesting) → first_attesting c rules seed ≡ Some a → Appraises rules appraised →
+pub first_kept : (c : ScriptConfig) (rules : List Rule) (seed : List ℕ) (boot : ℕ) (seen : Attending) (appraised : List ℕ → Appraisal) (a : Attesting) → attesting_in_life c rules seed boot ≡ Some a → Appraises rules appraised →
     attestor.StandsFor seen.attestor a → seen.verdict ≡ None → StandsFor seen appraised a
-first_kept c rules seed seen appraised a is right stands verdict =
-    let own = over_is rules (first_requester c seed) a is in
+first_kept c rules seed boot seen appraised a is right stands verdict =
+    let own = over_is rules (first_in_life c seed boot) a is in
     record {
       attestor = stands;
       appraises = subst (λ (b : Attesting). Appraises b.rules appraised) own.1 right;

@@ -13,7 +13,7 @@ use Rattle.frame_stream.specs.Frames.GivenFrame.{PacketOf, TicksOf, CommandOf}
 use Rattle.frame_stream.specs.Packets.{packet_frames}
 use Rattle.frame_stream.specs.declared.kinds.Kinds.{Kinds}
 use Rattle.requester_attest.specs.Words.{progress_frame}
-use Rattle.requester_drive.specs.First.{first_requester}
+use Rattle.requester_drive.specs.First.{first_in_life}
 use Rattle.requester_machine.specs.Requesting.{Requesting}
 use Rattle.script_text.specs.declared.configuration.config.ScriptConfig.{ScriptConfig}
 use Rattle.script_text.specs.declared.texts.rule.Rule.{Rule}
@@ -23,9 +23,9 @@ use Rattle.spdm_basis.specs.Stream.{Takes, TakesPrefix}
 abbrev pub attested_kinds : Kinds
 attested_kinds = record { ticks = true; commands = false }
 
--- The first requester of a configuration with a seed, in its first life, which appraises under these rules.
-abbrev pub first_attesting : ScriptConfig → List Rule → (seed : List ℕ) → Option Attesting
-first_attesting c rules seed = option_map (λ (requester : Requesting). attesting_over requester rules) (first_requester c seed)
+-- The first requester of a configuration with a seed, in the life of a boot number, which appraises under these rules.
+abbrev pub attesting_in_life : ScriptConfig → List Rule → (seed : List ℕ) → (boot : ℕ) → Option Attesting
+attesting_in_life c rules seed boot = option_map (λ (requester : Requesting). attesting_over requester rules) (first_in_life c seed boot)
 
 -- ---- What records come to.
 

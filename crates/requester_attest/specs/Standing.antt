@@ -1,5 +1,5 @@
 -- What stands while an attestor reads its stream, and what the calls answer. This project's own.
-use Rattle.std.specs.Prelude.{◌≡◌, ◌++◌, ℕ, List, Bool, true, false, Option, Some, Result, Ok, Err}
+use Rattle.std.specs.Prelude.{◌≡◌, ℕ, List, Bool, true, false, Option, Some, Result, Ok, Err}
 use Rattle.appraise.specs.declared.appraisal.Appraisal.{Appraisal}
 use Rattle.attestor.specs.Attesting.{AttestStep, Attesting, attesting_started}
 use Rattle.attestor.specs.Standing as attestor
@@ -12,7 +12,7 @@ use Rattle.frame_stream.specs.Standing as reading
 use Rattle.frame_stream.specs.Standing.{IsRead}
 use Rattle.frame_stream.specs.declared.kinds.FrameFault.TheVariants as frame
 use Rattle.frame_stream.specs.declared.reader.FrameReader.{FrameReader}
-use Rattle.requester_attest.specs.Attested.{Appraises, IsAttested, IsAttestedInPart, IsAttestedSoFar, after_frames, attested, attested_by, attested_from, attesting_after, step_frames, verdict_of}
+use Rattle.requester_attest.specs.Attested.{Appraises, IsAttested, IsAttestedInPart, IsAttestedSoFar, attested, attested_by, attesting_after, step_frames, verdict_of}
 use Rattle.requester_attest.specs.declared.attending.Attending.{Attending}
 use Rattle.requester_drive.specs.declared.fault.DriveFault.{DriveFault}
 use Rattle.requester_drive.specs.declared.fault.DriveFault.TheVariants as fault

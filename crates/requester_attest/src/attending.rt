@@ -50,28 +50,30 @@ fn verdict_after(progress: Progressed, before: Option<Appraisal>) -> Option<Appr
 }
 
 impl Attending {
-    ghost use Rattle.std.specs.Prelude.{◌≡◌, ◌≤◌, ◌<◌, ℕ, List, Some, IfErr, IfOk, OnErr, OnOk, length};
+    ghost use Rattle.std.specs.Prelude.{◌≡◌, ◌≤◌, ◌<◌, ◌-◌, ◌^◌, ℕ, List, Some, IfErr, IfOk, OnErr, OnOk, length};
     ghost use Rattle.appraise.specs.declared.appraisal.Appraisal.{Appraisal};
     ghost use Rattle.attestor.specs.Attesting.{Attesting, attesting_given, attesting_started, attesting_timed};
     ghost use Rattle.frame_stream.specs.Frames.{stream_limit};
     ghost use Rattle.frame_stream.specs.Standing.{IsNew, content_in};
-    ghost use Rattle.requester_attest.specs.Attested.{Appraises, attested_kinds, first_attesting, step_frames};
+    ghost use Rattle.requester_attest.specs.Attested.{Appraises, attested_kinds, attesting_in_life, step_frames};
     ghost use Rattle.requester_attest.specs.Standing.{IsAttestedBy, IsKept, IsStarted, IsStep, IsStepFault, StandsFor};
     ghost use Rattle.requester_drive.specs.Told.{IsEarly};
     ghost use Rattle.spdm_basis.specs.Stream.{HasFault, TakesPrefix};
 
-    // An attestor over the first requester of a configuration with this seed, and its stream, of which some bytes were
-    // read already. Allocates all its memory here.
+    // An attestor over the first requester of a configuration with this seed, in the life of this boot number, and its
+    // stream, of which some bytes were read already. Allocates all its memory here.
     pub(crate) fn new(
         alloc: Global,
         config: &ScriptConfig,
         policy: Policy,
         seed: [u8; 32],
+        boot: u32,
         before: &[u8],
     ) -> Result<Attending, DriveFault>
-        requires { 0 < length config.now.requesters }
+        requires some { 0 < length config.now.requesters }
+        requires boot { boot ≤ 2 ^ 24 - 2 }
         ensures stands { (appraised : List ℕ → Appraisal) (a : Attesting)
-            → first_attesting config.now policy seed ≡ Some a → Appraises policy appraised
+            → attesting_in_life config.now policy seed boot ≡ Some a → Appraises policy appraised
             → IfOk result (λ attending. StandsFor attending appraised a) }
         ensures reader { IfOk result
             (λ attending. IsNew attested_kinds stream_limit before.now attending.reader) }
@@ -83,7 +85,7 @@ impl Attending {
         let Ok(out) = PacketList::new(alloc) else {
             return Err(DriveFault::OutOfMemory);
         };
-        match first_attestor(alloc, config, policy, seed) {
+        match first_attestor(alloc, config, policy, seed, boot) {
             Ok(attestor) => Ok(Attending {
                 attestor,
                 reader,

@@ -1,11 +1,11 @@
-ghost use Rattle.std.specs.Prelude.{◌≡◌, ◌≤◌, ◌<◌, [], ℕ, List, Some, None, IfErr, IfOk, OnOk, length};
+ghost use Rattle.std.specs.Prelude.{◌≡◌, ◌≤◌, ◌<◌, ◌-◌, ◌^◌, [], ℕ, List, Some, None, IfErr, IfOk, OnOk, length};
 ghost use Rattle.appraise.specs.Policies.{policy_fault};
 ghost use Rattle.appraise.specs.declared.appraisal.Appraisal.{Appraisal};
 ghost use Rattle.attestor.specs.Attesting.{Attesting};
 ghost use Rattle.frame_stream.specs.Frames.{stream_limit};
 ghost use Rattle.frame_stream.specs.Runs.{IsFresh};
 ghost use Rattle.frame_stream.specs.Standing.{in_front, left_of};
-ghost use Rattle.requester_attest.specs.Attested.{Appraises, HasVerdict, attested_kinds, first_attesting};
+ghost use Rattle.requester_attest.specs.Attested.{Appraises, HasVerdict, attested_kinds, attesting_in_life};
 ghost use Rattle.requester_attest.specs.Standing.{IsCause, IsKept, StandsFor};
 ghost use Rattle.requester_drive.specs.Told.{IsLate, IsRefusal, IsUnread};
 
@@ -16,8 +16,8 @@ use script_text::ScriptConfig;
 use spdm_basis::{Sink, Source};
 use std::alloc::Global;
 
-/// Runs the first requester of this configuration, with this seed, up to a verdict under this policy, on a stream of frames
-/// of which the bytes `before` were read already: it connects, opens a session, asks for all measurements in it, appraises
+/// Runs the first requester of this configuration, with this seed, in the life of this boot number, up to a verdict under
+/// this policy, on a stream of frames of which the bytes `before` were read already: it connects, opens a session, asks for all measurements in it, appraises
 /// them, and ends the session. Writes the first request, and then reads the frames in order: packets (kind 1) are given to
 /// the requester, whatever endpoint they name, and where seconds passed (kind 2) its outstanding request is sent again.
 /// Before it reads on it writes what a frame led to: where the record came, what it comes to, and where none will come,
@@ -34,21 +34,23 @@ pub fn attest<S: Source, K: Sink>(
     config: &ScriptConfig,
     policy: Policy,
     seed: [u8; 32],
+    boot: u32,
     before: &[u8],
     source: &mut S,
     sink: &mut K,
 ) -> Result<Option<Appraisal>, DriveFault>
     requires some { 0 < length config.now.requesters }
+    requires boot { boot ≤ 2 ^ 24 - 2 }
     requires sound { policy_fault policy ≡ None }
     ensures attested { (appraised : List ℕ → Appraisal) (a : Attesting)
-        → first_attesting config.now policy seed ≡ Some a → Appraises policy appraised
+        → attesting_in_life config.now policy seed boot ≡ Some a → Appraises policy appraised
         → IfOk result (λ verdict. HasVerdict appraised a
         (in_front before.now (S.remaining source.old)) (K.contents sink.old) (K.contents sink.new)
         verdict) }
     ensures end { OnOk result ((left : List ℕ) → S.remaining source.old ≡ Some left
         → S.remaining source.new ≡ Some []) }
     ensures fault { (appraised : List ℕ → Appraisal) (a : Attesting)
-        → first_attesting config.now policy seed ≡ Some a → Appraises policy appraised
+        → attesting_in_life config.now policy seed boot ≡ Some a → Appraises policy appraised
         → IfErr result (IsCause appraised a (in_front before.now (S.remaining source.old))
         (K.contents sink.old) (K.contents sink.new) (record {
           read_before = S.faults source.old;
@@ -61,7 +63,7 @@ pub fn attest<S: Source, K: Sink>(
     ensures read_later { S.faults source.old ≤ S.faults source.new }
     ensures written_later { K.faults sink.old ≤ K.faults sink.new }
 {
-    match Attending::new(alloc, config, policy, seed, before) {
+    match Attending::new(alloc, config, policy, seed, boot, before) {
         Ok(attending) => match run(attending, source, sink) {
             Ok(verdict) => Ok(verdict),
             Err(fault) => Err(fault),

@@ -11,7 +11,6 @@ use Rattle.attest_command.specs.Outcome as attested
 use Rattle.boot_keeper.specs.declared.boot_fault.BootFault.TheVariants as boot
 use Rattle.stream_commands.specs.Driven as driven
 use Rattle.stream_commands.specs.InputEnds.{InputEnd}
-use Rattle.stream_commands.specs.Kept as kept
 use Rattle.stream_commands.specs.Kept.{KeeperState}
 use Rattle.stream_commands.specs.Outside.{Outside}
 use Rattle.stream_commands.specs.Served as served
@@ -116,7 +115,7 @@ pub record IsServed (before after : Outside) (outcome : Outcome) : Type 0 where
 pub record IsServedKept (found left : KeeperState) (before after : Outside) (outcome : Outcome) : Type 0 where
   pub answer : Result (Unit {0}) KeptFault
   pub is : outcome ≡ outcome_of_kept answer
-  pub answered : kept.IsAnswered found left before after answer
+  pub answered : served.IsAnsweredKept found left before after answer
 
 -- The outcome is that of an answer which came of driving a requester so.
 pub record IsDriven (before after : Outside) (outcome : Outcome) : Type 0 where

@@ -17,3 +17,4 @@ mod words;
 
 pub use outcome::Outcome;
 pub use run::spdm;
+pub use streams::{outcome_of_kept, outcome_of_verdict};

@@ -35,8 +35,8 @@ fn outcome_of(answer: &Result<(), StreamFault>) -> Outcome
     }
 }
 
-// The same in the life of a kept boot.
-fn outcome_of_kept(answer: &Result<(), KeptFault>) -> Outcome
+/// The outcome of what was answered to a stream in the life of a kept boot.
+pub fn outcome_of_kept(answer: &Result<(), KeptFault>) -> Outcome
     ensures { result ≡ outcome_of_kept answer.now }
 {
     match answer {
@@ -47,8 +47,8 @@ fn outcome_of_kept(answer: &Result<(), KeptFault>) -> Outcome
     }
 }
 
-// The outcome of a verdict, or of there being none.
-fn outcome_of_verdict(verdict: Option<Appraisal>) -> Outcome
+/// The outcome of a verdict, or of there being none.
+pub fn outcome_of_verdict(verdict: Option<Appraisal>) -> Outcome
     ensures { result ≡ outcome_of_verdict verdict }
 {
     match verdict {

@@ -19,8 +19,8 @@ use Rattle.spdm_agreement.specs.Configured.{IsConfigured, IsRequester, IsRespond
 
 module _ (w : WorldSetup) where
   -- A record, so that antt finds the world that a lemma speaks of.
-  record Lives (world : World) : Type 0 where
-    is : IsLife w world
+  pub record Lives (world : World) : Type 0 where
+    pub is : IsLife w world
 
   told_lives : (world : World) (command : Command) → Lives world → (o : Option Requesting) (n : ℕ) → requester_of n world ≡ o → Lives (told world n command o).after
   told_lives world command k None n is = k
@@ -78,7 +78,8 @@ module _ (w : WorldSetup) where
   happens_lives world (Happening.Tick seconds) k = record { is = ticks_leads w world k.is seconds }
   happens_lives world Happening.Show k = k
 
-  from_lives : (world : World) (entries : List Entry) → Lives world → Lives (world_from world entries)
+  -- From any world of these ends on.
+  pub from_lives : (world : World) (entries : List Entry) → Lives world → Lives (world_from world entries)
   from_lives world [] k = k
   from_lives world (entry ∷ entries) k = from_lives (entry_step world entry).after entries (happens_lives world entry.happening k)
 

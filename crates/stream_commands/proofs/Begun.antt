@@ -1,24 +1,28 @@
--- What a command answers where there is no beginning, and what a beginning sets up.
-use Rattle.std.proofs.Common.{◌≡◌, inl, refl, ℕ, List, Option}
-use Rattle.frame_stream.specs.Frames.{Ending}
-use Rattle.stream_commands.specs.Begun.{IsBegun, IsBeginCause, Tries}
-use Rattle.stream_commands.specs.Outside.{IsCauseBy, IsSetUp, Outside, outside}
+-- What a beginning sets up.
+use Rattle.std.proofs.Common.{◌≡◌, ◌≤◌, ℕ, List, [], length, subst, sym, Option, Some}
+use Rattle.stream_commands.specs.Begun.{IsBegun, config_text}
+use Rattle.stream_commands.specs.Kept.{IsStreamUnread}
+use Rattle.stream_commands.specs.Outside.{IsSeeded, Outside}
+use Rattle.stream_commands.specs.SetUp.{IsSetUp}
 use Rattle.stream_commands.specs.declared.begin.Begun.{Begun}
-use Rattle.stream_commands.specs.declared.fault.StreamFault.{StreamFault}
-use Rattle.stream_commands.specs.declared.fault.StreamFault.TheVariants as fault
 
--- what was begun sets up the end
+-- the end
 pub set_up : (before after : Outside) (begun : Begun) (rest : Option (List ℕ)) → IsBegun before.left before.seeds begun rest after.seeds → IsSetUp begun.config begun.seed before after
 set_up before after begun rest is = record { configured = is.configured; given = is.seed }
 
-module _ (Whole : (before after : Outside) → Ending → Type 0) (Part : (before after : Outside) → Type 0) where
-  -- Where there is no beginning nothing was written, and no seed is gone.
-  pub not_begun : (left rest held : Option (List ℕ)) (seeds others : Option (List (List ℕ))) (n : Tries) (written : ℕ) (f : StreamFault) → others ≡ seeds → IsBeginCause left n f →
-      IsCauseBy Whole Part (outside left held seeds n.read_before written n.seeded_before) (outside rest held others n.read_after written n.seeded_after) f
-  not_begun left rest held seeds others n written fault.ReadFault same is = (is, inl (refl, same))
-  not_begun left rest held seeds others n written fault.SeedFault same is = (is.0, is.1, (refl, same))
-  not_begun left rest held seeds others n written fault.TooLong same is = inl (is, (refl, same))
-  not_begun left rest held seeds others n written (fault.BadScript line f) same is = (is, (refl, same))
-  not_begun left rest held seeds others n written fault.OutOfMemory same is = (refl, inl same)
-  not_begun left rest held seeds others n written fault.WriteFault same is = absurd is
-  not_begun left rest held seeds others n written (fault.BadFrame at) same is = absurd is
+pub seeded : (before after : Outside) (begun : Begun) (rest : Option (List ℕ)) → IsBegun before.left before.seeds begun rest after.seeds → IsSeeded config_text before after
+seeded before after begun rest is = record { good = (begun.config, is.configured); seed = begun.seed; given = is.seed }
+
+-- told of the same bytes
+pub with_bytes : (before after : Outside) (begun : Begun) (rest : Option (List ℕ)) (bytes : List ℕ) → bytes ≡ begun.before → IsBegun before.left before.seeds begun rest after.seeds →
+    IsBegun before.left before.seeds (record begun { before = bytes }) rest after.seeds
+with_bytes before after begun rest bytes same is = subst (λ (l : List ℕ). IsBegun before.left before.seeds (record begun { before = l }) rest after.seeds) (sym same) is
+
+-- the stream is not read, but for what was read with the text
+pub unread : (before after : Outside) (begun : Begun) → IsBegun before.left before.seeds begun after.left after.seeds → length begun.before ≤ 4096 → IsStreamUnread config_text before after
+unread before after begun is few = λ input e. let behind = (is.read input e).1 in (begun.before, behind.0, behind.1, behind.2, few)
+
+-- and what is behind the text was read to its end
+pub read_to_end : (before after : Outside) (begun : Begun) (rest : Option (List ℕ)) → IsBegun before.left before.seeds begun rest after.seeds →
+    ((left : List ℕ) → rest ≡ Some left → after.left ≡ Some []) → (input : List ℕ) → before.left ≡ Some input → after.left ≡ Some []
+read_to_end before after begun rest is end input left = let behind = (is.read input left).1 in end behind.0 behind.1

@@ -3,6 +3,6 @@ pub mod Streams
 pub mod Begun
 pub mod ServingAnswers
 pub mod DrivingAnswers
+pub mod Answered
 pub mod Exactly
-pub mod KeptAnswers
-pub mod KeptExactly
+pub mod Ends

@@ -8,7 +8,7 @@ use Rattle.responder_serve.specs.Served.{served_kinds}
 use Rattle.script_text.specs.ConfigText.{config_in}
 use Rattle.script_text.specs.Reading.{BadLine, bad_line_in}
 use Rattle.script_text.specs.declared.configuration.config.ScriptConfig.{ScriptConfig}
-use Rattle.stream_commands.specs.Begun.{text_limit}
+use Rattle.stream_commands.specs.Texts.{text_limit}
 use Rattle.stream_commands.specs.declared.fault.StreamFault.{StreamFault}
 use Rattle.stream_commands.specs.declared.fault.StreamFault.TheVariants as fault
 

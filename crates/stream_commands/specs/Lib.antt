@@ -1,7 +1,9 @@
+pub mod Texts
 pub mod Begun
 pub mod Outside
+pub mod SetUp
+pub mod InputEnds
+pub mod Kept
 pub mod Served
 pub mod Driven
-pub mod InputEnds
 pub mod Told
-pub mod Kept

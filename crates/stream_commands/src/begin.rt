@@ -1,10 +1,10 @@
 ghost use Rattle.std.specs.Prelude.{◌≡◌, ◌≤◌, length, IfErr, IfOk, OnErr};
-ghost use Rattle.stream_commands.specs.Begun.{IsBeginCause, IsBegun, IsParsed, told_of};
+ghost use Rattle.stream_commands.specs.Begun.{IsBeginCause, IsBegun, IsParsed};
 
 use crate::StreamFault;
 use frame_stream::read_text;
-use script_text::{LineFault, ScriptConfig, ScriptFault, TEXT_LIMIT, parse_config};
-use spdm_basis::{Buffer, InFault, Seeds, Source};
+use script_text::{ScriptConfig, TEXT_LIMIT, parse_config};
+use spdm_basis::{Buffer, Seeds, Source};
 use std::alloc::Global;
 
 /// What precedes a stream: the configuration, a seed for the end that it sets up, and the bytes of the stream that were
@@ -23,23 +23,7 @@ fn parse(alloc: Global, text: &[u8]) -> Result<ScriptConfig, StreamFault>
 {
     match parse_config(alloc, text) {
         Ok(config) => Ok(config),
-        Err(ScriptFault::Line(line, fault)) => Err(StreamFault::BadScript { line, fault }),
-        Err(ScriptFault::TooManyEvents(line)) => Err(StreamFault::BadScript {
-            line,
-            fault: LineFault::TooManyEvents,
-        }),
-        Err(ScriptFault::OutOfMemory) => Err(StreamFault::OutOfMemory),
-    }
-}
-
-// Why no text was read.
-fn fault_of(fault: InFault) -> StreamFault
-    ensures { result ≡ told_of fault }
-{
-    match fault {
-        InFault::ReadFault => StreamFault::ReadFault,
-        InFault::TooLong => StreamFault::TooLong,
-        InFault::OutOfMemory => StreamFault::OutOfMemory,
+        Err(fault) => Err(StreamFault::of_text(fault)),
     }
 }
 
@@ -64,7 +48,7 @@ pub(crate) fn begin<S: Source, E: Seeds>(
 {
     let read = match read_text(alloc, source, TEXT_LIMIT) {
         Ok(read) => read,
-        Err(fault) => return Err(fault_of(fault)),
+        Err(fault) => return Err(StreamFault::of_reading(fault)),
     };
     let config = match parse(alloc, read.text.as_slice()) {
         Ok(config) => config,

@@ -1,28 +1,43 @@
-ghost use Rattle.std.specs.Prelude.{◌≡◌, ◌≤◌, ◌⊎◌, List, ℕ, Err, Some};
+ghost use Rattle.std.specs.Prelude.{◌≡◌, ◌≤◌, ◌⊎◌, ◌-◌, ◌^◌, List, Option, ℕ, Err, Some};
 ghost use Rattle.spdm_basis.specs.Stream.{IsQuiet};
-ghost use Rattle.stream_commands.specs.Driven.{IsAnswered};
+ghost use Rattle.stream_commands.specs.Begun.{IsBegun, IsRead};
+ghost use Rattle.stream_commands.specs.Driven.{IsAnswered, driving_command};
 ghost use Rattle.stream_commands.specs.InputEnds.{HasEnd, InputEnd, IsStreamToDrive, answer_for};
-ghost use Rattle.stream_commands.specs.Outside.{outside};
-ghost use Rattle.stream_commands.specs.Told.{IsDriveTold, IsOfDriving};
+ghost use Rattle.stream_commands.specs.Outside.{IsFollowedBy, outside};
 
 use crate::StreamFault;
 use crate::begin::begin;
-use requester_drive::{DriveFault, drive};
+use requester_drive::drive;
+use script_text::ScriptConfig;
 use spdm_basis::{Seeds, Sink, Source};
 use std::alloc::Global;
 
-// Why no stream was followed to its end.
-fn fault_of(fault: DriveFault) -> StreamFault
-    requires { IsOfDriving fault }
-    ensures { IsDriveTold fault result }
+/// Drives the first requester by the stream behind a beginning, in the life of a boot number.
+pub(crate) fn drive_behind<S: Source, K: Sink>(
+    alloc: Global,
+    config: &ScriptConfig,
+    seed: [u8; 32],
+    boot: u32,
+    before: &[u8],
+    source: &mut S,
+    sink: &mut K,
+) -> Result<(), StreamFault>
+    requires read { IsRead config.now }
+    requires boot { boot ≤ 2 ^ 24 - 2 }
+    ensures followed { (left : Option (List ℕ)) (seeds others : Option (List (List ℕ)))
+        (reads seeded_before seeded_after : ℕ)
+        → IsBegun left seeds (record { config = config.now; seed = seed; before = before.now })
+        (S.remaining source.old) others → reads ≤ S.faults source.old
+        → IsFollowedBy driving_command boot
+        (outside left (K.contents sink.old) seeds reads (K.faults sink.old) seeded_before)
+        (outside (S.remaining source.new) (K.contents sink.new) others (S.faults source.new)
+        (K.faults sink.new) seeded_after) result }
+    ensures read_later { S.faults source.old ≤ S.faults source.new }
+    ensures written_later { K.faults sink.old ≤ K.faults sink.new }
 {
-    match fault {
-        DriveFault::ReadFault => StreamFault::ReadFault,
-        DriveFault::WriteFault => StreamFault::WriteFault,
-        DriveFault::TooLong => StreamFault::TooLong,
-        DriveFault::BadFrame { at } => StreamFault::BadFrame { at },
-        DriveFault::OutOfMemory => StreamFault::OutOfMemory,
-        DriveFault::Requester(_) => unreachable!(),
+    match drive(alloc, config, seed, boot, before, source, sink) {
+        Ok(()) => Ok(()),
+        Err(fault) => Err(StreamFault::of_driving(fault)),
     }
 }
 
@@ -51,20 +66,16 @@ pub fn drive_input<S: Source, K: Sink, E: Seeds>(
     ensures written_later { K.faults sink.old ≤ K.faults sink.new }
     ensures seeded_later { E.faults seeds.old ≤ E.faults seeds.new }
 {
-    let begun = match begin(alloc, source, seeds) {
-        Ok(begun) => begun,
-        Err(fault) => return Err(fault),
-    };
-    match drive(
-        alloc,
-        &begun.config,
-        begun.seed,
-        0,
-        begun.before.as_slice(),
-        source,
-        sink,
-    ) {
-        Ok(()) => Ok(()),
-        Err(fault) => Err(fault_of(fault)),
+    match begin(alloc, source, seeds) {
+        Ok(begun) => drive_behind(
+            alloc,
+            &begun.config,
+            begun.seed,
+            0,
+            begun.before.as_slice(),
+            source,
+            sink,
+        ),
+        Err(fault) => Err(fault),
     }
 }

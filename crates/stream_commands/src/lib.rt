@@ -6,12 +6,14 @@
 
 mod begin;
 mod driving;
+mod driving_kept;
 mod fault;
 mod kept_fault;
 mod serving;
 mod serving_kept;
 
 pub use driving::drive_input;
+pub use driving_kept::drive_kept_input;
 pub use fault::StreamFault;
 pub use kept_fault::KeptFault;
 pub use serving::serve_input;

@@ -1,28 +1,43 @@
-ghost use Rattle.std.specs.Prelude.{◌≡◌, ◌≤◌, ◌⊎◌, List, ℕ, Err, Some};
+ghost use Rattle.std.specs.Prelude.{◌≡◌, ◌≤◌, ◌⊎◌, ◌-◌, ◌^◌, List, Option, ℕ, Err, Some};
 ghost use Rattle.spdm_basis.specs.Stream.{IsQuiet};
+ghost use Rattle.stream_commands.specs.Begun.{IsBegun, IsRead};
 ghost use Rattle.stream_commands.specs.InputEnds.{HasEnd, InputEnd, IsStreamToServe, answer_for};
-ghost use Rattle.stream_commands.specs.Outside.{outside};
-ghost use Rattle.stream_commands.specs.Served.{IsAnswered};
-ghost use Rattle.stream_commands.specs.Told.{IsOfStream, IsTold};
+ghost use Rattle.stream_commands.specs.Outside.{IsFollowedBy, outside};
+ghost use Rattle.stream_commands.specs.Served.{IsAnswered, serving_command};
 
 use crate::StreamFault;
 use crate::begin::begin;
-use responder_serve::{ServeFault, serve};
+use responder_serve::serve;
+use script_text::ScriptConfig;
 use spdm_basis::{Seeds, Sink, Source};
 use std::alloc::Global;
 
-/// Why no stream was served to its end.
-pub(crate) fn fault_of(fault: ServeFault) -> StreamFault
-    requires { IsOfStream fault }
-    ensures { IsTold fault result }
+/// Serves the stream behind a beginning, in the life of a boot number.
+pub(crate) fn serve_behind<S: Source, K: Sink>(
+    alloc: Global,
+    config: &ScriptConfig,
+    seed: [u8; 32],
+    boot: u32,
+    before: &[u8],
+    source: &mut S,
+    sink: &mut K,
+) -> Result<(), StreamFault>
+    requires read { IsRead config.now }
+    requires boot { boot ≤ 2 ^ 24 - 2 }
+    ensures followed { (left : Option (List ℕ)) (seeds others : Option (List (List ℕ)))
+        (reads seeded_before seeded_after : ℕ)
+        → IsBegun left seeds (record { config = config.now; seed = seed; before = before.now })
+        (S.remaining source.old) others → reads ≤ S.faults source.old
+        → IsFollowedBy serving_command boot
+        (outside left (K.contents sink.old) seeds reads (K.faults sink.old) seeded_before)
+        (outside (S.remaining source.new) (K.contents sink.new) others (S.faults source.new)
+        (K.faults sink.new) seeded_after) result }
+    ensures read_later { S.faults source.old ≤ S.faults source.new }
+    ensures written_later { K.faults sink.old ≤ K.faults sink.new }
 {
-    match fault {
-        ServeFault::ReadFault => StreamFault::ReadFault,
-        ServeFault::WriteFault => StreamFault::WriteFault,
-        ServeFault::TooLong => StreamFault::TooLong,
-        ServeFault::BadFrame { at } => StreamFault::BadFrame { at },
-        ServeFault::OutOfMemory => StreamFault::OutOfMemory,
-        ServeFault::Responder(_) => unreachable!(),
+    match serve(alloc, config, seed, boot, before, source, sink) {
+        Ok(()) => Ok(()),
+        Err(fault) => Err(StreamFault::of_serving(fault)),
     }
 }
 
@@ -51,20 +66,16 @@ pub fn serve_input<S: Source, K: Sink, E: Seeds>(
     ensures written_later { K.faults sink.old ≤ K.faults sink.new }
     ensures seeded_later { E.faults seeds.old ≤ E.faults seeds.new }
 {
-    let begun = match begin(alloc, source, seeds) {
-        Ok(begun) => begun,
-        Err(fault) => return Err(fault),
-    };
-    match serve(
-        alloc,
-        &begun.config,
-        begun.seed,
-        0,
-        begun.before.as_slice(),
-        source,
-        sink,
-    ) {
-        Ok(()) => Ok(()),
-        Err(fault) => Err(fault_of(fault)),
+    match begin(alloc, source, seeds) {
+        Ok(begun) => serve_behind(
+            alloc,
+            &begun.config,
+            begun.seed,
+            0,
+            begun.before.as_slice(),
+            source,
+            sink,
+        ),
+        Err(fault) => Err(fault),
     }
 }

@@ -1,15 +1,15 @@
 ghost use Rattle.std.specs.Prelude.{◌≡◌, ◌≤◌, ◌⊎◌, List, ℕ, Err, Some, true};
 ghost use Rattle.spdm_basis.specs.Stream.{IsQuiet};
 ghost use Rattle.stream_commands.specs.InputEnds.{HasEnd, InputEnd, IsStreamToServe};
-ghost use Rattle.stream_commands.specs.Kept.{IsAnswered, answer_for, is_unasked, keeper_state};
+ghost use Rattle.stream_commands.specs.Kept.{answer_for, is_unasked, keeper_state};
 ghost use Rattle.stream_commands.specs.Outside.{outside};
+ghost use Rattle.stream_commands.specs.Served.{IsAnsweredKept};
 ghost use Rattle.stream_commands.specs.declared.fault.StreamFault.TheVariants.{OutOfMemory};
 
 use crate::KeptFault;
 use crate::begin::begin;
-use crate::serving::fault_of;
+use crate::serving::serve_behind;
 use boot_keeper::{Keeper, next_boot};
-use responder_serve::serve;
 use spdm_basis::{Seeds, Sink, Source};
 use std::alloc::Global;
 
@@ -24,7 +24,7 @@ pub fn serve_kept_input<S: Source, K: Sink, E: Seeds, P: Keeper>(
     seeds: &mut E,
     keeper: &mut P,
 ) -> Result<(), KeptFault>
-    ensures answers { IsAnswered (keeper_state (P.contents keeper.old) (P.faults keeper.old))
+    ensures answers { IsAnsweredKept (keeper_state (P.contents keeper.old) (P.faults keeper.old))
         (keeper_state (P.contents keeper.new) (P.faults keeper.new))
         (outside (S.remaining source.old) (K.contents sink.old) (E.left seeds.old)
         (S.faults source.old) (K.faults sink.old) (E.faults seeds.old))
@@ -54,8 +54,8 @@ pub fn serve_kept_input<S: Source, K: Sink, E: Seeds, P: Keeper>(
         Ok(boot) => boot,
         Err(fault) => return Err(KeptFault::Boot(fault)),
     };
-    match serve(alloc, &begun.config, begun.seed, boot, before, source, sink) {
+    match serve_behind(alloc, &begun.config, begun.seed, boot, before, source, sink) {
         Ok(()) => Ok(()),
-        Err(fault) => Err(KeptFault::Stream(fault_of(fault))),
+        Err(fault) => Err(KeptFault::Stream(fault)),
     }
 }

@@ -4,7 +4,6 @@ use Rattle.spdm_basis.specs.Stream.{Gives}
 use Rattle.frame_stream.specs.Standing.{in_front}
 use Rattle.attest_command.proofs.Policies.{ended_policy, so_far_more, too_long, whole_policy}
 use Rattle.attest_command.specs.Places.{to_come}
-use Rattle.attest_command.specs.Policy.{behind_policy, policy_of}
 use Rattle.attest_command.proofs.policy_text.read_policy.Goals as goal
 
 pub returns-then-own-limit-clause-too_long : goal.returns-then-own-limit-clause-too_long

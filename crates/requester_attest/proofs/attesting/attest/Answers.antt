@@ -8,7 +8,7 @@ use Rattle.requester_attest.proofs.attesting.attest.Goals as goal
 
 pub run-requires-clause-kept : goal.run-requires-clause-kept
 run-requires-clause-kept g c =
-    let own = some_attesting c.args.config.now c.args.policy c.args.seed c.requires.some in
+    let own = some_attesting c.args.config.now c.args.policy c.args.seed c.args.boot c.requires.some in
     let right = some_appraised c.args.policy c.requires.sound in
     record { appraised = right.0; attesting = own.0; stands = c.in-Ok.ensures.stands right.0 own.0 own.1 right.1 }
 

@@ -9,7 +9,7 @@ pub returns-in-Ok-clause-stands : goal.returns-in-Ok-clause-stands
 returns-in-Ok-clause-stands c = λ a is.
     let config = c.args.config.now in
     let q = c.q-item.result in
-    first_stands config c.args.policy c.args.seed q c.over.result a (first_is c.as_slice.result.now config.requesters q c.as_slice.ensures (omega (arith, c.in-len1-up.len_at_least)) c.q-item.is) (c.over.ensures _ c.in-Ok.ensures.stands refl) is
+    first_stands config c.args.policy c.args.seed c.args.boot q c.over.result a (first_is c.as_slice.result.now config.requesters q c.as_slice.ensures (omega (arith, c.in-len1-up.len_at_least)) c.q-item.is) (c.over.ensures _ c.in-Ok.ensures.stands refl) is
 
 pub returns-in-Err-clause-fault : goal.returns-in-Err-clause-fault
 returns-in-Err-clause-fault c =
