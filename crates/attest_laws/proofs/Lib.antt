@@ -15,3 +15,6 @@ pub mod Attesting
 pub mod TakingPart
 pub mod Verdicts
 pub mod Lives
+pub mod OneTurn
+pub mod OneCommand
+pub mod HonestAttestation

@@ -1,3 +1,4 @@
 pub mod Measured
 pub mod Attested
 pub mod Lives
+pub mod Honest

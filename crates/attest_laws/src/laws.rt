@@ -1,6 +1,7 @@
 //! What attestation may rely on, each law stated as the contract of an empty function.
 
 ghost use Rattle.attest_laws.specs.Attested.{WorldsAttestAsConfigured};
+ghost use Rattle.attest_laws.specs.Honest.{HonestAttestationsDecide};
 ghost use Rattle.attest_laws.specs.Lives.{LivesAttestAsConfigured, LivesMeasureAsConfigured};
 ghost use Rattle.attest_laws.specs.Measured.{WorldsMeasureAsConfigured};
 
@@ -26,4 +27,11 @@ pub fn measured_in_lives()
 /// So it is of an attesting requester in a life behind others.
 pub fn attested_in_lives()
     ensures { LivesAttestAsConfigured }
+{}
+
+/// Where each packet is given to its end once, in order, and each command that an attesting requester tells can be done,
+/// it comes to its decision: by the record of all blocks that the responder is set up with. Its verdict is what this
+/// record comes to under its rules.
+pub fn honest_attestations_decide()
+    ensures { HonestAttestationsDecide }
 {}

@@ -8,7 +8,7 @@ use Rattle.requester_machine.specs.Commands.{Free, command_fault}
 use Rattle.requester_machine.specs.Does.{command_chosen, requester_asks}
 use Rattle.requester_machine.specs.History as asked
 use Rattle.requester_machine.specs.Message.{Command}
-use Rattle.requester_machine.specs.Requesting.{Requesting, CommandStep, commanded_by, is_worn, next_draw, requester_told}
+use Rattle.requester_machine.specs.Requesting.{Requesting, CommandStep, is_worn, next_draw, requester_told}
 use Rattle.requester_machine.specs.Setup.{ReqSetup}
 use Rattle.requester_machine.specs.Shown.{fault_of}
 use Rattle.requester_machine.proofs.Telling.{fresh_told}

@@ -136,7 +136,7 @@ module _ (Going Done Sound : World → Type 0) (line : Line) (earlier : IsOfEarl
   before_all world [] sound = sound
   before_all world (entry ∷ entries) sound = earlier world entry.happening (before_all (entry_step world entry).after entries sound)
 
-  all_go : (world : World) (entries : List Entry) → HaveNoCommand entries → AreHonest world entries → Sound (world_from world entries) → Going world → Goes Going Done line (all_of world entries)
+  pub all_go : (world : World) (entries : List Entry) → HaveNoCommand entries → AreHonest world entries → Sound (world_from world entries) → Going world → Goes Going Done line (all_of world entries)
   all_go world [] none honest sound u = GoesOn u
   all_go world (entry ∷ entries) none honest sound u =
       all_behind world entry entries (event_goes world entry.happening none.0 honest.0 u (before_all (entry_step world entry).after entries sound)) (λ v. all_go (entry_step world entry).after entries none.1 honest.1 sound v) (λ d. all_done (entry_step world entry).after entries none.1 honest.1 d)

@@ -244,7 +244,7 @@ module _ (p : Pair) (offer : OfferMessage) (choice : Choice) (can : CanMeet p.re
 -- ---- The command.
 
 module _ (w : WorldSetup) (before : List Entry) (n : ℕ) (a : Requesting) (c : Connection) (is_told : IsTold w before n a c) (can : CanConnect a c) (line : ℕ) (behind : List Entry) (none : HaveNoCommand behind)
-    (honest : AreHonest (commanding (world_after w before) line n Connect) behind) (still : Rests (commanding (world_after w before) line n Connect) behind)
+    (honest : AreHonest (commanding (world_after w before) line n Connect) behind) (still : Rests n (commanding (world_after w before) line n Connect) behind)
     (chance : NoChance (world_from (commanding (world_after w before) line n Connect) behind).log)
     (Aside : World → Type 0) (aside : IsAside (pair_of n a c) Aside) (beside : Aside (world_after w before)) where
   here : ArePlaced (world_after w before) n a c

@@ -17,6 +17,7 @@ pub mod ManyPackets
 pub mod StillKept
 pub mod Views
 pub mod Talk
+pub mod StillOut
 pub mod RecordsBetween
 pub mod AlikeSessions
 pub mod RecordServed

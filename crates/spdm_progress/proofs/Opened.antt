@@ -86,7 +86,7 @@ not_long false true more is = (refl, λ none. absurd (false≢true (sym none)))
 not_long false false more is = (refl, λ none. is)
 
 module _ (w : WorldSetup) (before : List Entry) (n : ℕ) (a : Requesting) (c : Connection) (summary : ℕ) (is_told : IsToldQuietly w before n a c (Open summary)) (can : CanOpen a c summary) (line : ℕ) (behind : List Entry) (none : HaveNoCommand behind)
-    (honest : AreHonest (commanding (world_after w before) line n (Open summary)) behind) (still : Rests (commanding (world_after w before) line n (Open summary)) behind)
+    (honest : AreHonest (commanding (world_after w before) line n (Open summary)) behind) (still : Rests n (commanding (world_after w before) line n (Open summary)) behind)
     (chance : NoChance (world_from (commanding (world_after w before) line n (Open summary)) behind).log)
     (Aside : World → Type 0) (aside : IsAside (pair_of n a c) Aside) (beside : Aside (world_after w before)) where
   abbrev d : Draw

@@ -97,7 +97,7 @@ module _ (w : WorldSetup) (configured : IsConfigured w) (before : List Entry) (p
     alone_ready = alone_by (requester_of p.n first_world) refl
 
 module _ (w : WorldSetup) (configured : IsConfigured w) (before : List Entry) (p : Paragraph) (most : ℕ) (room : most + most_asked ≤ wear_limit) (ready : IsReady most (world_after w before)) (none : HaveNoCommand p.behind)
-    (honest : AreHonest (told_in (world_after w before) p) p.behind) (still : Rests (told_in (world_after w before) p) p.behind) (chance : NoChance (world_behind (world_after w before) p).log) where
+    (honest : AreHonest (told_in (world_after w before) p) p.behind) (still : Rests p.n (told_in (world_after w before) p) p.behind) (chance : NoChance (world_behind (world_after w before) p).log) where
   abbrev world : World
   world = world_after w before
 

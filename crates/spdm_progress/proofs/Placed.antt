@@ -10,7 +10,6 @@ use Rattle.spdm_machine.specs.Packets.{gathered_from, body_type}
 use Rattle.spdm_machine.proofs.Members.{IsIn, in_map, found_in, all_in, map_in}
 use Rattle.requester_machine.proofs.SetUpKept.{given_setup, told_setup}
 use Rattle.requester_machine.specs.Message.{Command}
-use Rattle.requester_machine.specs.Requesting as asking
 use Rattle.requester_machine.specs.Requesting.{Requesting, requester_told, requester_given, new_requesting}
 use Rattle.responder_machine.specs.Responding as serving
 use Rattle.responder_machine.specs.Responding.{Connection, Responding, RspStep, connection_of, changed, with_history, responder_hears, queues, reply_fault_of, ticks, new_connection}

@@ -37,7 +37,7 @@ module _ (w : WorldSetup) (configured : IsConfigured w) where
       let all = l.room in
       let room : most + most_asked ≤ wear_limit = omega (arith, all) in
       let enough : most_packets ≤ most_packets = omega arith in
-      let ready = paragraph_ready w configured before p most room l.ready (refl, tt) (tt, tt) (inr (o.pump_line, most_packets, enough, refl)) (no_chance_from (world_behind world p) (with_pumps orders) l.chance) l.can.0 in
+      let ready = paragraph_ready w configured before p most room l.ready (refl, tt) (tt, tt) (inr (inr (o.pump_line, most_packets, enough, refl))) (no_chance_from (world_behind world p) (with_pumps orders) l.chance) l.can.0 in
       let now : world_after w (before ++ entries_of p) ≡ world_behind world p = from_both (new_world w) before (entries_of p) in
       let left : AreLeft (most + most_asked) (world_behind world p) orders = record { room = omega (arith, all); ready = ready; chance = l.chance; can = l.can.1.1 } in
       let rest = subst (λ (z : World). Runs z orders) now (orders_run orders (before ++ entries_of p) (most + most_asked) (subst (λ (z : World). AreLeft (most + most_asked) z orders) (sym now) left)) in

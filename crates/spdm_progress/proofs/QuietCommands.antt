@@ -45,7 +45,7 @@ use Rattle.spdm_grammar.specs.Lines.{Line}
 use Rattle.spdm_progress.proofs.Talk.{all_short}
 use Rattle.spdm_progress.specs.Honest.{AreHonest, HaveNoCommand}
 use Rattle.spdm_progress.specs.Measuring.{measurements_size, number_for, IsMeasured}
-use Rattle.spdm_progress.specs.Scripts.{CanDo, Holds, IsDone, Means, PumpsAreEnough, QuietCommandsComplete, QuietMeasuresComplete, result_for}
+use Rattle.spdm_progress.specs.Scripts.{CanDo, Holds, IsDone, Means, PumpsAreEnough, QuietCommandsComplete, QuietMeasuresComplete, ResultsComeLast, result_for}
 use Rattle.spdm_progress.specs.SessionCommands.{CanAsk, IsDoneQuietly, IsToldQuietly, commanding, goes_on, result_of}
 use Rattle.spdm_progress.specs.Opening.{opened_id}
 use Rattle.spdm_progress.proofs.Accepted.{told_so}
@@ -94,7 +94,7 @@ module _ (w : WorldSetup) (before : List Entry) (n : ℕ) (a : Requesting) (c : 
   pub record IsOver (command : Command) : Type 0 where
     pub told : IsToldQuietly w before n a c command
     pub honest : AreHonest (After command) behind
-    pub still : Rests (After command) behind
+    pub still : Rests n (After command) behind
     pub chance : NoChance (world_from (After command) behind).log
 
   in_session : (command : Command) (id : ℕ) → CanAsk a c command → session_in command ≡ Some id → result_of a c command ≡ result_for a c command → IsOver command → Result command
@@ -368,4 +368,8 @@ quiet_measures_complete w before n a c (Some id) op told can line behind none ho
 pub pumps_are_enough : PumpsAreEnough
 unfolding happens
 pumps_are_enough w before n a c command told can line count most chance =
-    (each w before n a c line (record { line = line; happening = Pump count } ∷ []) (refl, tt) (λ later. Unit {0}) (nothing_aside (pair_of n a c)) tt command can (record { told = told; honest = (tt, tt); still = inr (line, count, most, refl); chance = chance })).1.idle
+    (each w before n a c line (record { line = line; happening = Pump count } ∷ []) (refl, tt) (λ later. Unit {0}) (nothing_aside (pair_of n a c)) tt command can (record { told = told; honest = (tt, tt); still = inr (inr (line, count, most, refl)); chance = chance })).1.idle
+
+pub results_come_last : ResultsComeLast
+results_come_last w before n a c command told can line behind none honest nothing chance =
+    (each w before n a c line behind none (λ later. Unit {0}) (nothing_aside (pair_of n a c)) tt command can (record { told = told; honest = honest; still = inr (inl nothing); chance = chance })).1.idle

@@ -1,7 +1,7 @@
 -- Each command that asks something of an open session comes to its result.
-use Rattle.std.proofs.Common.{◌≡◌, ◌⊎◌, ◌∙◌, ℕ, zero, suc, ◌<◌, ◌≤◌, ◌+◌, ◌-◌, ◌*◌, nat_le, List, [], ◌∷◌, length, Bool, true, false, Some, None, refl, sym, ap, subst, inl, inr, arith, append-nil, append_assoc, ◌++◌}
+use Rattle.std.proofs.Common.{◌≡◌, ◌⊎◌, ◌∙◌, ℕ, zero, suc, ◌<◌, ◌≤◌, ◌+◌, ◌-◌, ◌*◌, nat_le, List, [], ◌∷◌, length, Bool, true, false, Some, None, is_some, refl, sym, ap, subst, inl, inr, arith, append-nil, append_assoc, ◌++◌}
 use Rattle.std.proofs.Math.Nat.{min-le_left}
-use Rattle.std.proofs.lemmas.Bool.{leb-false, leb-true, ltb-false, not-false}
+use Rattle.std.proofs.lemmas.Bool.{false≢true, leb-false, leb-true, ltb-false, not-false}
 use Rattle.std.specs.Int.{div_ceil}
 use Rattle.std.proofs.lemmas.List.{length-take}
 use Rattle.spdm_basis.proofs.Bools.{and_second}
@@ -49,6 +49,7 @@ use Rattle.world_machine.specs.Trace.{lines_from, world_after, world_from}
 use Rattle.world_machine.specs.World.{World, WorldStep, entry_step, happens, pumps, requester_of, told_by}
 use Rattle.spdm_progress.specs.Honest.{AreHonest, HaveNoCommand, NothingWaits}
 use Rattle.spdm_progress.specs.InStep.{AreQuiet, rsp_id}
+use Rattle.spdm_progress.specs.Scripts.{HasNone}
 use Rattle.spdm_progress.specs.SessionCommands.{AnswersAreQueued, AnswersWaitFirst, CanAsk, EndedAtBothEnds, IsDoneQuietly, IsGoneThere, IsTold, IsToldQuietly, OnlyWaits, SessionCommandsComplete, TookQueued, commanding, goes_on, most_asked, most_packets, most_served, result_of, session_at}
 use Rattle.responder_machine.specs.Does.{first_queued}
 use Rattle.responder_machine.specs.History.Entry.{Clear, Dropped, Queued, Sealed, Ticked}
@@ -69,7 +70,9 @@ use Rattle.spdm_progress.proofs.MeasureStages.{granted_data, granted_record}
 use Rattle.spdm_progress.proofs.SessionRounds.{Asking, IsAsked, sealed_length}
 use Rattle.spdm_progress.proofs.SingleRound.{AnswersOnce, AsksOnce, IsLast, Quiet, once_talk}
 use Rattle.spdm_progress.proofs.Talk as talk
-use Rattle.spdm_progress.proofs.Talk.{AreShort, IsTalk, sum_to, Stage, all_short, begins, begins_with, enough, no_chance_earlier, talk_ends}
+use Rattle.spdm_progress.proofs.Between.{Goes, GoesOn, Ends}
+use Rattle.spdm_progress.proofs.StillOut.{AnswersOut, AsksOut, out_short, out_talk}
+use Rattle.spdm_progress.proofs.Talk.{AreShort, IsTalk, sum_to, Stage, all_short, begins, begins_with, enough, no_chance_earlier, talk_ends, talk_goes}
 use Rattle.spdm_progress.proofs.Told.{ArePlaced, are_placed, contained, pair_of}
 use Rattle.spdm_progress.proofs.UpdateRounds.{CanUpdate, UpdateDone, UpdateTalkAnswers, UpdateTalkAsks, update_asking, update_talk}
 use Rattle.spdm_progress.proofs.Views.{Shows, View}
@@ -108,9 +111,9 @@ few_by_chunks transfer size counts =
     let there = times_each 1 (suc count) in
     (omega (arith, all, here), omega (arith, rounds, there), omega (arith, rounds, all, here, there))
 
--- No packet waits after these entries, or there was a pump long enough.
-abbrev pub Rests : World → List Entry → Type 0
-Rests world behind = NothingWaits (world_from world behind) ⊎ IsLongPump behind
+-- After these entries no packet waits, or no request of requester n is outstanding, or there was a pump long enough.
+abbrev pub Rests : ℕ → World → List Entry → Type 0
+Rests n world behind = NothingWaits (world_from world behind) ⊎ HasNone n (world_from world behind) ⊎ IsLongPump behind
 
 -- Requester n and the responder took so many packets and commands at most.
 abbrev pub HaveTakenAt : ℕ → (most : ℕ) → World → Type 0
@@ -127,7 +130,7 @@ pub record Idle (world : World) (n : ℕ) (a : Requesting) (Aside : World → Ty
   pub takes : TakeFew world n a later
 
 module _ (w : WorldSetup) (before : List Entry) (n : ℕ) (a : Requesting) (c : Connection) (command : Command) (is_told : IsTold w before n a c) (line : ℕ) (behind : List Entry) (none : HaveNoCommand behind)
-    (honest : AreHonest (commanding (world_after w before) line n command) behind) (still : Rests (commanding (world_after w before) line n command) behind) (chance : NoChance (world_from (commanding (world_after w before) line n command) behind).log)
+    (honest : AreHonest (commanding (world_after w before) line n command) behind) (still : Rests n (commanding (world_after w before) line n command) behind) (chance : NoChance (world_from (commanding (world_after w before) line n command) behind).log)
     (Aside : World → Type 0) (aside : IsAside (pair_of n a c) Aside) (beside : Aside (world_after w before)) where
   abbrev world : World
   world = world_after w before
@@ -164,18 +167,58 @@ module _ (w : WorldSetup) (before : List Entry) (n : ℕ) (a : Requesting) (c : 
     record { idle = waits_idle later.sent s.waits; aside = s.aside; takes = takes },
   )
 
-  at_rest : (most : ℕ) (within : most ≤ wear_limit) (Asks Answers : Stage) (Done : Log → asked.History → served.History → Type 0) (result : Finished) (is_talk : IsTalk p Asks Answers Done (event.Done result)) (there each : ℕ → ℕ) (short : AreShort there each Asks Answers) (sent : Sent) → requester_told a command ≡ sends a command sent
-      → (begun : talk.Asking most within p placed.ends Aside aside Asks Answers Done (event.Done result) is_talk there each short (told_by world n (sends a command sent)).after) → sum_to there (suc begun.more) + sum_to each (suc begun.more) ≤ most_packets → Rests (commanding world line n command) behind → NothingWaits (world_from (commanding world line n command) behind)
-  unfolding happens
-  at_rest most within Asks Answers Done result is_talk there each short sent step begun few (inl idle) = idle
-  at_rest most within Asks Answers Done result is_talk there each short sent step begun few (inr pump) =
-      let same = told_is world n a command sent is_told.is_requester step in
-      let later = commanding world line n command in
-      let count = pump.1 in
-      subst (λ (entries : List Entry). NothingWaits (world_from later entries)) (sym pump.3)
-      (subst (λ (s : WorldStep). NothingWaits (pumps count s.after).after) (sym same)
-      (enough most within p placed.ends Aside aside Asks Answers Done (event.Done result) is_talk there each short count (told_by world n (sends a command sent)).after begun (omega (arith, few, pump.2))
-      (subst (λ (s : WorldStep). NoChance (pumps count s.after).after.log) same (subst (λ (entries : List Entry). NoChance (world_from later entries).log) pump.3 chance))))
+  -- ---- Once no request is outstanding.
+
+  module _ (most : ℕ) (within : most ≤ wear_limit) (Asks Answers : Stage) (Done : Log → asked.History → served.History → Type 0) (result : Finished) (is_talk : IsTalk p Asks Answers Done (event.Done result)) (there each : ℕ → ℕ) (short : AreShort there each Asks Answers) where
+    abbrev AsksSo : Stage
+    AsksSo = AsksOut p Asks Answers Done (event.Done result)
+
+    abbrev AnswersSo : Stage
+    AnswersSo = AnswersOut p Asks Answers Done (event.Done result)
+
+    so_talk : IsTalk p AsksSo AnswersSo Done (event.Done result)
+    so_talk = out_talk p Asks Answers Done (event.Done result) is_talk
+
+    so_short : AreShort there each AsksSo AnswersSo
+    so_short = out_short p Asks Answers Done (event.Done result) there each short
+
+    abbrev AskingSo : World → Type 0
+    AskingSo = talk.Asking most within p placed.ends Aside aside AsksSo AnswersSo Done (event.Done result) so_talk there each so_short
+
+    abbrev GoingSo : World → Type 0
+    GoingSo = talk.IsUnderWay most within p placed.ends Aside aside AsksSo AnswersSo Done (event.Done result) so_talk there each so_short
+
+    abbrev DoneSo : World → Type 0
+    DoneSo = talk.IsDone most within p placed.ends Aside aside AsksSo AnswersSo Done (event.Done result) so_talk there each so_short
+
+    abbrev line_so : Line
+    line_so = Line.ToRequester n (event.Done result)
+
+    -- A talk does not go on where none is.
+    never_none : (later : World) → GoingSo later → HasNone n later → ⊥
+    never_none later (inl x) nothing = false≢true (sym (ap is_some (nothing (asker p x.view.given x.view.commands x.view.asked) x.comes.shows.is_requester)) ∙ x.asks.1)
+    never_none later (inr x) nothing = false≢true (sym (ap is_some (nothing (asker p x.view.given x.view.commands x.view.asked) x.comes.shows.is_requester)) ∙ x.answers.1)
+
+    goes_by : (s : WorldStep) → Goes GoingSo DoneSo line_so s → HasNone n s.after → DoneSo s.after × IsIn s.lines line_so
+    goes_by s (GoesOn u) nothing = absurd (never_none s.after u nothing)
+    goes_by s (Ends d m) nothing = (d, m)
+
+    pumped_rest : (sent : Sent) → requester_told a command ≡ sends a command sent → (begun : AskingSo (told_by world n (sends a command sent)).after) → sum_to there (suc begun.more) + sum_to each (suc begun.more) ≤ most_packets → IsLongPump behind → NothingWaits (world_from (commanding world line n command) behind)
+    unfolding happens
+    pumped_rest sent step begun few pump =
+        let same = told_is world n a command sent is_told.is_requester step in
+        let later = commanding world line n command in
+        let count = pump.1 in
+        subst (λ (entries : List Entry). NothingWaits (world_from later entries)) (sym pump.3)
+        (subst (λ (s : WorldStep). NothingWaits (pumps count s.after).after) (sym same)
+        (enough most within p placed.ends Aside aside AsksSo AnswersSo Done (event.Done result) so_talk there each so_short count (told_by world n (sends a command sent)).after begun (omega (arith, few, pump.2))
+        (subst (λ (s : WorldStep). NoChance (pumps count s.after).after.log) same (subst (λ (entries : List Entry). NoChance (world_from later entries).log) pump.3 chance))))
+
+    over_by : AskingSo (commanding world line n command) → (IsLongPump behind → NothingWaits (world_from (commanding world line n command) behind)) → Rests n (commanding world line n command) behind
+        → DoneSo (world_from (commanding world line n command) behind) × IsIn (lines_from (commanding world line n command) behind) line_so
+    over_by asking pumped (inl idle) = talk_ends most within p placed.ends Aside aside AsksSo AnswersSo Done (event.Done result) so_talk there each so_short (commanding world line n command) behind none honest chance asking idle
+    over_by asking pumped (inr (inl nothing)) = goes_by _ (talk_goes most within p placed.ends Aside aside AsksSo AnswersSo Done (event.Done result) so_talk there each so_short (commanding world line n command) behind none honest chance asking) nothing
+    over_by asking pumped (inr (inr pump)) = talk_ends most within p placed.ends Aside aside AsksSo AnswersSo Done (event.Done result) so_talk there each so_short (commanding world line n command) behind none honest chance asking (pumped pump)
 
   -- The talk that the message of the command begins, where no end takes more than so much.
   pub runs : (most : ℕ) (within : most ≤ wear_limit) → length a.given + a.commands + most_asked ≤ most → length world.responder.given + most_served ≤ most
@@ -186,10 +229,15 @@ module _ (w : WorldSetup) (before : List Entry) (n : ℕ) (a : Requesting) (c : 
       let shown = shows_told Aside world n a c aside command sent (shows_at Aside world n a c placed is_told.is_requester is_told.is_connection is_told.idle beside) in
       let own_life : length (told_view world a c command sent).given + (told_view world a c command sent).commands + sum_to each (suc more) ≤ most = (let most_here = few.0 in omega (arith, life, most_here)) in
       let other_life : length (told_view world a c command sent).received + sum_to there (suc more) ≤ most = (let most_there = few.1 in omega (arith, responder_life, most_there)) in
-      let begun = begins most within p placed.ends Aside aside Asks Answers Done (event.Done result) is_talk there each short more sent (told_view world a c command sent) (told_by world n (sends a command sent)).after shown asks own_life other_life in
-      let rounds = begins_with most within p placed.ends Aside aside Asks Answers Done (event.Done result) is_talk there each short more sent (told_view world a c command sent) (told_by world n (sends a command sent)).after shown asks own_life other_life in
-      let asking_now = subst (λ (s : WorldStep). talk.Asking most within p placed.ends Aside aside Asks Answers Done (event.Done result) is_talk there each short s.after) (sym (told_is world n a command sent is_told.is_requester step)) begun in
-      talk_ends most within p placed.ends Aside aside Asks Answers Done (event.Done result) is_talk there each short (commanding world line n command) behind none honest chance asking_now (at_rest most within Asks Answers Done result is_talk there each short sent step begun (subst (λ (k : ℕ). sum_to there (suc k) + sum_to each (suc k) ≤ most_packets) (sym rounds) few.2) still)
+      let asks_out = AsksSo most within Asks Answers Done result is_talk there each short in
+      let answers_out = AnswersSo most within Asks Answers Done result is_talk there each short in
+      let talk_out = so_talk most within Asks Answers Done result is_talk there each short in
+      let short_out = so_short most within Asks Answers Done result is_talk there each short in
+      let begun = begins most within p placed.ends Aside aside asks_out answers_out Done (event.Done result) talk_out there each short_out more sent (told_view world a c command sent) (told_by world n (sends a command sent)).after shown (asks, refl) own_life other_life in
+      let rounds = begins_with most within p placed.ends Aside aside asks_out answers_out Done (event.Done result) talk_out there each short_out more sent (told_view world a c command sent) (told_by world n (sends a command sent)).after shown (asks, refl) own_life other_life in
+      let asking_now = subst (λ (s : WorldStep). AskingSo most within Asks Answers Done result is_talk there each short s.after) (sym (told_is world n a command sent is_told.is_requester step)) begun in
+      let x = over_by most within Asks Answers Done result is_talk there each short asking_now (pumped_rest most within Asks Answers Done result is_talk there each short sent step begun (subst (λ (k : ℕ). sum_to there (suc k) + sum_to each (suc k) ≤ most_packets) (sym rounds) few.2)) still in
+      (record { view = x.0.view; shows = x.0.shows; done = x.0.done; life = x.0.life; responder_life = x.0.responder_life }, x.1)
 
   taken_so : (most : ℕ) (later : World) (v : View) → Shows p Aside v [] later → length v.given + v.commands ≤ most → length v.received ≤ most → HaveTakenAt n most later
   taken_so most later v s own other = (
@@ -270,7 +318,7 @@ module _ (w : WorldSetup) (before : List Entry) (n : ℕ) (a : Requesting) (c : 
   pub record IsOver (command : Command) : Type 0 where
     pub told : IsToldQuietly w before n a c command
     pub honest : AreHonest (After command) behind
-    pub still : Rests (After command) behind
+    pub still : Rests n (After command) behind
     pub chance : NoChance (world_from (After command) behind).log
 
   abbrev pub Result : Command → ℕ → Type 0

@@ -29,7 +29,7 @@ use Rattle.world_machine.specs.Trace.{world_from, lines_from}
 use Rattle.world_machine.specs.World.{World, WorldStep, first_waiting, packet_of, delivers, happens, pumps, turn}
 use Rattle.spdm_progress.specs.Honest.{NothingWaits, AreHonest, HaveNoCommand}
 use Rattle.spdm_progress.proofs.Aside.{IsAside}
-use Rattle.spdm_progress.proofs.Between.{Goes, GoesOn, Ends, IsGiven, IsOfEarlier, IsStill, ended, pumps_done}
+use Rattle.spdm_progress.proofs.Between.{Goes, GoesOn, Ends, IsGiven, IsOfEarlier, IsStill, all_go, ended, pumps_done}
 use Rattle.spdm_progress.proofs.ManyPackets.{IsBody, before_it, none_came, packets_within, waits_idle}
 use Rattle.spdm_progress.proofs.PacketSteps.{Pair, AreEnds}
 use Rattle.spdm_progress.proofs.StillKept.{AreAlike, still_alike}
@@ -337,6 +337,10 @@ module _ (limit : ℕ) (within : limit ≤ wear_limit) (p : Pair) (ends : AreEnd
   talk_ends world behind none honest chance asking still =
       let e = ended IsUnderWay IsDone (λ w. NoChance w.log) done_line no_chance_earlier one_given done_idle under_way_still done_still world behind none honest chance (inl asking) still in
       (e.done, e.line_is)
+
+  -- Until then it goes on, or is done.
+  pub talk_goes : (world : World) (behind : List Entry) → HaveNoCommand behind → AreHonest world behind → NoChance (world_from world behind).log → Asking world → TalkGoes (record { lines = lines_from world behind; after = world_from world behind })
+  talk_goes world behind none honest chance asking = all_go IsUnderWay IsDone (λ w. NoChance w.log) done_line no_chance_earlier one_given done_idle under_way_still done_still world behind none honest chance (inl asking)
 
   -- ---- How many packets are enough.
 

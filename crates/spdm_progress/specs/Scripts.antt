@@ -2,6 +2,7 @@
 use Rattle.std.specs.Prelude.{◌≡◌, ◌<◌, ◌≤◌, ◌+◌, ◌*◌, ◌^◌, ℕ, List, [], ◌∷◌, length, if◌then◌else◌, false, true, Option, Some, None, Contains, Bool}
 use Rattle.measurements.specs.Records.{is_missing}
 use Rattle.negotiate.specs.Capabilities.{shared}
+use Rattle.requester_machine.specs.History as asked
 use Rattle.requester_machine.specs.Message.{Command}
 use Rattle.requester_machine.specs.Message.Command.{Beat, Connect, End, Measure, Open, Retry, Send, Update}
 use Rattle.requester_machine.specs.Requesting.{Requesting, requester_told}
@@ -29,6 +30,11 @@ use Rattle.spdm_progress.specs.InStep.{AreQuiet, rsp_id}
 use Rattle.spdm_progress.specs.Measuring.{CanMeasure, IsMeasured, measurements_size}
 use Rattle.spdm_progress.specs.Opening.{CanOpen, opened_id, terms_now}
 use Rattle.spdm_progress.specs.SessionCommands.{CanAsk, CompletesQuietly, IsGoneThere, IsTold, IsToldQuietly, TookQueued, commanding, most_packets, result_of, session_at}
+
+-- No request of requester n is outstanding.
+abbrev pub HasNone : ℕ → World → Type 0
+HasNone n world =
+    (a : Requesting) → requester_of n world ≡ Some a → asked.outstanding a.history ≡ None
 
 -- ---- Each command.
 
@@ -164,6 +170,17 @@ PumpsAreEnough =
     → (line count : ℕ) → most_packets ≤ count
     → NoChance (happens (commanding (world_after w before) line n command) (Pump count)).after.log
     → NothingWaits (happens (commanding (world_after w before) line n command) (Pump count)).after
+
+-- Its result comes with the last packet: where no request of the requester is outstanding any more, no packet waits.
+abbrev pub ResultsComeLast : Type 0
+ResultsComeLast =
+    (w : WorldSetup) (before : List Entry) (n : ℕ) (a : Requesting) (c : Connection)
+    (command : Command) → IsToldQuietly w before n a c command → CanDo a c command
+    → (line : ℕ) (behind : List Entry) → HaveNoCommand behind
+    → AreHonest (commanding (world_after w before) line n command) behind
+    → HasNone n (world_from (commanding (world_after w before) line n command) behind)
+    → NoChance (world_from (commanding (world_after w before) line n command) behind).log
+    → NothingWaits (world_from (commanding (world_after w before) line n command) behind)
 
 -- ---- Whole scripts.
 

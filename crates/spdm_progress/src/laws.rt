@@ -16,6 +16,7 @@ ghost use Rattle.spdm_progress.specs.Scripts.{
   QuietCommandsComplete,
   QuietMeasuresComplete,
   QuietWorldsComplete,
+  ResultsComeLast,
 };
 ghost use Rattle.spdm_progress.specs.SessionCommands.{
   AnswersAreQueued,
@@ -105,6 +106,12 @@ pub fn quiet_measures_complete()
 /// No packet of such a command waits after a pump of 414.
 pub fn pumps_are_enough()
     ensures { PumpsAreEnough }
+{}
+
+/// The result of such a command comes with the last packet: where no request of the requester is outstanding any more, no
+/// packet waits.
+pub fn results_come_last()
+    ensures { ResultsComeLast }
 {}
 
 /// From a quiet world on, each command of an honest script that is answered `ok` and has what it needs is done before

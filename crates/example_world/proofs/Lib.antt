@@ -1,0 +1,9 @@
+pub mod Bytes
+pub mod Gcm
+pub mod Keys
+pub mod Configured
+pub mod Connected
+pub mod Ends
+pub mod Walk
+pub mod Logged
+pub mod Opens
