@@ -454,12 +454,13 @@ void spdm_requester_close(struct spdm_requester *requester);
 /* ---- Memory ------------------------------------------------------------------------------------------------------ */
 
 /*
- * The size of the one large block of an end, in bytes. A responder takes another block for its requesters; both ends take
- * small ones for their configuration and 10 KB for the packets that they send. docs/EMBEDDING.md has all of it.
+ * The most memory that opening an end takes at any time, in bytes: of a responder with so many requesters and blocks,
+ * whose hints and values have `bytes` bytes together with the opaque data; of a requester, whose hint and opaque data
+ * have `bytes` bytes together. What the three functions below add to a block themselves is not in it.
  */
-size_t spdm_responder_size(void);
+size_t spdm_responder_size(size_t requesters, size_t blocks, size_t bytes);
 
-size_t spdm_requester_size(void);
+size_t spdm_requester_size(size_t bytes);
 
 /*
  * The caller links these three functions; examples/c/heap.c has them over malloc, and over a pool of fixed size.

@@ -85,6 +85,8 @@ static void responders(size_t count) {
     }
     left = -1;
     CHECK(refusals > 0);
+    CHECK(most <= spdm_responder_size(count, 1, count * sizeof hint + sizeof digest));
+    CHECK(held + 2000 >= spdm_responder_size(count, 1, count * sizeof hint + sizeof digest));
     printf("responder, requesters %u: bytes %u, blocks %ld, at open %u\n", (unsigned)count, (unsigned)held, blocks,
            (unsigned)most);
     spdm_responder_close(&responder);
@@ -109,6 +111,7 @@ static void requesters(void) {
     }
     left = -1;
     CHECK(refusals > 0);
+    CHECK(held == spdm_requester_size(sizeof hint) && most == held);
     printf("requester: bytes %u, blocks %ld, at open %u\n", (unsigned)held, blocks, (unsigned)most);
     spdm_requester_close(&requester);
     CHECK(blocks == 0 && held == 0);

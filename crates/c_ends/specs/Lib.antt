@@ -1,6 +1,7 @@
 pub mod Codes
 pub mod Holding
 pub mod Keeping
+pub mod Layout
 pub mod Opening
 pub mod Setting
 pub mod Showing

@@ -15,6 +15,7 @@ impl OpenResponder {
     ghost use Rattle.responder.specs.Config.{IsCause, config_fault};
     ghost use Rattle.responder.specs.SetUp.{end_of};
     ghost use Rattle.responder.specs.Standing.{IsStep, StandsFor};
+    ghost use Rattle.responder.specs.Unharmed.{AreOthersKept, IsHarmless};
     ghost use Rattle.responder_machine.specs.Independence.{after_reply};
     ghost use Rattle.responder_machine.specs.Responding.{Responding, connection_of, new_responding, reply_fault_of, responder_hears, ticks};
 
@@ -44,8 +45,12 @@ impl OpenResponder {
 
     /// `Responder::on_packet`, whose packets overwrite `out`.
     pub fn on_packet(&mut self, packet: &[u8]) -> Heard
-        ensures { (r : Responding) → StandsFor self.old.responder r
+        ensures step { (r : Responding) → StandsFor self.old.responder r
             → IsStep (responder_hears r packet.now) result self.new.out self.new.responder }
+        ensures harmless { (r : Responding) → StandsFor self.old.responder r
+            → IsHarmless r packet.now result }
+        ensures others { (r : Responding) → StandsFor self.old.responder r
+            → AreOthersKept r packet.now self.new.responder }
     {
         self.responder.on_packet(packet, &mut self.out)
     }

@@ -1,12 +1,13 @@
 ghost use Rattle.std.specs.Prelude.{◌≡◌, ◌≢◌, ◌≤◌, ◌<◌, ℕ, List, [], None, Some, false, true, slice_get};
 ghost use Rattle.c_ends.specs.Codes.{told_of_reply};
-ghost use Rattle.c_ends.specs.Holding.{HoldsResponder};
+ghost use Rattle.c_ends.specs.Holding.{HoldsOthers, HoldsResponder};
 ghost use Rattle.c_ends.specs.Opening.{HasResponderFault, RefusesResponder, code_of_responder};
 ghost use Rattle.c_ends.specs.Setting.{is_eid, responder_argument, responder_in};
 ghost use Rattle.c_ends.specs.Telling.{heard_told};
 ghost use Rattle.c_ends.specs.Writing.{IsWritten};
 ghost use Rattle.c_ends.specs.declared.codes.TheConstants.{BAD_EID, CLOSED, OK};
 ghost use Rattle.responder.specs.Standing.{StandsFor};
+ghost use Rattle.responder.specs.Unharmed.{IsHarmless};
 ghost use Rattle.responder_machine.specs.Independence.{after_reply};
 ghost use Rattle.responder_machine.specs.Responding.{Responding, connection_of, new_responding, reply_fault_of, responder_hears, ticks};
 
@@ -60,13 +61,21 @@ impl ResponderHandle {
     }
 
     /// Gives a packet to a responder. What it led to is written to `told`, and the packets that it sends next replace
-    /// those before.
+    /// those before. A refused request changes nothing in the sessions but the record numbers, the stored response and
+    /// the clock of the session that its record names; the connections with other endpoints than the source of the packet
+    /// stay as they were.
     pub fn on_packet(&mut self, alloc: Global, packet: &[u8], told: &mut Told) -> u32
         ensures step { (r : Responding) (sends : List (List ℕ))
             → HoldsResponder self.old.kept.held r sends
             → (result ≡ OK) × (told.new ≡ heard_told (responder_hears r packet.now).heard)
             × HoldsResponder self.new.kept.held (responder_hears r packet.now).after
             (responder_hears r packet.now).sent }
+        ensures harmless { (r : Responding) (sends : List (List ℕ))
+            → HoldsResponder self.old.kept.held r sends
+            → IsHarmless r packet.now (responder_hears r packet.now).heard }
+        ensures others { (r : Responding) (sends : List (List ℕ))
+            → HoldsResponder self.old.kept.held r sends
+            → HoldsOthers self.new.kept.held r packet.now }
         ensures closed { self.old.kept.held ≡ None
             → (result ≡ CLOSED) × (told.new ≡ told.old) × (self.new.kept.held ≡ None) }
     {

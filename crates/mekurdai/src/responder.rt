@@ -1,12 +1,13 @@
 ghost use Rattle.std.specs.Prelude.{List, None, Some, [], false, slice_get, true, ℕ, ◌≡◌, ◌≢◌};
 ghost use Rattle.c_ends.specs.Codes.{told_of_reply};
-ghost use Rattle.c_ends.specs.Holding.{HoldsResponder};
+ghost use Rattle.c_ends.specs.Holding.{HoldsOthers, HoldsResponder};
 ghost use Rattle.c_ends.specs.Opening.{HasResponderFault, RefusesResponder};
 ghost use Rattle.c_ends.specs.Setting.{is_eid, responder_argument, responder_in};
 ghost use Rattle.c_ends.specs.Telling.{heard_told};
 ghost use Rattle.c_ends.specs.Writing.{IsPut, IsWritten};
 ghost use Rattle.c_ends.specs.declared.codes.TheConstants.{BAD_EID, CLOSED, NONE, OK, UNKNOWN_PEER};
 ghost use Rattle.responder.specs.Standing.{views_at};
+ghost use Rattle.responder.specs.Unharmed.{IsHarmless};
 ghost use Rattle.responder_machine.specs.Independence.{after_reply};
 ghost use Rattle.responder_machine.specs.Responding.{Responding, connection_of, last_data, new_responding, reply_fault_of, responder_hears, ticks};
 ghost use Rattle.std.specs.Option.{option_map};
@@ -39,7 +40,9 @@ pub extern "C" fn spdm_responder_open(
 }
 
 /// Gives a packet to a responder. What it led to is written to `told`, and the packets that it sends next replace
-/// those before.
+/// those before. A refused request changes nothing in the sessions but the record numbers, the stored response and
+/// the clock of the session that its record names; the connections with other endpoints than the source of the packet
+/// stay as they were.
 #[unsafe(no_mangle)]
 pub extern "C" fn spdm_responder_on_packet(
     responder: &mut ResponderHandle,
@@ -52,6 +55,12 @@ pub extern "C" fn spdm_responder_on_packet(
         → (result ≡ OK) × (told.new ≡ heard_told (responder_hears r packet.now).heard)
         × HoldsResponder responder.new.kept.held (responder_hears r packet.now).after
         (responder_hears r packet.now).sent }
+    ensures harmless { (r : Responding) (sends : List (List ℕ))
+        → HoldsResponder responder.old.kept.held r sends
+        → IsHarmless r packet.now (responder_hears r packet.now).heard }
+    ensures others { (r : Responding) (sends : List (List ℕ))
+        → HoldsResponder responder.old.kept.held r sends
+        → HoldsOthers responder.new.kept.held r packet.now }
     ensures closed { responder.old.kept.held ≡ None
         → (result ≡ CLOSED) × (told.new ≡ told.old) × (responder.new.kept.held ≡ None) }
 {
