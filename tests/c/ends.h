@@ -83,7 +83,7 @@ static struct spdm_block measured_block(void) {
     return block;
 }
 
-static void open_ends(struct ends *ends) {
+static inline void open_ends(struct ends *ends) {
     struct spdm_responder_config responder = responder_config();
     struct spdm_requester_config requester = requester_config();
     struct spdm_known known = known_requester();
@@ -94,13 +94,13 @@ static void open_ends(struct ends *ends) {
     CHECK(spdm_requester_open(&ends->requester, &requester) == SPDM_OK);
 }
 
-static void close_ends(struct ends *ends) {
+static inline void close_ends(struct ends *ends) {
     spdm_responder_close(&ends->responder);
     spdm_requester_close(&ends->requester);
 }
 
 /* Carries packets both ways until the requester sends none; what it was told last. */
-static struct spdm_told carry(struct ends *ends) {
+static inline struct spdm_told carry(struct ends *ends) {
     struct spdm_told told;
     memset(&told, 0, sizeof told);
     for (;;) {
@@ -131,7 +131,7 @@ static struct spdm_told carry(struct ends *ends) {
     }
 }
 
-static void run(struct ends *ends, uint32_t command, uint8_t session, uint8_t number, const char *bytes,
+static inline void run(struct ends *ends, uint32_t command, uint8_t session, uint8_t number, const char *bytes,
                 uint32_t outcome) {
     struct spdm_told told;
     CHECK(spdm_requester_command(&ends->requester, command, session, number, (const uint8_t *)bytes, strlen(bytes))

@@ -31,10 +31,14 @@ impl OpenRequester {
         ensures sound { OnOk result (config_fault config.now ≡ None) }
         ensures fault { IfErr result (λ fault. IsCause config.now fault) }
     {
-        let requester = Requester::resume(alloc, config, seed, boot)?;
+        if let Some(fault) = config.fault() {
+            return Err(fault);
+        }
+        // Before the requester is made, so that it is moved less often on the stack.
         let Ok(out) = PacketList::new(alloc) else {
             return Err(ReqConfigFault::OutOfMemory);
         };
+        let requester = Requester::resume(alloc, config, seed, boot)?;
         match Box::new(alloc, OpenRequester { requester, out }) {
             Ok(end) => Ok(end),
             Err(_) => Err(ReqConfigFault::OutOfMemory),
