@@ -53,6 +53,7 @@ enum spdm_answer {
     SPDM_NONE = 5,         /* nothing has this index */
     SPDM_UNKNOWN_PEER = 6, /* no requester has this endpoint ID */
     SPDM_HEADER = 7,       /* this header is not that of the library */
+    SPDM_BOOTS_SPENT = 8,  /* all boot numbers were used */
 
     /* what is wrong with an argument */
     SPDM_BAD_EID = 16,        /* an endpoint ID is not from 8 to 254 */
@@ -450,6 +451,19 @@ uint32_t spdm_requester_data(struct spdm_requester *requester, uint8_t *room, si
 
 /* Closes it, and gives its memory back. One that is not open stays so. It may be opened again. */
 void spdm_requester_close(struct spdm_requester *requester);
+
+/* ---- Boot numbers ------------------------------------------------------------------------------------------------ */
+
+/*
+ * The next boot number of a device of 18 bytes, which are zeros at first: one more than the greatest valid number in them,
+ * from 1 to 2^24 - 2, and the bytes with that number in them. They are two slots of nine bytes, each a number of eight
+ * bytes, the lowest first, and a gate byte, 1 where the number is valid; one slot is changed.
+ *
+ * The number must not be used before the changed slot is stored: first its gate byte as 0, then the eight bytes of its
+ * number, then its gate byte as 1, each write whole before the next begins. Then no number comes twice, whenever power is
+ * lost. SPDM_BOOTS_SPENT: all numbers were used, and nothing is written. Any 18 bytes may be given.
+ */
+uint32_t spdm_next_boot(uint8_t device[18], uint32_t *boot);
 
 /* ---- Memory ------------------------------------------------------------------------------------------------------ */
 

@@ -31,6 +31,9 @@ pub const UNKNOWN_PEER: u32 = 6;
 /// The header of the caller is not that of this build.
 pub const HEADER: u32 = 7;
 
+/// All boot numbers were used.
+pub const BOOTS_SPENT: u32 = 8;
+
 /// An endpoint ID is below 8, or is 255.
 pub const BAD_EID: u32 = 16;
 

@@ -4,6 +4,7 @@
 //! that it calls; `include/spdm.h` declares them for C.
 #![tactic(auto)]
 
+mod boots;
 mod requester;
 mod responder;
 mod sizes;
