@@ -274,9 +274,29 @@ static void other_header(void) {
     }
 }
 
+/* Boot numbers rise by one through both slots, and end at the last; a gate that is closed counts for nothing. */
+static void boots(void) {
+    static const uint8_t after_two[18] = {1, 0, 0, 0, 0, 0, 0, 0, 1, 2, 0, 0, 0, 0, 0, 0, 0, 1};
+    uint8_t device[18] = {0};
+    uint8_t left[18];
+    uint32_t boot = 99;
+    CHECK(spdm_next_boot(device, &boot) == SPDM_OK && boot == 1);
+    CHECK(spdm_next_boot(device, &boot) == SPDM_OK && boot == 2);
+    CHECK(memcmp(device, after_two, sizeof device) == 0);
+    device[17] = 0;
+    CHECK(spdm_next_boot(device, &boot) == SPDM_OK && boot == 2);
+    device[0] = 0xfe;
+    device[1] = device[2] = 0xff;
+    memcpy(left, device, sizeof device);
+    boot = 99;
+    CHECK(spdm_next_boot(device, &boot) == SPDM_BOOTS_SPENT && boot == 99);
+    CHECK(memcmp(device, left, sizeof device) == 0);
+}
+
 int main(void) {
     struct ends ends;
     other_header();
+    boots();
     memset(&ends, 0, sizeof ends);
     closed(&ends);
     memset(&ends, 0xa5, sizeof ends);

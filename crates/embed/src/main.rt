@@ -42,8 +42,8 @@ impl Ends {
         let config = ReqConfig {
             eid: Eid::new(9)?,
             responder: eid,
-            transfer: 1024,
-            max: 4096,
+            transfer: 512,
+            max: 2048,
             unit: 64,
             pad: 0,
             flags: FLAGS,
@@ -60,8 +60,8 @@ impl Ends {
         }];
         let config = RspConfig {
             eid,
-            transfer: 1024,
-            max: 4096,
+            transfer: 512,
+            max: 2048,
             unit: 64,
             beat: 30,
             flags: FLAGS,
