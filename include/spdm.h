@@ -5,32 +5,33 @@
  * Both ends of SPDM 1.2 sessions under pre-shared keys (DSP0274, DSP0277) over MCTP (DSP0236).
  *
  * Packets go in, packets come out: an end does no input or output, has no clock and no source of random values. The
- * caller gives it each packet that its link brings, sends each packet that the end has to send, and hands in 32 secret
- * random bytes (the seed) when it opens the end. docs/EMBEDDING.md leads from nothing to a session.
+ * caller gives it each packet that its link brings, sends each packet that the end has to send, and hands in 32
+ * secret random bytes (the seed) when it opens the end. docs/EMBEDDING.md leads from nothing to a session.
  *
  * WHAT THE CALLER KEEPS, AND NO CALL TESTS
  *
  *  - Pointers are not null, also where the length beside them is 0 (SPDM_NOTHING is a pointer to nothing). They are
  *    aligned for their type, and point to as many initialised values as their length says.
  *  - What a call writes (an end, a room, a length, `told`) overlaps nothing else that it is given.
- *  - An end is filled with zeros before its first call, and then neither copied, moved nor changed but by these calls.
+ *  - An end is filled with zeros before its first call, and then neither copied, moved nor changed but by these
+ *    calls.
  *  - One thread at a time calls for an end. Different ends share nothing, so different threads may have them, if the
  *    three functions for memory may be called by each of these threads.
  *  - No call is made from a signal handler.
  *  - The pair of seed and boot number is never used again for another end or another life of this one: with them the
  *    random values of old sessions would come back.
  *
- * OWNERSHIP AND LIFETIMES. What a caller hands in stays the caller's, and no end keeps a pointer to it: open copies what
- * it needs, keys too. An open end owns blocks of memory that it took at open; close gives them back. An end that is never
- * closed keeps them. The memory of a closed end is given back as it is: it is not overwritten.
+ * OWNERSHIP AND LIFETIMES. What a caller hands in stays the caller's, and no end keeps a pointer to it: open copies
+ * what it needs, keys too. An open end owns blocks of memory that it took at open; close gives them back. An end that
+ * is never closed keeps them. The memory of a closed end is given back as it is: it is not overwritten.
  *
  * MEMORY. Only open takes memory and only open and close give it back, by three functions that the caller links; see
  * the end of this file.
  *
- * ANSWERS. Every call but close answers one number of enum spdm_answer. An answer other than SPDM_OK has changed nothing,
- * neither the end nor what the caller's pointers point to, with two exceptions: a command that an open requester does not
- * do is counted, and leaves no packets to send; and after SPDM_ROOM the length that is needed is written. A call for an
- * end that is not open answers SPDM_CLOSED, whatever else it is given.
+ * ANSWERS. Every call but close answers one number of enum spdm_answer. An answer other than SPDM_OK has changed
+ * nothing, neither the end nor what the caller's pointers point to, with two exceptions: a command that is refused
+ * with SPDM_WORN to SPDM_TOO_LONG leaves no packets to send, and is counted; and after SPDM_ROOM the length that is
+ * needed is written. A call for an end that is not open answers SPDM_CLOSED, whatever else it is given.
  *
  * This header and the library must come from one build: ask spdm_header_fits() once.
  */
@@ -72,7 +73,7 @@ enum spdm_answer {
     SPDM_BLOCKS_TOO_LONG = 38,     /* all blocks together have more than 4,054 bytes */
 
     /* why a command is not done */
-    SPDM_WORN = 48,             /* 2^40 packets and commands were taken: close the end, and open it with the next boot */
+    SPDM_WORN = 48,             /* 2^40 packets and commands were taken: close the end, open it with the next boot */
     SPDM_NOTHING_TO_RETRY = 49, /* no request is outstanding */
     SPDM_BUSY = 50,             /* a request is outstanding: its answer is awaited, or SPDM_RETRY */
     SPDM_NOT_CONNECTED = 51,    /* nothing was negotiated */
@@ -339,38 +340,38 @@ static inline uint32_t spdm_header_fits(void) {
 /* ---- A responder ------------------------------------------------------------------------------------------------- */
 
 /*
- * Opens a responder that knows these requesters, at most eight, and has these measurements. Takes memory: all that the
- * end will ever have, and for a moment that of copies of hints and measurements.
+ * Opens a responder that knows these requesters, at most eight, and has these measurements. Takes memory: all that
+ * the end will ever have, and for a moment that of copies of hints and measurements.
  *
  * SPDM_OPEN: it is open. Then in this order, the first that holds: SPDM_BAD_EID, SPDM_BAD_PSK, SPDM_BAD_ALGORITHMS,
  * SPDM_BAD_BOOT; SPDM_TOO_MANY_REQUESTERS, SPDM_SAME_EID, SPDM_SAME_PSK, SPDM_SIZE_RANGE, SPDM_BLOCK_INDEX,
- * SPDM_BLOCK_INDEX_TAKEN, SPDM_BLOCKS_TOO_LONG. SPDM_MEMORY may come in place of one of the second group, and never of
- * one of the first.
+ * SPDM_BLOCK_INDEX_TAKEN, SPDM_BLOCKS_TOO_LONG. SPDM_MEMORY may come in place of one of the second group, and never
+ * of one of the first.
  */
 uint32_t spdm_responder_open(struct spdm_responder *responder, const struct spdm_responder_config *config,
                              const struct spdm_known *known, size_t known_count, const struct spdm_block *blocks,
                              size_t block_count);
 
 /*
- * Gives it a packet of MCTP: the transport header and the payload, without what a link puts round them. What it led to is
- * written to `told`. The packets that it sends next replace those before: take them (spdm_responder_packet) before the
- * next packet is given. Any bytes may be given.
+ * Gives it a packet of MCTP: the transport header and the payload, without what a link puts round them. What it led
+ * to is written to `told`. The packets that it sends next replace those before: take them (spdm_responder_packet)
+ * before the next packet is given. Any bytes may be given.
  */
 uint32_t spdm_responder_on_packet(struct spdm_responder *responder, const uint8_t *packet, size_t packet_len,
                                   struct spdm_told *told);
 
 /*
- * Writes packet `index`, from 0, of those that it sends next, and its length. A packet has at most 4 bytes more than the
- * unit. SPDM_NONE: there are no more. SPDM_ROOM: `len` is the length that is needed, and `room` is as it was. Nothing is
- * written behind the packet.
+ * Writes packet `index`, from 0, of those that it sends next, and its length. A packet has at most 4 bytes more than
+ * the unit. SPDM_NONE: there are no more. SPDM_ROOM: `len` is the length that is needed, and `room` is as it was.
+ * Nothing is written behind the packet.
  */
 uint32_t spdm_responder_packet(struct spdm_responder *responder, size_t index, uint8_t *room, size_t room_len,
                                size_t *len);
 
 /*
- * Queues application data, at most 1,024 bytes, for the requester with this endpoint ID: each message of application data
- * that it sends is answered with the first in its queue, and with no bytes where the queue is empty. SPDM_BAD_EID, then
- * SPDM_UNKNOWN_PEER, SPDM_REPLY_TOO_LONG, SPDM_REPLY_FULL.
+ * Queues application data, at most 1,024 bytes, for the requester with this endpoint ID: each message of application
+ * data that it sends is answered with the first in its queue, and with no bytes where the queue is empty.
+ * SPDM_BAD_EID, then SPDM_UNKNOWN_PEER, SPDM_REPLY_TOO_LONG, SPDM_REPLY_FULL.
  */
 uint32_t spdm_responder_queue(struct spdm_responder *responder, uint8_t eid, const uint8_t *bytes, size_t bytes_len);
 
@@ -381,15 +382,15 @@ uint32_t spdm_responder_tick(struct spdm_responder *responder, uint32_t seconds)
 uint32_t spdm_responder_phase(struct spdm_responder *responder, uint8_t eid, uint32_t *phase);
 
 /*
- * Writes session `index`, from 0, of those with this requester, by rising RspSessionID. SPDM_BAD_EID. SPDM_NONE: there are
- * no more, or no requester has this endpoint ID.
+ * Writes session `index`, from 0, of those with this requester, by rising RspSessionID. SPDM_BAD_EID. SPDM_NONE:
+ * there are no more, or no requester has this endpoint ID.
  */
 uint32_t spdm_responder_session(struct spdm_responder *responder, uint8_t eid, size_t index,
                                 struct spdm_session *session);
 
 /*
- * Writes the application data that came last, over all requesters, and its length: at most 1,024 bytes; none before the
- * first came. SPDM_ROOM as for a packet.
+ * Writes the application data that came last, over all requesters, and its length: at most 1,024 bytes; none before
+ * the first came. SPDM_ROOM as for a packet.
  */
 uint32_t spdm_responder_data(struct spdm_responder *responder, uint8_t *room, size_t room_len, size_t *len);
 
@@ -419,9 +420,9 @@ enum spdm_command {
 };
 
 /*
- * Runs a command. What it does not use of `session`, `number` and `bytes` is not looked at. The packets that the requester
- * sends next replace those before. The outcome comes with a later packet, as SPDM_REQ_DONE or another end of it; one
- * command is outstanding at a time. SPDM_BAD_COMMAND, then SPDM_WORN to SPDM_TOO_LONG.
+ * Runs a command. What it does not use of `session`, `number` and `bytes` is not looked at. The packets that the
+ * requester sends next replace those before. The outcome comes with a later packet, as SPDM_REQ_DONE or another end
+ * of it; one command is outstanding at a time. SPDM_BAD_COMMAND, then SPDM_WORN to SPDM_TOO_LONG.
  */
 uint32_t spdm_requester_command(struct spdm_requester *requester, uint32_t command, uint8_t session, uint8_t number,
                                 const uint8_t *bytes, size_t bytes_len);
@@ -438,14 +439,14 @@ uint32_t spdm_requester_packet(struct spdm_requester *requester, size_t index, u
 uint32_t spdm_requester_phase(struct spdm_requester *requester, uint32_t *phase);
 
 /*
- * Writes session `index`, from 0, of those whose PSK_EXCHANGE_RSP was accepted, by rising ReqSessionID. SPDM_NONE: there
- * are no more.
+ * Writes session `index`, from 0, of those whose PSK_EXCHANGE_RSP was accepted, by rising ReqSessionID. SPDM_NONE:
+ * there are no more.
  */
 uint32_t spdm_requester_session(struct spdm_requester *requester, size_t index, struct spdm_session *session);
 
 /*
- * Writes the application data or the measurement record that came last, and its length: at most 4,096 bytes; none before
- * the first came. SPDM_ROOM as for a packet.
+ * Writes the application data or the measurement record that came last, and its length: at most 4,096 bytes; none
+ * before the first came. SPDM_ROOM as for a packet.
  */
 uint32_t spdm_requester_data(struct spdm_requester *requester, uint8_t *room, size_t room_len, size_t *len);
 
@@ -455,13 +456,13 @@ void spdm_requester_close(struct spdm_requester *requester);
 /* ---- Boot numbers ------------------------------------------------------------------------------------------------ */
 
 /*
- * The next boot number of a device of 18 bytes, which are zeros at first: one more than the greatest valid number in them,
- * from 1 to 2^24 - 2, and the bytes with that number in them. They are two slots of nine bytes, each a number of eight
- * bytes, the lowest first, and a gate byte, 1 where the number is valid; one slot is changed.
+ * The next boot number of a device of 18 bytes, which are zeros at first: one more than the greatest valid number in
+ * them, from 1 to 2^24 - 2, and the bytes with that number in them. They are two slots of nine bytes, each a number
+ * of eight bytes, the lowest first, and a gate byte, 1 where the number is valid; one slot is changed.
  *
- * The number must not be used before the changed slot is stored: first its gate byte as 0, then the eight bytes of its
- * number, then its gate byte as 1, each write whole before the next begins. Then no number comes twice, whenever power is
- * lost. SPDM_BOOTS_SPENT: all numbers were used, and nothing is written. Any 18 bytes may be given.
+ * The number must not be used before the changed slot is stored: first its gate byte as 0, then the eight bytes of
+ * its number, then its gate byte as 1, each write whole before the next begins. Then no number comes twice, whenever
+ * power is lost. SPDM_BOOTS_SPENT: all numbers were used, and nothing is written. Any 18 bytes may be given.
  */
 uint32_t spdm_next_boot(uint8_t device[18], uint32_t *boot);
 
@@ -478,8 +479,9 @@ size_t spdm_requester_size(size_t bytes);
 
 /*
  * The caller links these three functions; examples/c/heap.c has them over malloc, and over a pool of fixed size.
- * `align` is a power of two, at most 16. A refused request has is_some 0. rattle_realloc keeps the bytes of the block, and
- * where it refuses the block stays. Besides these the library needs memcpy, memmove, memset and memcmp, and nothing else.
+ * `align` is a power of two, at most 16. A refused request has is_some 0. rattle_realloc keeps the bytes of the
+ * block, and where it refuses the block stays. Besides these the library needs memcpy, memmove, memset and memcmp,
+ * and nothing else.
  */
 struct rattle_block {
     uint64_t is_some;

@@ -1,7 +1,8 @@
 /*
- * The three functions for memory that the library asks for (the end of include/spdm.h): over malloc, or with -DSPDM_POOL=N
- * over a pool of N bytes, which needs no C library. The pool only grows: what is given back is used again only after all
- * of it was given back. So it has to hold, beside the ends, the copies that opening a responder takes for a moment.
+ * The three functions for memory that the library asks for (the end of include/spdm.h): over malloc, or with
+ * -DSPDM_POOL=N over a pool of N bytes, which needs no C library. The pool only grows: what is given back is used
+ * again only after all of it was given back. So it has to hold, beside the ends, the copies that opening a responder
+ * takes for a moment.
  */
 #include "spdm.h"
 

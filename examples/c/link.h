@@ -1,8 +1,9 @@
 #ifndef LINK_H
 #define LINK_H
 /*
- * A link between two processes: a device (a serial line, a pseudo-terminal) or standard input and output. Packets travel in
- * frames: the byte 1, the length in two bytes, the low one first, and the packet. docs/FORMATS.md, "Streams of frames".
+ * A link between two processes: a device (a serial line, a pseudo-terminal) or standard input and output. Packets
+ * travel in frames: the byte 1, the length in two bytes, the low one first, and the packet. docs/FORMATS.md, "Streams
+ * of frames".
  */
 #include <stddef.h>
 #include <stdint.h>

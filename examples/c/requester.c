@@ -1,7 +1,7 @@
 /*
- * A management controller: a requester behind a link. `requester [DEVICE]` opens a session with the device of responder.c,
- * measures it, asks it three times, with heartbeats by the clock, and ends the session. What comes of it is told on
- * standard error; status 0 if all is done.
+ * A management controller: a requester behind a link. `requester [DEVICE]` opens a session with the device of
+ * responder.c, measures it, asks it three times, with heartbeats by the clock, and ends the session. What comes of it
+ * is told on standard error; status 0 if all is done.
  */
 #include <stdio.h>
 #include <string.h>
@@ -141,7 +141,8 @@ static int whole_session(const struct link *link) {
         return 0;
     }
     return run(link, SPDM_SEND, 1, 0, "first", SPDM_DATA_ANSWERED) && show_data("data", 1)
-        && rest(link, 2 * PERIOD + 1) && run(link, SPDM_SEND, 1, 0, "second", SPDM_DATA_ANSWERED) && show_data("data", 1)
+        && rest(link, 2 * PERIOD + 1) && run(link, SPDM_SEND, 1, 0, "second", SPDM_DATA_ANSWERED)
+        && show_data("data", 1)
         && run(link, SPDM_UPDATE, 1, 1, "", SPDM_KEYS_UPDATED)
         && run(link, SPDM_SEND, 1, 0, "third", SPDM_DATA_ANSWERED) && show_data("data", 1)
         && run(link, SPDM_END, 1, 0, "", SPDM_ENDED);

@@ -1,6 +1,6 @@
 /*
- * A device: a responder behind a link, and an application that answers. `responder [DEVICE]` serves until the other side
- * is gone. What it takes is told on standard error.
+ * A device: a responder behind a link, and an application that answers. `responder [DEVICE]` serves until the other
+ * side is gone. What it takes is told on standard error.
  */
 #include <stdio.h>
 #include <string.h>
@@ -47,7 +47,7 @@ static uint32_t open_responder(const uint8_t seed[32]) {
     return spdm_responder_open(&responder, &config, &known, 1, &block, 1);
 }
 
-/* The application: the answer to the next message of the controller is a reading, which waits before the message comes. */
+/* The application: the answer to the next message is a reading, which waits before the message comes. */
 static void next_reading(void) {
     static unsigned count;
     char text[32];

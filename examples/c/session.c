@@ -19,8 +19,8 @@ static const uint8_t psk[] = "1234567890123456";
 static const uint8_t hint[] = {0x71};
 
 /*
- * The seeds are fixed, so that each run sends the same packets. A product draws 32 secret random bytes for each end, or
- * counts its boots: the same seed with the same boot number must never be used twice.
+ * The seeds are fixed, so that each run sends the same packets. A product draws 32 secret random bytes for each end,
+ * or counts its boots: the same seed with the same boot number must never be used twice.
  */
 static const uint8_t responder_seed[32] = {
     0xfb, 0xbd, 0xb2, 0x84, 0x44, 0x37, 0xeb, 0xa0, 0x04, 0x70, 0x0d, 0xfc, 0x47, 0xa8, 0x5c, 0xd6,

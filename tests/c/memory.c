@@ -1,6 +1,6 @@
 /*
- * Memory: each request refused in turn at open, where the end stays closed and nothing is lost; no request and nothing given
- * back between open and close; all given back at close. It writes what an end takes.
+ * Memory: each request refused in turn at open, where the end stays closed and nothing is lost; no request and
+ * nothing given back between open and close; all given back at close. It writes what an end takes.
  */
 #include "ends.h"
 

@@ -1,6 +1,6 @@
 /*
- * Packets of anyone: `packets COUNT SEED` gives each end so many random packets, from plain noise to altered packets of its
- * own sessions, and the session goes on behind them.
+ * Packets of anyone: `packets COUNT SEED` gives each end so many random packets, from plain noise to altered packets
+ * of its own sessions, and the session goes on behind them.
  */
 #include "ends.h"
 

@@ -1,6 +1,6 @@
 /*
- * How deep each call goes: a whole session in a thread with a stack of its own, which is filled with a pattern before each
- * call; what no longer has it was used. `stack REQUESTERS` lets the responder know so many.
+ * How deep each call goes: a whole session in a thread with a stack of its own, which is filled with a pattern before
+ * each call; what no longer has it was used. `stack REQUESTERS` lets the responder know so many.
  */
 #define _DEFAULT_SOURCE
 #include <pthread.h>
@@ -71,7 +71,8 @@ static void session(struct ends *ends, uint32_t command, uint8_t id, uint8_t num
             size_t answer_len;
             size_t index;
             CHECK(DEEP(spdm_responder_on_packet, (&ends->responder, asked[i], lens[i], &told)) == SPDM_OK);
-            for (index = 0; DEEP(spdm_responder_packet, (&ends->responder, index, answer, ROOM, &answer_len)) == SPDM_OK;
+            for (index = 0;
+                 DEEP(spdm_responder_packet, (&ends->responder, index, answer, ROOM, &answer_len)) == SPDM_OK;
                  index++) {
                 CHECK(DEEP(spdm_requester_on_packet, (&ends->requester, answer, answer_len, &told)) == SPDM_OK);
             }
