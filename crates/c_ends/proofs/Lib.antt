@@ -1,0 +1,4 @@
+pub mod AsRequester
+pub mod AsResponder
+pub mod Faults
+pub mod Held

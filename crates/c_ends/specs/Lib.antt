@@ -1,0 +1,9 @@
+pub mod Codes
+pub mod Holding
+pub mod Keeping
+pub mod Layout
+pub mod Opening
+pub mod Setting
+pub mod Showing
+pub mod Telling
+pub mod Writing

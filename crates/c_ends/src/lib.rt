@@ -1,0 +1,35 @@
+//! Both ends as C holds them: handles on boxed ends, the numbers that C is told in place of enums, and the calls.
+//!
+//! Read first: `HoldsResponder` in `specs/Holding.antt`, and the tables in `specs/Codes.antt` and `specs/Telling.antt`.
+//! The exports are those of the static library `mekurdai`, which states the clauses of these methods again;
+//! `include/spdm.h` is their header.
+#![tactic(auto)]
+
+mod argument;
+pub mod codes;
+mod command;
+mod config;
+mod kept_requester;
+mod kept_responder;
+mod open_requester;
+mod open_responder;
+mod parts;
+mod requester_calls;
+mod requester_handle;
+mod requester_set_up;
+mod requester_views;
+mod responder_calls;
+mod responder_handle;
+mod responder_set_up;
+mod responder_views;
+mod session;
+mod sizes;
+mod told;
+mod writing;
+
+pub use config::{Block, KnownRequester, Offer, RequesterConfig, ResponderConfig};
+pub use requester_handle::RequesterHandle;
+pub use responder_handle::ResponderHandle;
+pub use session::Session;
+pub use sizes::{Sizes, requester_size, responder_size};
+pub use told::Told;

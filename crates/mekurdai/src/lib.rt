@@ -1,0 +1,10 @@
+//! The static library that C links, `libmekurdai.a`: an export for each call of the two ends.
+//!
+//! Read first: `spdm_responder_on_packet` in `src/responder_exports.rt`. Each export states the clauses of the method of
+//! `c_ends` that it calls; `include/spdm.h` declares them for C.
+#![tactic(auto)]
+
+mod boots;
+mod requester_exports;
+mod responder_exports;
+mod sizes;
