@@ -1,0 +1,7 @@
+pub mod Taken
+pub mod Numbered
+mod Numbers
+mod HexWords
+mod LineWords
+mod PacketWords
+mod CaptureBack
