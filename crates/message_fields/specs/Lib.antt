@@ -1,0 +1,5 @@
+pub mod Names
+pub mod Flags
+pub mod Tables
+pub mod Pieces
+pub mod Texts
