@@ -7,19 +7,29 @@ use Rattle.capture_pcap.specs.declared.into_file.ToPcapFault.TheVariants as to_p
 use Rattle.capture_pcap.specs.declared.out_of_file.FromPcapFault.{FromPcapFault}
 use Rattle.capture_pcap.specs.declared.out_of_file.FromPcapFault.TheVariants as from_pcap
 use Rattle.frame_stream.specs.Text.{text_of}
+use Rattle.packet_text.specs.Told as packets
+use Rattle.packet_text.specs.declared.writing.PacketsFault.{PacketsFault}
+use Rattle.packet_text.specs.declared.writing.PacketsFault.TheVariants as to_words
 use Rattle.script_text.specs.ScriptText.{capture_in}
+use Rattle.script_text.specs.declared.texts.faults.LineFault.{LineFault}
 use Rattle.spdm_view.specs.declared.outcome.Outcome.{Outcome}
 use Rattle.spdm_view.specs.declared.outcome.Outcome.TheVariants.{Done, Usage, BadText, BadFile, ReadFault, WriteFault, OutOfMemory, TooLong}
 use Rattle.spdm_view.specs.declared.words.Word.{Word}
-use Rattle.spdm_view.specs.declared.words.Word.TheVariants.{Pcap, FromPcap}
+use Rattle.spdm_view.specs.declared.words.TextWord.{TextWord}
+use Rattle.spdm_view.specs.declared.words.TextWord.TheVariants.{Packets, Pcap}
+use Rattle.spdm_view.specs.declared.words.Word.TheVariants.{FromPcap, OfText}
 
 -- The longest text: 4 MiB.
 abbrev pub text_limit : ℕ
 text_limit = 4194304
 
--- What a word writes of an input.
+-- What a word writes of a text, and of an input.
+abbrev pub output_of_text : TextWord → List ℕ → List ℕ
+output_of_text Packets text = packets.packets_text text
+output_of_text Pcap text = files.pcap_of text
+
 abbrev pub output_of : Word → List ℕ → List ℕ
-output_of Pcap input = files.pcap_of input
+output_of (OfText word) input = output_of_text word input
 output_of FromPcap input = captures.capture_of input
 
 -- ---- Outcomes.
@@ -29,6 +39,12 @@ pcap_outcome (Ok done) = Done
 pcap_outcome (Err (to_pcap.Line line f)) = BadText line f
 pcap_outcome (Err to_pcap.WriteFault) = WriteFault
 pcap_outcome (Err to_pcap.OutOfMemory) = OutOfMemory
+
+abbrev pub packets_outcome : Result (Unit {0}) PacketsFault → Outcome
+packets_outcome (Ok done) = Done
+packets_outcome (Err (to_words.Line line f)) = BadText line f
+packets_outcome (Err to_words.WriteFault) = WriteFault
+packets_outcome (Err to_words.OutOfMemory) = OutOfMemory
 
 abbrev pub from_pcap_outcome : Result (Unit {0}) FromPcapFault → Outcome
 from_pcap_outcome (Ok done) = Done
@@ -53,15 +69,25 @@ writes_nothing TooLong = true
 
 -- ---- What an outcome tells of the input. Of reading, writing and memory the input tells nothing.
 
-abbrev pub IsToldOfText : List ℕ → Outcome → Type 0
-IsToldOfText text Done = is_ok (capture_in text) ≡ true
-IsToldOfText text (BadText line f) = files.IsBad (capture_in text) (to_pcap.Line line f)
-IsToldOfText text TooLong = text_limit < length text
-IsToldOfText text ReadFault = Unit {0}
-IsToldOfText text WriteFault = is_ok (capture_in text) ≡ true
-IsToldOfText text OutOfMemory = Unit {0}
-IsToldOfText text Usage = ⊥
-IsToldOfText text (BadFile f) = ⊥
+-- A text is what the word reads.
+abbrev pub is_good : TextWord → List ℕ → Bool
+is_good Packets text = is_ok (capture_in text)
+is_good Pcap text = is_ok (capture_in text)
+
+-- It has this first bad line, with this first fault.
+abbrev pub IsBadLine : TextWord → List ℕ → (line : ℕ) → LineFault → Type 0
+IsBadLine Packets text line f = packets.IsBad (capture_in text) (to_words.Line line f)
+IsBadLine Pcap text line f = files.IsBad (capture_in text) (to_pcap.Line line f)
+
+abbrev pub IsToldOfText : TextWord → List ℕ → Outcome → Type 0
+IsToldOfText word text Done = is_good word text ≡ true
+IsToldOfText word text (BadText line f) = IsBadLine word text line f
+IsToldOfText word text TooLong = text_limit < length text
+IsToldOfText word text ReadFault = Unit {0}
+IsToldOfText word text WriteFault = is_good word text ≡ true
+IsToldOfText word text OutOfMemory = Unit {0}
+IsToldOfText word text Usage = ⊥
+IsToldOfText word text (BadFile f) = ⊥
 
 abbrev pub IsToldOfFile : List ℕ → Outcome → Type 0
 IsToldOfFile input Done = (packets : List (List ℕ)) × captures.AreParts input (text_of input) packets
@@ -74,5 +100,5 @@ IsToldOfFile input OutOfMemory = Unit {0}
 IsToldOfFile input Usage = ⊥
 
 abbrev pub IsTold : Word → List ℕ → Outcome → Type 0
-IsTold Pcap input outcome = IsToldOfText input outcome
+IsTold (OfText word) input outcome = IsToldOfText word input outcome
 IsTold FromPcap input outcome = IsToldOfFile input outcome

@@ -1,4 +1,5 @@
-//! The program `spdm_view`: it writes a capture as a pcap file, and a pcap file as a capture.
+//! The program `spdm_view`: it writes the packets of a capture in words, a capture as a pcap file, and a pcap file as a
+//! capture.
 //!
 //! Read first: `output_of` in `specs/Answer.antt`, what is written of an input. The call is `run`.
 #![tactic(auto)]
@@ -43,7 +44,7 @@ fn given(rt: &(impl Env + AllocGlobal)) -> io::Result<Vec<String>> {
 fn tell(rt: &HostRuntime, outcome: Outcome) {
     let _ = match outcome {
         Outcome::Done => Ok(()),
-        Outcome::Usage => eprintln!(rt; "one of the words: pcap from-pcap"),
+        Outcome::Usage => eprintln!(rt; "one of the words: packets pcap from-pcap"),
         Outcome::BadText { line, fault } => eprintln!(rt; "line {line}: {fault:?}\n{fault}"),
         Outcome::BadFile { fault } => eprintln!(rt; "the file: {fault}"),
         Outcome::ReadFault => eprintln!(rt; "reading failed"),

@@ -1,11 +1,19 @@
 ghost use Rattle.std.specs.Prelude.{◌≡◌, map, string_bytes};
 ghost use Rattle.spdm_view.specs.Words.{word_named, word_of};
 
+/// What is asked for of a text.
+#[derive(Clone, Copy, Debug, PartialEq, Eq)]
+pub enum TextWord {
+    /// The packets of a capture in words.
+    Packets,
+    /// The pcap file of a capture.
+    Pcap,
+}
+
 /// What the program is asked for.
 #[derive(Clone, Copy, Debug, PartialEq, Eq)]
 pub enum Word {
-    /// The pcap file of a capture.
-    Pcap,
+    OfText(TextWord),
     /// The capture of a configuration and of a pcap file behind it.
     FromPcap,
 }
@@ -14,8 +22,10 @@ pub enum Word {
 fn named(word: &str) -> Option<Word>
     ensures { result ≡ word_named word.now }
 {
-    if word == "pcap" {
-        Some(Word::Pcap)
+    if word == "packets" {
+        Some(Word::OfText(TextWord::Packets))
+    } else if word == "pcap" {
+        Some(Word::OfText(TextWord::Pcap))
     } else if word == "from-pcap" {
         Some(Word::FromPcap)
     } else {
