@@ -5,7 +5,9 @@
 #![tactic(auto)]
 
 mod into_file;
+mod laws;
 mod out_of_file;
 
 pub use into_file::{ToPcapFault, to_pcap};
+pub use laws::file_is_read_back;
 pub use out_of_file::{FromPcapFault, from_pcap};

@@ -109,7 +109,7 @@ abbrev line_list : ℕ → List (List ℕ) → List (List ℕ)
 line_list number [] = []
 line_list number (packet ∷ others) = packet_line number packet ∷ line_list (number + 1) others
 
-abbrev read_capture : ℕ → CaptureReader → List (List ℕ) → Result Capture ScriptFault
+abbrev pub read_capture : ℕ → CaptureReader → List (List ℕ) → Result Capture ScriptFault
 read_capture at reader lines = read_lines capture_fault after_capture whole_capture at reader lines
 
 packets_read : (at number : ℕ) (reader : CaptureReader) (packets : List (List ℕ)) (config : ScriptConfig) → reader.given.ended ≡ true →
@@ -141,15 +141,15 @@ record IsBehind (at : ℕ) (before : CaptureReader) (lines : List (List ℕ)) (c
   whole : whole_capture behind ≡ Some capture
   goes_on : (more : List (List ℕ)) → read_capture at before (lines ++ more) ≡ read_capture (at + length lines) behind more
 
-whole_is : (at : ℕ) (o : Option Capture) (capture : Capture) → whole_or_missing at o ≡ Ok capture → o ≡ Some capture
+pub whole_is : (at : ℕ) (o : Option Capture) (capture : Capture) → whole_or_missing at o ≡ Ok capture → o ≡ Some capture
 whole_is at None capture h = cc h
 whole_is at (Some x) capture h = ap (λ (r : Result Capture ScriptFault). Some (result_unwrap_or r capture)) h
 
-no_fault : (at : ℕ) (fault : Option LineFault) (others : Result Capture ScriptFault) (capture : Capture) → unless_bad at fault others ≡ Ok capture → fault ≡ None
+pub no_fault : (at : ℕ) (fault : Option LineFault) (others : Result Capture ScriptFault) (capture : Capture) → unless_bad at fault others ≡ Ok capture → fault ≡ None
 no_fault at None others capture h = refl
 no_fault at (Some f) others capture h = cc h
 
-others_read : (at : ℕ) (fault : Option LineFault) (others : Result Capture ScriptFault) (capture : Capture) → unless_bad at fault others ≡ Ok capture → others ≡ Ok capture
+pub others_read : (at : ℕ) (fault : Option LineFault) (others : Result Capture ScriptFault) (capture : Capture) → unless_bad at fault others ≡ Ok capture → others ≡ Ok capture
 others_read at None others capture h = h
 others_read at (Some f) others capture h = cc h
 

@@ -4,4 +4,5 @@ mod Numbers
 mod HexWords
 mod LineWords
 mod PacketWords
-mod CaptureBack
+pub mod CaptureBack
+pub mod PacketsFit

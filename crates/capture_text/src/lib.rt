@@ -6,5 +6,5 @@
 mod laws;
 mod writing;
 
-pub use laws::written_capture_is_read;
+pub use laws::{captured_packets_fit, written_capture_is_read};
 pub use writing::{WriteError, write_packet_lines};

@@ -2,4 +2,5 @@ pub mod Names
 pub mod Flags
 pub mod Tables
 pub mod Pieces
+pub mod Covering
 pub mod Texts

@@ -12,7 +12,7 @@ mod tables;
 mod texts;
 
 pub use field::{Field, FieldList};
-pub use laws::pieces_are_whole;
+pub use laws::{fields_cover, pieces_are_whole};
 pub use names::{Form, Name};
 pub use tables::{record_fields, request_fields, response_fields};
 pub use texts::add_fields;
