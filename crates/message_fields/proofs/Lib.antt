@@ -1,0 +1,5 @@
+mod Cut
+mod FieldLines
+mod Covering
+mod CoveredRequests
+mod CoveredResponses

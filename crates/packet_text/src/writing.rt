@@ -1,0 +1,112 @@
+ghost use Rattle.std.specs.Prelude.{◌≡◌, ◌≤◌, ℕ, Err, length, is_ok, true, IsErrOf, OnErr, OnOk};
+ghost use Rattle.packet_text.specs.Blocks.{block_of, blocks_from};
+ghost use Rattle.packet_text.specs.Told.{IsBad, packets_text, told_of};
+ghost use Rattle.script_text.specs.ScriptText.{capture_in};
+ghost use Rattle.script_text.specs.declared.texts.faults.LineFault.{LineFault};
+ghost use Rattle.spdm_basis.specs.Stream.{HasFault, Takes, TakesPrefix};
+
+use crate::blocks::set_block;
+use script_text::{LineFault, ScriptConfig, ScriptFault, TEXT_LIMIT, parse_capture};
+use spdm_basis::{Bytes, Sink, write_all};
+use std::alloc::Global;
+use thiserror::Error;
+
+/// Why not all blocks of a capture were written.
+#[derive(Clone, Copy, Debug, PartialEq, Eq, Error)]
+pub enum PacketsFault {
+    /// The first bad line, counted from 1, and its first fault. Nothing was written.
+    #[error("line {0}: {1}")]
+    Line(u32, LineFault),
+    /// Writing failed, after a part of the blocks.
+    #[error("writing failed")]
+    WriteFault,
+    /// Out of memory, possibly after a part of the blocks.
+    #[error("out of memory")]
+    OutOfMemory,
+}
+
+impl From<ScriptFault> for PacketsFault {
+    ghost from_gives = { λ given error. error ≡ told_of given };
+
+    fn from(fault: ScriptFault) -> PacketsFault {
+        match fault {
+            ScriptFault::Line(line, fault) => PacketsFault::Line(line, fault),
+            ScriptFault::TooManyEvents(line) => PacketsFault::Line(line, LineFault::TooManyEvents),
+            ScriptFault::OutOfMemory => PacketsFault::OutOfMemory,
+        }
+    }
+}
+
+// Writes the block of a packet.
+fn write_block<K: Sink>(
+    config: &ScriptConfig,
+    number: usize,
+    packet: &[u8],
+    text: &mut Bytes,
+    sink: &mut K,
+) -> Result<(), PacketsFault>
+    ensures whole { OnOk result (Takes (K.contents sink.old) (block_of config.now number packet.now)
+        (K.contents sink.new)) }
+    ensures prefix { OnErr result (TakesPrefix (K.contents sink.old)
+        (block_of config.now number packet.now) (K.contents sink.new)) }
+    ensures fault { IsErrOf result PacketsFault.WriteFault
+        → HasFault (K.faults sink.old) (K.faults sink.new) }
+    ensures no_line { (line : ℕ) (f : LineFault) → result ≡ Err (PacketsFault.Line line f) → ⊥ }
+    ensures later { K.faults sink.old ≤ K.faults sink.new }
+{
+    let Ok(()) = set_block(config, number, packet, text) else {
+        return Err(PacketsFault::OutOfMemory);
+    };
+    match write_all(sink, text.as_slice()) {
+        Ok(()) => Ok(()),
+        Err(_) => Err(PacketsFault::WriteFault),
+    }
+}
+
+// Writes the block of each packet, counted from 1.
+fn write_all_blocks<K: Sink>(
+    alloc: Global,
+    config: &ScriptConfig,
+    packets: &[Bytes],
+    sink: &mut K,
+) -> Result<(), PacketsFault>
+    ensures whole { OnOk result (Takes (K.contents sink.old) (blocks_from config.now 1 packets.now)
+        (K.contents sink.new)) }
+    ensures prefix { OnErr result (TakesPrefix (K.contents sink.old)
+        (blocks_from config.now 1 packets.now) (K.contents sink.new)) }
+    ensures fault { IsErrOf result PacketsFault.WriteFault
+        → HasFault (K.faults sink.old) (K.faults sink.new) }
+    ensures no_line { (line : ℕ) (f : LineFault) → result ≡ Err (PacketsFault.Line line f) → ⊥ }
+    ensures later { K.faults sink.old ≤ K.faults sink.new }
+{
+    let mut text = Bytes::new(alloc);
+    for (index, packet) in packets.iter().enumerate() {
+        match write_block(config, index + 1, packet.as_slice(), &mut text, sink) {
+            Ok(()) => {}
+            Err(fault) => return Err(fault),
+        }
+    }
+    Ok(())
+}
+
+/// Writes a block of lines for each packet of the capture that a text of at most 4 MiB is.
+#[tactic(auto, unfolding(crate::specs::Told::packets_text))]
+pub fn write_blocks<K: Sink>(alloc: Global, text: &[u8], sink: &mut K) -> Result<(), PacketsFault>
+    requires { length text.now ≤ TEXT_LIMIT }
+    ensures whole { OnOk result (Takes (K.contents sink.old) (packets_text text.now)
+        (K.contents sink.new)) }
+    ensures prefix { OnErr result (TakesPrefix (K.contents sink.old) (packets_text text.now)
+        (K.contents sink.new)) }
+    ensures read { OnOk result (is_ok (capture_in text.now) ≡ true) }
+    ensures bad_line { (line : ℕ) (f : LineFault) → result ≡ Err (PacketsFault.Line line f)
+        → IsBad (capture_in text.now) (PacketsFault.Line line f) }
+    ensures write_fault { IsErrOf result PacketsFault.WriteFault
+        → HasFault (K.faults sink.old) (K.faults sink.new) }
+    ensures readable { IsErrOf result PacketsFault.WriteFault → is_ok (capture_in text.now) ≡ true }
+    ensures nothing_written { (line : ℕ) (f : LineFault) → result ≡ Err (PacketsFault.Line line f)
+        → sink.new ≡ sink.old }
+    ensures later { K.faults sink.old ≤ K.faults sink.new }
+{
+    let capture = parse_capture(alloc, text)?;
+    write_all_blocks(alloc, &capture.config, capture.packets.as_slice(), sink)
+}

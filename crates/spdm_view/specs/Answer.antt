@@ -1,0 +1,104 @@
+-- What is written of an input, and why it is not. This project's own.
+use Rattle.std.specs.Prelude.{◌≡◌, ◌<◌, ◌⊎◌, ℕ, List, length, Bool, true, false, is_ok, Result, Ok, Err}
+use Rattle.capture_pcap.specs.Captures as captures
+use Rattle.capture_pcap.specs.Files as files
+use Rattle.capture_pcap.specs.declared.into_file.ToPcapFault.{ToPcapFault}
+use Rattle.capture_pcap.specs.declared.into_file.ToPcapFault.TheVariants as to_pcap
+use Rattle.capture_pcap.specs.declared.out_of_file.FromPcapFault.{FromPcapFault}
+use Rattle.capture_pcap.specs.declared.out_of_file.FromPcapFault.TheVariants as from_pcap
+use Rattle.frame_stream.specs.Text.{text_of}
+use Rattle.packet_text.specs.Told as packets
+use Rattle.packet_text.specs.declared.writing.PacketsFault.{PacketsFault}
+use Rattle.packet_text.specs.declared.writing.PacketsFault.TheVariants as to_words
+use Rattle.script_text.specs.ScriptText.{capture_in}
+use Rattle.script_text.specs.declared.texts.faults.LineFault.{LineFault}
+use Rattle.spdm_view.specs.declared.outcome.Outcome.{Outcome}
+use Rattle.spdm_view.specs.declared.outcome.Outcome.TheVariants.{Done, Usage, BadText, BadFile, ReadFault, WriteFault, OutOfMemory, TooLong}
+use Rattle.spdm_view.specs.declared.words.Word.{Word}
+use Rattle.spdm_view.specs.declared.words.TextWord.{TextWord}
+use Rattle.spdm_view.specs.declared.words.TextWord.TheVariants.{Packets, Pcap}
+use Rattle.spdm_view.specs.declared.words.Word.TheVariants.{FromPcap, OfText}
+
+-- The longest text: 4 MiB.
+abbrev pub text_limit : ℕ
+text_limit = 4194304
+
+-- What a word writes of a text, and of an input.
+abbrev pub output_of_text : TextWord → List ℕ → List ℕ
+output_of_text Packets text = packets.packets_text text
+output_of_text Pcap text = files.pcap_of text
+
+abbrev pub output_of : Word → List ℕ → List ℕ
+output_of (OfText word) input = output_of_text word input
+output_of FromPcap input = captures.capture_of input
+
+-- ---- Outcomes.
+
+abbrev pub pcap_outcome : Result (Unit {0}) ToPcapFault → Outcome
+pcap_outcome (Ok done) = Done
+pcap_outcome (Err (to_pcap.Line line f)) = BadText line f
+pcap_outcome (Err to_pcap.WriteFault) = WriteFault
+pcap_outcome (Err to_pcap.OutOfMemory) = OutOfMemory
+
+abbrev pub packets_outcome : Result (Unit {0}) PacketsFault → Outcome
+packets_outcome (Ok done) = Done
+packets_outcome (Err (to_words.Line line f)) = BadText line f
+packets_outcome (Err to_words.WriteFault) = WriteFault
+packets_outcome (Err to_words.OutOfMemory) = OutOfMemory
+
+abbrev pub from_pcap_outcome : Result (Unit {0}) FromPcapFault → Outcome
+from_pcap_outcome (Ok done) = Done
+from_pcap_outcome (Err (from_pcap.Line line f)) = BadText line f
+from_pcap_outcome (Err (from_pcap.File f)) = BadFile f
+from_pcap_outcome (Err from_pcap.LongText) = TooLong
+from_pcap_outcome (Err from_pcap.LongFile) = TooLong
+from_pcap_outcome (Err from_pcap.ReadFault) = ReadFault
+from_pcap_outcome (Err from_pcap.WriteFault) = WriteFault
+from_pcap_outcome (Err from_pcap.OutOfMemory) = OutOfMemory
+
+-- Nothing was written.
+abbrev pub writes_nothing : Outcome → Bool
+writes_nothing Done = false
+writes_nothing Usage = true
+writes_nothing (BadText line f) = true
+writes_nothing (BadFile f) = true
+writes_nothing ReadFault = true
+writes_nothing WriteFault = false
+writes_nothing OutOfMemory = false
+writes_nothing TooLong = true
+
+-- ---- What an outcome tells of the input. Of reading, writing and memory the input tells nothing.
+
+-- A text is what the word reads.
+abbrev pub is_good : TextWord → List ℕ → Bool
+is_good Packets text = is_ok (capture_in text)
+is_good Pcap text = is_ok (capture_in text)
+
+-- It has this first bad line, with this first fault.
+abbrev pub IsBadLine : TextWord → List ℕ → (line : ℕ) → LineFault → Type 0
+IsBadLine Packets text line f = packets.IsBad (capture_in text) (to_words.Line line f)
+IsBadLine Pcap text line f = files.IsBad (capture_in text) (to_pcap.Line line f)
+
+abbrev pub IsToldOfText : TextWord → List ℕ → Outcome → Type 0
+IsToldOfText word text Done = is_good word text ≡ true
+IsToldOfText word text (BadText line f) = IsBadLine word text line f
+IsToldOfText word text TooLong = text_limit < length text
+IsToldOfText word text ReadFault = Unit {0}
+IsToldOfText word text WriteFault = is_good word text ≡ true
+IsToldOfText word text OutOfMemory = Unit {0}
+IsToldOfText word text Usage = ⊥
+IsToldOfText word text (BadFile f) = ⊥
+
+abbrev pub IsToldOfFile : List ℕ → Outcome → Type 0
+IsToldOfFile input Done = (packets : List (List ℕ)) × captures.AreParts input (text_of input) packets
+IsToldOfFile input (BadText line f) = captures.IsCause input (from_pcap.Line line f)
+IsToldOfFile input (BadFile f) = captures.IsCause input (from_pcap.File f)
+IsToldOfFile input TooLong = captures.IsCause input from_pcap.LongText ⊎ captures.IsCause input from_pcap.LongFile
+IsToldOfFile input ReadFault = Unit {0}
+IsToldOfFile input WriteFault = Unit {0}
+IsToldOfFile input OutOfMemory = Unit {0}
+IsToldOfFile input Usage = ⊥
+
+abbrev pub IsTold : Word → List ℕ → Outcome → Type 0
+IsTold (OfText word) input outcome = IsToldOfText word input outcome
+IsTold FromPcap input outcome = IsToldOfFile input outcome
