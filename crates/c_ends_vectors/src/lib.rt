@@ -1,5 +1,4 @@
-//! Both ends behind handles of C: a session between them, and the answers at a closed end. There is nothing here but a
-//! test.
+//! Both ends behind handles of C, with a session between them. There is nothing here but a test.
 //!
 //! Read first: `a_session_by_handles` in `src/session_tests.rt`.
 #![tactic(auto)]
