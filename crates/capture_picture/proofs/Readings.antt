@@ -1,5 +1,5 @@
 -- What is known of the two halves of a reading is known of the reading.
-use Rattle.std.proofs.Common.{◌≡◌, Option, Some, None, Result, Ok, Err, ap}
+use Rattle.std.proofs.Common.{◌≡◌, Some, Result, Ok, Err, ap}
 use Rattle.std.specs.Prelude.{unwrap_or}
 use Rattle.std.specs.Result.{result_err, result_ok}
 

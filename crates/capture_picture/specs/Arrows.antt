@@ -1,5 +1,5 @@
 -- The rows of a capture: an arrow for each packet. This project's own.
-use Rattle.std.specs.Prelude.{◌≡◌, ℕ, List, [], ◌∷◌, ◌++◌, ◌+◌, ◌-◌, ◌%◌, ◌==◌, ◌&&◌, min, codes, length, take, slice_index, if◌then◌else◌, is_ok, Bool, true, false, Option, Some, None, Result, Ok, Err}
+use Rattle.std.specs.Prelude.{ℕ, List, [], ◌∷◌, ◌+◌, ◌-◌, ◌%◌, ◌==◌, ◌&&◌, min, codes, length, take, slice_index, if◌then◌else◌, Bool, true, false, Option, Some, None, Result, Ok, Err}
 use Rattle.std.specs.List.{position_from}
 use Rattle.mctp_framing.specs.Packet.{PacketFields, parsed}
 use Rattle.packet_text.specs.Readings.{request_hash, response_lengths}

@@ -7,7 +7,7 @@ use Rattle.sequence_picture.specs.declared.rows.Fate.{Fate}
 use Rattle.sequence_picture.specs.declared.rows.Fate.TheVariants.{Arrives, Ignored, Lost}
 use Rattle.sequence_picture.specs.declared.rows.Note.{Note}
 use Rattle.sequence_picture.specs.declared.rows.Style.{Style}
-use Rattle.sequence_picture.specs.declared.rows.Style.TheVariants.{Message, Part, Record, Unread}
+use Rattle.sequence_picture.specs.declared.rows.Style.TheVariants.{Record}
 use Rattle.trace_text.specs.Spelling.{with_word}
 
 -- The line of an arrow: dotted for a record. Its head is a cross where the packet is lost, and open where it leads to

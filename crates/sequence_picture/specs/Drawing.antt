@@ -1,5 +1,5 @@
 -- The SVG of a picture. Numbers stand behind single spaces, as paths and transformations allow. This project's own.
-use Rattle.std.specs.Prelude.{ℕ, zero, suc, List, [], ◌∷◌, ◌++◌, ◌+◌, ◌-◌, ◌*◌, ◌/◌, ◌==◌, nat_lt, codes, if◌then◌else◌}
+use Rattle.std.specs.Prelude.{ℕ, zero, suc, List, ◌++◌, ◌+◌, ◌-◌, ◌*◌, ◌/◌, ◌==◌, nat_lt, codes, if◌then◌else◌}
 use Rattle.std.specs.Fmt.{decimal}
 use Rattle.sequence_picture.specs.declared.rows.Arrow.{Arrow}
 use Rattle.sequence_picture.specs.declared.rows.Colour.{Colour}

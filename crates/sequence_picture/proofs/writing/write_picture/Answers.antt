@@ -1,4 +1,4 @@
-use Rattle.std.proofs.Common.{◌≡◌, ◌++◌, ℕ, List, length, subst}
+use Rattle.std.proofs.Common.{◌++◌, ℕ, List, subst}
 use Rattle.sequence_picture.proofs.Taken.{prefix_of_first, takes_both, takes_then_prefix}
 use Rattle.sequence_picture.specs.Picture.{head_text, rows_from, tail_text}
 use Rattle.sequence_picture.specs.declared.rows.Row.{Row}
