@@ -5,6 +5,7 @@ pub mod Exchange
 pub mod Handshake
 pub mod Open
 pub mod Verifying
+pub mod Wiped
 pub mod Ended
 pub mod Turns
 pub mod Took

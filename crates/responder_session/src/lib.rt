@@ -29,6 +29,7 @@ mod session;
 mod told;
 mod took;
 mod verifying;
+mod wiping;
 mod work;
 
 pub use answer_key::AnswerKey;
