@@ -274,8 +274,18 @@ none_yet : (id : ℕ) → session_of id [] ≡ []
 unfolding session_of
 none_yet id = refl
 
-pub no_sessions : (r : RspSetup) (ended : Option KeptRecord) → ended ≡ None → StandsFor (record { slots = None ∷ None ∷ None ∷ None ∷ []; ended = ended }) r []
+no_sessions : (r : RspSetup) (ended : Option KeptRecord) → ended ≡ None → StandsFor (record { slots = None ∷ None ∷ None ∷ None ∷ []; ended = ended }) r []
 no_sessions r ended none = record {
   slots = λ id. subst (λ (x : Option Live). IsSlotOf x r (session_of id [])) (sym (empty_slots ended id)) (none_yet id);
   ended = none;
 }
+
+pub no_sessions_in : (r : RspSetup) (first second third fourth : Option Live) (ended : Option KeptRecord)
+    → first ≡ None → second ≡ None → third ≡ None → fourth ≡ None → ended ≡ None
+    → StandsFor (record { slots = first ∷ second ∷ third ∷ fourth ∷ []; ended = ended }) r []
+no_sessions_in r first second third fourth ended is_first is_second is_third is_fourth none =
+    subst (λ (x : Option Live). StandsFor (record { slots = x ∷ second ∷ third ∷ fourth ∷ []; ended = ended }) r []) (sym is_first)
+    (subst (λ (x : Option Live). StandsFor (record { slots = None ∷ x ∷ third ∷ fourth ∷ []; ended = ended }) r []) (sym is_second)
+    (subst (λ (x : Option Live). StandsFor (record { slots = None ∷ None ∷ x ∷ fourth ∷ []; ended = ended }) r []) (sym is_third)
+    (subst (λ (x : Option Live). StandsFor (record { slots = None ∷ None ∷ None ∷ x ∷ []; ended = ended }) r []) (sym is_fourth)
+    (no_sessions r ended none))))

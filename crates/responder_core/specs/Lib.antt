@@ -11,7 +11,9 @@ pub mod Handled
 pub mod Coming
 pub mod ClearPart
 pub mod Live
+pub mod Wiped
 pub mod Sessions
+pub mod NoSessions
 pub mod Beginning
 pub mod Starting
 pub mod Connected

@@ -59,6 +59,7 @@ impl Connection {
     ghost use Rattle.responder_core.specs.Harmless.{IsClearHarmless, IsRecordHarmless};
     ghost use Rattle.responder_core.specs.Sessions.{body_by};
     ghost use Rattle.responder_core.specs.Setup.{IsSetUp};
+    ghost use Rattle.responder_core.specs.NoSessions.{HasNoSessions};
 
     /// The initial state, before any message.
     pub fn new(setup: &Setup<'_>) -> Connection
@@ -70,6 +71,13 @@ impl Connection {
             queue: AppQueue::new(),
             drawn: false,
         }
+    }
+
+    /// Overwrites each session, before the memory of the responder is given back. Not to be gone on with.
+    pub fn wipe(&mut self)
+        ensures { HasNoSessions self.new.sessions }
+    {
+        self.sessions.wipe();
     }
 
     /// Handles a clear message with its tag; `free` are the values that its response may use. The response overwrites

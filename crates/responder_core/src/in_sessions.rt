@@ -3,4 +3,5 @@
 pub mod ended;
 pub mod live;
 pub mod records;
+pub mod session_slot;
 pub mod sessions;

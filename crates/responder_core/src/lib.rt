@@ -29,6 +29,7 @@ pub use free_values::FreeValues;
 pub use in_sessions::ended::EndedRecord;
 pub use in_sessions::live::Live;
 pub use in_sessions::records::record_id;
+pub use in_sessions::session_slot::SessionSlot;
 pub use in_sessions::sessions::Sessions;
 pub use judging::tried::Tried;
 pub use laws::others_keep_the_clear_part;

@@ -38,6 +38,7 @@ impl Live {
     ghost use Rattle.responder_session.specs.Updates.{HasEpochs};
     ghost use Rattle.spdm_machine.specs.Sessions.{is_past_handshake};
     ghost use Rattle.responder_core.specs.Live.{IsTaken, IsWaited, StandsFor};
+    ghost use Rattle.responder_core.specs.Wiped.{IsWipedLive};
 
     // A session that this PSK_EXCHANGE_RSP began.
     pub(crate) fn begin(session: RspSession, answer: &[u8]) -> Live
@@ -51,6 +52,26 @@ impl Live {
             idle: 0,
             period,
         }
+    }
+
+    // What stands where there is no session: one that was overwritten.
+    pub(crate) fn wiped() -> Live
+        ensures { IsWipedLive result }
+    {
+        Live {
+            session: RspSession::wiped(),
+            idle: 0,
+            period: 0,
+        }
+    }
+
+    // Overwrites the session in place.
+    pub(crate) fn wipe(&mut self)
+        ensures { IsWipedLive self.new }
+    {
+        self.session.wipe();
+        self.idle = 0;
+        self.period = 0;
     }
 
     /// Whether the session is established.

@@ -15,7 +15,7 @@ impl Sessions {
         if id == 0 || id > MAX_SESSIONS as u16 {
             return None;
         }
-        self.slots[usize::from(id) - 1].take()
+        self.slots[usize::from(id) - 1].take_out()
     }
 
     // Puts it back.
@@ -28,7 +28,7 @@ impl Sessions {
         if id == 0 || id > MAX_SESSIONS as u16 {
             return;
         }
-        self.slots[usize::from(id) - 1] = session;
+        self.slots[usize::from(id) - 1].put_back(session);
     }
 }
 

@@ -1,4 +1,4 @@
-use crate::{Connection, Live, Sessions};
+use crate::{Connection, Live, SessionSlot, Sessions};
 use spdm_grammar::names::MAX_SESSIONS;
 
 impl Live {
@@ -23,6 +23,33 @@ impl Live {
             → StandsFor self.new r (events_with answer.now s) }
     {
         self.session.put_pending(answer);
+    }
+}
+
+impl SessionSlot {
+    ghost use Rattle.std.specs.Prelude.{◌≡◌, ◌≤◌, ◌<◌, ◌+◌, length, true};
+    ghost use Rattle.responder_rules.specs.LargeAnswer.{last_takes};
+    ghost use Rattle.responder_machine.specs.Place.{session_place};
+    ghost use Rattle.responder_machine.specs.Refusal.{has_pending};
+    ghost use Rattle.responder_machine.specs.Session.{Events, session_terms, turns_of};
+    ghost use Rattle.responder_machine.specs.Setup.{RspSetup};
+    ghost use Rattle.responder_session.specs.Pending.{events_with};
+    ghost use Rattle.spdm_grammar.specs.declared.names.TheConstants.{MAX_MESSAGE_SIZE};
+    ghost use Rattle.spdm_grammar.specs.declared.names.request_code.TheConstants.{GET_MEASUREMENTS};
+    ghost use Rattle.responder_core.specs.Live.{IsSlotOf};
+
+    // The MEASUREMENTS that are pending get these bytes.
+    fn put_pending(&mut self, answer: &[u8])
+        requires { length answer.now ≤ MAX_MESSAGE_SIZE }
+        ensures { (r : RspSetup) (s : Events)
+            → (session_terms s).common.to_requester.transfer < length answer.now + 16
+            → has_pending (session_place s) ≡ true
+            → last_takes GET_MEASUREMENTS (turns_of s) ≡ true → IsSlotOf self.old r s
+            → IsSlotOf self.new r (events_with answer.now s) }
+    {
+        if self.is_there {
+            self.live.put_pending(answer);
+        }
     }
 }
 
@@ -55,9 +82,7 @@ impl Sessions {
         if id == 0 || id > MAX_SESSIONS as u16 {
             return;
         }
-        if let Some(live) = &mut self.slots[usize::from(id) - 1] {
-            live.put_pending(answer);
-        }
+        self.slots[usize::from(id) - 1].put_pending(answer);
     }
 
     /// The MEASUREMENTS that are pending in the session with this RspSessionID get these bytes, which are sent in
