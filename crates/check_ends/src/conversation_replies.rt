@@ -90,8 +90,8 @@ impl Conversation {
     ghost use Rattle.capture_machine.specs.SessionTable.{Row};
     ghost use Rattle.world_machine.specs.Setup.{Configuration, known_of};
 
-    // The same where a large request is in progress. It stands apart, since a function clears the places of its values
-    // when it is entered, and a large request is large.
+    // The same where a large request is in progress. A function of its own: at entry a function clears the stack of its
+    // values, and a large request is large.
     fn replies_largely(
         &mut self,
         table: &mut SessionTable,

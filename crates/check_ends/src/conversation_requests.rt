@@ -211,8 +211,8 @@ impl Conversation {
         self.party.asks_whole(table, round, tag, body)
     }
 
-    // The same where a large request is in progress, or may begin. It stands apart, since a function clears the places
-    // of its values when it is entered, and a large request is large.
+    // The same where a large request is in progress, or may begin. A function of its own: at entry a function clears
+    // the stack of its values, and a large request is large.
     fn asks_largely(
         &mut self,
         table: &mut SessionTable,

@@ -27,7 +27,7 @@ pub struct Party {
     pub number: u8,
     /// Where its entries stand in the table of sessions.
     pub places: Places,
-    /// What is had of the request whose answer is judged. Between two calls it does not matter.
+    /// What is known of the request whose answer is judged. Meaningless between two calls.
     pub coming: Coming,
     /// Room for the text of a record. Scratch space.
     pub text: RecordFrame,

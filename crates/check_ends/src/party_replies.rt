@@ -43,8 +43,8 @@ impl Party {
     ghost use Rattle.capture_machine.specs.SessionTable.{Row};
     ghost use Rattle.world_machine.specs.Setup.{Configuration};
 
-    /// Prepares for a body, before an answer to it is judged: what is had of it is kept, and all else stays. Requires
-    /// fewer than 2^64 - 1 received messages.
+    /// Prepares for the answer to a request, before it is judged: what is known of the request is kept, and all else is
+    /// unchanged. Requires fewer than 2^64 - 1 received messages.
     pub fn prepare(&mut self, body: &[u8])
         ensures coming { (r : RspSetup) (h : History) → IsAnswerer self.old.answerer r h
             → messages_of h < 2 ^ 64 - 1 → IsComing self.new.coming r h body.now }

@@ -263,8 +263,8 @@ impl JudgedEnds {
         self.begins_other(table, setup, round, answer)
     }
 
-    // The same where a large response is fetched. It stands apart, since a function clears the places of its values
-    // when it is entered, and what is fetched is large.
+    // The same while a large response is fetched. A function of its own: at entry a function clears the stack of its
+    // values, and what is fetched is large.
     fn replies_meanwhile(
         &mut self,
         table: &mut SessionTable,

@@ -45,7 +45,7 @@ fn has_number(next: u32) -> bool
 }
 
 // Whether a record opens as the next one of the session that it names, whose key has a number left.
-// Where it does, its inner message is in place of what `inner` held.
+// Where it does, its inner message overwrites `inner`.
 pub(crate) fn opens_next(asking: &Asking, inner: &mut RecordFrame, sealed: &[u8]) -> bool
     ensures told { (q : ReqSetup) (h : History) → length h < 2 ^ 64 - 1
         → StandsFor asking.now q h
@@ -130,7 +130,7 @@ fn finish_view(asking: &Asking) -> Option<SessionView>
 }
 
 // Whether a record is apart from the PSK_FINISH that is outstanding in this record, where that was sent by itself in
-// response to the last message. The inner messages of both are opened in place of what `own` and `inner` hold.
+// response to the last message. The inner messages of both overwrite `own` and `inner`.
 pub(crate) fn is_finish_apart(
     asking: &Asking,
     record: &[u8],

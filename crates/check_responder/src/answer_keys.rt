@@ -101,7 +101,7 @@ pub fn coming_key(connection: &Connection, body: &[u8], room: &mut RecordFrame) 
     taken_key(connection, behind_type(body), room)
 }
 
-/// What is had of a record that comes next, before that is handed in. Fewer than 2^64 - 1 messages came.
+/// What is known of the next record before it is handed in. Requires fewer than 2^64 - 1 received messages.
 pub(crate) fn prepare_record(connection: &Connection, request: &[u8], coming: &mut Coming)
     ensures { (r : RspSetup) (h : History) → connected.StandsFor connection.now r h
         → messages_of h < 2 ^ 64 - 1 → IsComing coming.new r h (record_body request.now) }
@@ -199,8 +199,8 @@ impl AnswerKeys {
             || opens_next(connection, request, sealed, room)
     }
 
-    // Whether a record opens as an answer to another one with its session id, of which this is had; where that is
-    // taken, its key tells.
+    // Whether a record opens as an answer to another one with its session id, of which this is known; where that one
+    // is taken, the key kept of it decides.
     fn opens_in_session(
         &self,
         connection: &Connection,
@@ -232,9 +232,9 @@ impl AnswerKeys {
         }
     }
 
-    /// Whether a record that is no right answer to a body, a clear one or another record, opens at least; this is had
-    /// of the body. Where that is a record that is taken, and has the same session id, the key of its answer tells, and
-    /// is not asked. What `room` holds before and after does not matter. Fewer than 2^64 - 1 messages came.
+    /// Whether a record that is no right answer to a request, a clear one or another record, opens at least; this is
+    /// known of the request. Not to be asked where the request is a record that is taken, with the same session id: the
+    /// key of its answer then decides. `room` is scratch space. Requires fewer than 2^64 - 1 received messages.
     pub fn opens(
         &self,
         connection: &Connection,

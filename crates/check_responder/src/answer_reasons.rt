@@ -21,7 +21,7 @@ use spdm_basis::RecordFrame;
 use spdm_grammar::Why;
 
 // Whether an answer that is in turn is in the clear, or a record that opens, as far as it is told before it is judged.
-// The body is the request that it answers, which was not handed in yet, and of which this is had. `room` is scratch
+// The body is the request that it answers, which was not handed in yet, and of which this is known. `room` is scratch
 // space. Requires fewer than 2^64 - 1 received messages.
 fn opening_of(
     keys: &AnswerKeys,
@@ -50,7 +50,8 @@ fn why_by(opens: bool) -> Why
     if opens { Why::BadReply } else { Why::BadRecord }
 }
 
-/// Why an answer is refused of which this was told, with what is had of its request. `room` is scratch space.
+/// Why an answer is refused, by what was determined of it before and what is known of its request. `room` is scratch
+/// space.
 pub fn why_so(told: Opening, coming: &Coming, answer: &[u8], room: &mut RecordFrame) -> Why
     ensures { (r : RspSetup) (d : Dialogue) (round : Round)
         → IsReason r d round coming.now answer.now told
@@ -71,7 +72,7 @@ impl Answerer {
     ghost use Rattle.capture_machine.specs.Difference.{reply_why};
     ghost use Rattle.capture_machine.specs.Rounds.{Dialogue, Round};
 
-    /// What is had of this body before its answer is judged. Requires fewer than 2^64 - 1 received messages.
+    /// What is known of this request before its answer is judged. Requires fewer than 2^64 - 1 received messages.
     pub fn prepare(&self, body: &[u8], coming: &mut Coming)
         ensures { (r : RspSetup) (h : History) → IsAnswerer self.now r h
             → messages_of h < 2 ^ 64 - 1 → IsComing coming.new r h body.now }
@@ -79,9 +80,9 @@ impl Answerer {
         prepare(&self.connection, body, coming);
     }
 
-    /// Why an answer to this body, of which this is had, is refused, but for wrong verify data, as far as it is told
-    /// before it is judged: a record is not opened with the key that is had. Requires fewer than 2^64 - 1 received
-    /// messages.
+    /// Why an answer to this request, of which this is known, is refused, but for wrong verify data, as far as it can
+    /// be told before it is judged: a record is not opened with the key that is known. Requires fewer than 2^64 - 1
+    /// received messages.
     pub fn opening_with(
         &mut self,
         keys: &AnswerKeys,
@@ -106,8 +107,8 @@ impl Answerer {
         )
     }
 
-    /// Why an answer to this body is refused, but for wrong verify data: had before it is judged, where nothing is had
-    /// of the body yet. Requires fewer than 2^64 - 1 received messages.
+    /// Why an answer to this request is refused, but for wrong verify data: determined before it is judged, where nothing
+    /// is known of the request yet. Requires fewer than 2^64 - 1 received messages.
     pub fn reply_why(&mut self, keys: &AnswerKeys, body: &[u8], answer: &[u8]) -> Why
         ensures told { (r : RspSetup) (d : Dialogue) (round : Round)
             → IsAnswerer self.old r d.responder → messages_of d.responder < 2 ^ 64 - 1

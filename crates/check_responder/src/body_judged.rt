@@ -44,7 +44,7 @@ impl Answerer {
         Judged::Refused
     }
 
-    /// Judges a body as the answer to another one of which this is had, by what it shows. `text` is scratch space.
+    /// Judges a body as the answer to a request of which this is known, by what it shows. `text` is scratch space.
     /// Requires fewer than 2^64 - 1 received messages.
     pub fn judges_with(
         &mut self,
@@ -69,7 +69,7 @@ impl Answerer {
         judged_of(given)
     }
 
-    /// The same, where nothing is had of the body yet.
+    /// The same, where nothing is known of the request yet.
     pub fn judges(&mut self, setup: &Setup<'_>, tag: u8, body: &[u8], answer: &[u8]) -> Judged
         requires { length answer.now ≤ MAX_BODY_SIZE }
         ensures { (r : RspSetup) (d : Dialogue) (round : Round) → IsSetUp setup.now r

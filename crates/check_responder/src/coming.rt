@@ -2,8 +2,8 @@ use check_laws::byte_at;
 use responder_session::AnswerKey;
 use spdm_basis::RecordFrame;
 
-/// What is had of a request before its answer is judged: the key of that answer, where the request is a record that is
-/// taken, and then its inner message too. Fixed size; never allocates.
+/// What is known of a request before its answer is judged: the key of that answer, where the request is a record that
+/// is taken, and then its inner message too. Fixed size; never allocates.
 #[derive(Drop)]
 pub struct Coming {
     pub(crate) key: Option<AnswerKey>,
@@ -26,7 +26,7 @@ impl Coming {
         }
     }
 
-    /// Whether the body of which this is had is a record that is taken, with this code where a request has it.
+    /// Whether the request of which this is known is a record that is taken, with this code where a request has it.
     pub fn asks(&self, code: u8) -> bool
         ensures { (r : RspSetup) (h : History) (body : List ℕ) → IsComing self.now r h body
             → result ≡ asks_for r h body code }

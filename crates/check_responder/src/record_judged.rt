@@ -20,8 +20,8 @@ impl Answerer {
     ghost use Rattle.check_responder.specs.Answerer.{IsAnswerer};
     ghost use Rattle.check_responder.specs.RecordAnswers.{IsGivenTo, history_behind};
 
-    /// What this body brings as the answer to a record of which this is had, by what it shows; None where it is not
-    /// right. `text` is scratch space. Requires fewer than 2^64 - 1 received messages. After an answer that is not
+    /// What this body brings as the answer to a record of which this is known, by what it shows; None where it is
+    /// wrong. `text` is scratch space. Requires fewer than 2^64 - 1 received messages. After an answer that is not
     /// right nothing is kept.
     pub(crate) fn answers_record_with(
         &mut self,
@@ -53,7 +53,7 @@ impl Answerer {
         None
     }
 
-    /// The same, where nothing is had of the record yet.
+    /// The same, where nothing is known of the record yet.
     pub fn answers_record(
         &mut self,
         setup: &Setup<'_>,

@@ -123,7 +123,7 @@ impl Answerer {
         self.sends(setup, request, &least_free(), sealed)
     }
 
-    /// What this record brings as the answer to one of which this is had, by what it shows; None where it is not right.
+    /// What this record brings as the answer to one of which this is known, by what it shows; None where it is wrong.
     /// `text` is scratch space. Requires fewer than 2^64 - 1 received messages. After an answer that is not right
     /// nothing is kept.
     pub(crate) fn answers_sealed(

@@ -35,7 +35,7 @@ impl<'a> RecordFree<'a> {
     }
 }
 
-// What an inner message does in a session; the whole answer to it stands apart.
+// The effect of an inner message in a session, apart from the bytes of its response.
 #[derive(Clone, Copy)]
 pub enum Deed<'a> {
     // It is refused with this code.
