@@ -1,13 +1,16 @@
 /*
- * A device: a responder behind a link, and an application that answers. `responder [DEVICE]` serves until the other
- * side is gone. What it takes is told on standard error.
+ * A device: a responder behind a link, and an application that answers. `responder [PATH | serial PATH | mctp EID]`
+ * (link.h) serves until the other side is gone. What it takes is told on standard error.
  */
 #include <stdio.h>
 #include <string.h>
 
-#include "device.h"
+#include "application.h"
+#include "common.h"
 #include "link.h"
 #include "spdm.h"
+
+static const char name[] = "device";
 
 /* The digest of the firmware that runs. */
 static const uint8_t firmware[32] = {0x00, 0x01, 0x02, 0x03, 0x04, 0x05, 0x06, 0x07, 0x08, 0x09, 0x0a,
@@ -16,29 +19,24 @@ static const uint8_t firmware[32] = {0x00, 0x01, 0x02, 0x03, 0x04, 0x05, 0x06, 0
 
 static struct spdm_responder responder;
 
-static uint32_t open_responder(const uint8_t seed[32]) {
+static uint32_t open_responder(uint8_t own, uint8_t controller, const uint8_t seed[32]) {
     struct spdm_responder_config config;
     struct spdm_known known;
     struct spdm_block block;
     memset(&config, 0, sizeof config);
-    config.eid = DEVICE;
+    config.eid = own;
     config.beat = PERIOD;
-    config.offer.hash = SPDM_BOTH_HASHES;
-    config.offer.aead = SPDM_BOTH_AEADS;
-    config.offer.measure = 1;
-    config.offer.heartbeat = 1;
-    config.offer.key_update = 1;
-    config.offer.chunk = 1;
-    config.transfer = 1024;
-    config.max = 4096;
+    config.offer = common_offer(1);
+    config.transfer = TRANSFER;
+    config.max = MAX_MESSAGE;
     config.unit = UNIT;
     config.opaque = SPDM_NOTHING;
     config.seed = seed;
-    known.eid = CONTROLLER;
-    known.hint = device_hint;
-    known.hint_len = sizeof device_hint;
-    known.psk = device_psk;
-    known.psk_len = sizeof device_psk;
+    known.eid = controller;
+    known.hint = common_key.hint;
+    known.hint_len = common_key.hint_len;
+    known.psk = common_key.psk;
+    known.psk_len = common_key.psk_len;
     block.index = 1;
     block.value_type = 0;
     block.tcb = 1;
@@ -47,24 +45,24 @@ static uint32_t open_responder(const uint8_t seed[32]) {
     return spdm_responder_open(&responder, &config, &known, 1, &block, 1);
 }
 
-/* The application: the answer to the next message is a reading, which waits before the message comes. */
-static void next_reading(void) {
-    static unsigned count;
-    char text[32];
-    int len = sprintf(text, "reading %u", count++);
-    spdm_responder_queue(&responder, CONTROLLER, (const uint8_t *)text, (size_t)len);
+/* The answer to the next message waits before the message comes. */
+static void queue_answer(uint8_t controller) {
+    uint8_t answer[APPLICATION_ANSWER];
+    size_t len = application_answer(answer);
+    spdm_responder_queue(&responder, controller, answer, len);
 }
 
-static void take_data(void) {
+static void take_data(uint8_t controller) {
     uint8_t room[1024];
     size_t len;
     if (spdm_responder_data(&responder, room, sizeof room, &len) == SPDM_OK) {
-        fprintf(stderr, "device: %.*s\n", (int)len, (const char *)room);
+        common_show(name, "", room, len);
+        application_take(room, len);
     }
-    next_reading();
+    queue_answer(controller);
 }
 
-static int answer(const struct link *link) {
+static int send_packets(struct link *link) {
     uint8_t room[PACKET];
     size_t len;
     size_t index;
@@ -76,26 +74,26 @@ static int answer(const struct link *link) {
     return 1;
 }
 
-static void serve(const struct link *link) {
-    uint32_t last = link_clock();
+static void serve(struct link *link) {
+    uint64_t last = link_clock() / 1000;
     for (;;) {
         uint8_t packet[1028];
         struct spdm_told told;
         long len = link_receive(link, packet, sizeof packet, 500);
-        uint32_t now = link_clock();
+        uint64_t now = link_clock() / 1000;
         /* Time first: a record that comes late must not find a session that is over. */
-        spdm_responder_tick(&responder, now - last);
+        spdm_responder_tick(&responder, (uint32_t)(now - last));
         last = now;
         if (len < 0) {
             return;
         }
         if (len > 0) {
             spdm_responder_on_packet(&responder, packet, (size_t)len, &told);
-            if (!answer(link)) {
+            if (!send_packets(link)) {
                 return;
             }
             if (told.kind == SPDM_TAKEN) {
-                take_data();
+                take_data(link->peer);
             }
         }
     }
@@ -103,19 +101,19 @@ static void serve(const struct link *link) {
 
 int main(int argc, char **argv) {
     struct link link;
+    uint8_t own = DEVICE;
     uint8_t seed[32];
     uint32_t code;
-    if (spdm_header_fits() != SPDM_OK || !link_seed(seed) || !link_open(&link, argc > 1 ? argv[1] : NULL)) {
-        fprintf(stderr, "device: no link\n");
+    if (!common_begin(name, argv + (argc > 0), &own, &link, seed)) {
         return 1;
     }
-    code = open_responder(seed);
+    code = open_responder(own, link.peer, seed);
     memset(seed, 0, sizeof seed);
     if (code != SPDM_OK) {
-        fprintf(stderr, "device: answer %u\n", (unsigned)code);
+        fprintf(stderr, "%s: answer %u\n", name, (unsigned)code);
         return 1;
     }
-    next_reading();
+    queue_answer(link.peer);
     serve(&link);
     spdm_responder_close(&responder);
     return 0;
