@@ -20,3 +20,4 @@ pub mod ReqSession
 pub mod Stepped
 pub mod Collected
 pub mod OwnRecords
+pub mod Wiped

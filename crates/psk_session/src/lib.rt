@@ -31,6 +31,7 @@ mod took;
 mod updates;
 mod verdict;
 mod waiting;
+mod wiping;
 
 pub use ask::Ask;
 pub use ask_fault::AskFault;
@@ -52,3 +53,4 @@ pub use spdm_grammar::{BadReply, SessionView, Stage};
 pub use told::Told;
 pub use took::Took;
 pub use waiting::Waiting;
+pub use wiping::wipe_psk;
