@@ -1,5 +1,4 @@
 pub mod Policy
-pub mod Places
 pub mod Text
 pub mod Begun
 pub mod Outcome
