@@ -18,6 +18,7 @@ mod kept;
 mod last;
 mod last_read;
 mod laws;
+mod new_data;
 mod number;
 mod open;
 mod own_answers;
