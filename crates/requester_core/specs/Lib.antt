@@ -18,3 +18,4 @@ pub mod Joined
 pub mod OwnRecords
 pub mod Owed
 pub mod LargeRequests
+pub mod Wiped

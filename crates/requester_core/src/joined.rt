@@ -19,6 +19,7 @@ impl Asking {
     ghost use Rattle.std.specs.Prelude.{◌≡◌, ◌≤◌, ◌<◌, ◌^◌, ◌-◌, [], length};
     ghost use Rattle.requester_core.specs.Joined.{StandsFor};
     ghost use Rattle.requester_core.specs.Slot.{shown_of};
+    ghost use Rattle.requester_core.specs.Wiped.{IsWiped};
     ghost use Rattle.requester_machine.specs.Commands.{live_count};
     ghost use Rattle.requester_machine.specs.Does.{free_id};
     ghost use Rattle.requester_machine.specs.History.{History, connection_terms, next_handle, phase_of};
@@ -36,6 +37,13 @@ impl Asking {
             sessions: Sessions::new(),
             message: Frame::new(),
         }
+    }
+
+    /// Overwrites the keys and the plaintexts of each session in place. Not to be gone on with.
+    pub fn wipe(&mut self)
+        ensures { IsWiped self.new.sessions }
+    {
+        self.sessions.wipe();
     }
 
     /// The phase of the negotiation.

@@ -33,5 +33,6 @@ pub use in_sessions::session_led::SessionLed;
 pub use in_sessions::sessions::Sessions;
 pub use in_sessions::slot::Slot;
 pub use joined::Asking;
+pub use psk_session::wipe_psk;
 pub use reaction::Reaction;
 pub use setup::Setup;

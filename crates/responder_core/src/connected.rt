@@ -3,6 +3,7 @@ ghost use Rattle.responder_core.specs.Connected.{queue_left, tells_measured};
 ghost use Rattle.spdm_grammar.specs.declared.names.TheConstants.{MAX_APP_DATA_LEN, MAX_OPAQUE_LEN, MAX_PADDING, MAX_SESSIONS};
 
 use crate::clear::clear_part::code_at;
+use crate::wiping::wipe_queue;
 use crate::{Begun, ClearPart, FreeValues, Sessions, Setup, Told};
 use responder_session::{AppQueue, QueueFault, RecordFree, Work};
 use spdm_basis::{Frame, RecordFrame};
@@ -40,7 +41,7 @@ fn tells_measured(heard: Heard) -> bool
 }
 
 impl Connection {
-    ghost use Rattle.std.specs.Prelude.{◌≡◌, ◌≤◌, ◌<◌, ◌^◌, ◌-◌, ◌∷◌, [], ℕ, List, None, Some, MatchResult, length};
+    ghost use Rattle.std.specs.Prelude.{◌≡◌, ◌≤◌, ◌<◌, ◌^◌, ◌-◌, ◌∷◌, [], ℕ, List, None, Some, MatchResult, length, replicate};
     ghost use Rattle.responder_machine.specs.Answer.{Free};
     ghost use Rattle.responder_machine.specs.BoundLaws.{messages_of};
     ghost use Rattle.responder_machine.specs.History.{History, queue_of};
@@ -73,11 +74,14 @@ impl Connection {
         }
     }
 
-    /// Overwrites each session, before the memory of the responder is given back. Not to be gone on with.
+    /// Overwrites each session and the application data that wait, before the memory of the responder is given back. Not
+    /// to be gone on with.
     pub fn wipe(&mut self)
-        ensures { HasNoSessions self.new.sessions }
+        ensures sessions { HasNoSessions self.new.sessions }
+        ensures queue { self.new.queue ≡ replicate 16 (replicate MAX_APP_DATA_LEN 0) }
     {
         self.sessions.wipe();
+        wipe_queue(&mut self.queue);
     }
 
     /// Handles a clear message with its tag; `free` are the values that its response may use. The response overwrites

@@ -14,6 +14,7 @@ mod judging;
 mod laws;
 mod setup;
 mod views;
+mod wiping;
 
 pub use clear::came::{Begun, Came};
 pub use clear::clear_part::ClearPart;

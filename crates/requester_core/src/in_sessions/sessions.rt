@@ -59,6 +59,7 @@ impl Sessions {
     ghost use Rattle.requester_core.specs.Slot.{IsSlotOf, shown_of};
     ghost use Rattle.requester_core.specs.SlotSteps.{IsAcceptedBy, IsAskedOf};
     ghost use Rattle.requester_core.specs.Talk as clear_part;
+    ghost use Rattle.requester_core.specs.Wiped.{IsWiped, IsWipedSlot};
     ghost use Rattle.requester_core.specs.declared.in_sessions.slot.Slot.TheVariants as slot;
     ghost use Rattle.psk_session.specs.AskLaws.{command_at};
     ghost use Rattle.psk_session.specs.Data.{data_of};
@@ -142,7 +143,28 @@ impl Sessions {
             → asks false q h Connect f d ≡ Adds (Told Connect sent d)
             → StandsFor self.new q (Told Connect sent d ∷ h) }
     {
+        self.wipe();
         *self = Sessions::none();
+    }
+
+    /// Overwrites the keys and the plaintexts of each session in place. Not to be gone on with, but to be cleared.
+    pub(crate) fn wipe(&mut self)
+        ensures { IsWiped self.new }
+    {
+        self.wipe_at(1);
+        self.wipe_at(2);
+        self.wipe_at(3);
+        self.wipe_at(4);
+    }
+
+    // Overwrites what the slot with this ReqSessionID holds.
+    fn wipe_at(&mut self, id: u16)
+        ensures own { IsWipedSlot (slot_of self.new id) }
+        ensures others { (i : ℕ) → i ≢ id → slot_of self.new i ≡ slot_of self.old i }
+    {
+        if id >= 1 && id <= MAX_SESSIONS as u16 {
+            self.slots[usize::from(id) - 1].wipe();
+        }
     }
 
     // Sends a request in the session with this ReqSessionID, in a record with this padding of at most 16 bytes, while
@@ -343,7 +365,7 @@ impl Sessions {
         ensures id { self.new.id ≡ self.old.id }
     {
         if id >= 1 && id <= MAX_SESSIONS as u16 {
-            self.slots[usize::from(id) - 1] = Slot::Empty;
+            self.slots[usize::from(id) - 1].clear();
         }
     }
 

@@ -95,7 +95,11 @@ fn take_finish(state: Finishing, sealed: &[u8]) -> (Slot, SessionLed)
             Slot::Live(open.into_session()),
             SessionLed::Rests(Event::Done(Finished::Opened(id))),
         ),
-        FinishTook::Bad(_, fault) => (Slot::Empty, SessionLed::Ends(Event::Lost(id, fault))),
+        // The session is gone: one of zeros is put over it, before its slot is emptied.
+        FinishTook::Bad(_, fault) => (
+            Slot::Live(ReqSession::wiped()),
+            SessionLed::Ends(Event::Lost(id, fault)),
+        ),
         FinishTook::Stay(state, fault) => (Slot::Finishing(state), SessionLed::Ignored(fault)),
     }
 }
@@ -105,6 +109,8 @@ impl Slot {
     ghost use Rattle.requester_core.specs.SessionLed.{IsStepped, settled};
     ghost use Rattle.requester_core.specs.Slot.{IsFinishingSlot, IsSlotOf, shown_of};
     ghost use Rattle.requester_core.specs.SlotSteps.{IsAcceptedBy, IsAskedOf};
+    ghost use Rattle.requester_core.specs.Wiped.{IsWipedSlot};
+    ghost use Rattle.requester_core.specs.declared.in_sessions.slot.Slot.TheVariants as slot;
     ghost use Rattle.psk_session.specs.Data.{data_of};
     ghost use Rattle.psk_session.specs.Opening.{started};
     ghost use Rattle.psk_session.specs.Waiting.{IsNewest};
@@ -177,7 +183,27 @@ impl Slot {
         ensures { self.new ≡ settled led.now self.old }
     {
         if led.is_end() {
-            *self = Slot::Empty;
+            self.clear();
+        }
+    }
+
+    /// Empties the slot: what it holds is overwritten before.
+    pub(crate) fn clear(&mut self)
+        ensures { self.new ≡ slot.Empty }
+    {
+        self.wipe();
+        *self = Slot::Empty;
+    }
+
+    /// Overwrites the keys and the plaintexts of the session in place. Not to be gone on with, but to be emptied.
+    pub(crate) fn wipe(&mut self)
+        ensures { IsWipedSlot self.new }
+    {
+        match self {
+            Slot::Empty => {}
+            Slot::Opening(state) => state.wipe(),
+            Slot::Finishing(state) => state.wipe(),
+            Slot::Live(session) => session.wipe(),
         }
     }
 
