@@ -24,3 +24,4 @@ pub mod Pending
 pub mod Trying
 pub mod UnseenRequests
 pub mod LateFetch
+pub mod Silence

@@ -12,7 +12,9 @@ mod free_values;
 mod in_sessions;
 mod judging;
 mod laws;
+mod new_data;
 mod setup;
+mod silence;
 mod views;
 mod wiping;
 
@@ -35,3 +37,4 @@ pub use in_sessions::sessions::Sessions;
 pub use judging::tried::Tried;
 pub use laws::others_keep_the_clear_part;
 pub use setup::Setup;
+pub use silence::Silence;
