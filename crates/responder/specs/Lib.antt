@@ -4,3 +4,4 @@ pub mod Peers
 pub mod SetUp
 pub mod Standing
 pub mod Unharmed
+pub mod Wiped

@@ -17,6 +17,7 @@ mod serving;
 mod shared;
 mod views;
 mod whole;
+mod wiping;
 
 pub use config::{Known, RspConfig};
 pub use fault::RspConfigFault;
