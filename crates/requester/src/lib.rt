@@ -11,6 +11,7 @@ mod part;
 mod sending;
 mod telling;
 mod whole;
+mod wiping;
 
 pub use config::ReqConfig;
 pub use fault::ReqConfigFault;

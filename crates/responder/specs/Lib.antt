@@ -8,3 +8,4 @@ pub mod Peeking
 pub mod SessionTimes
 pub mod Changes
 pub mod ChangeLaws
+pub mod Wiped

@@ -21,6 +21,7 @@ mod session_times;
 mod shared;
 mod views;
 mod whole;
+mod wiping;
 
 pub use change_laws::changes_are_caused;
 pub use changes::{SessionChange, SessionMark, SessionWatch, change_between};
