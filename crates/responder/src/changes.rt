@@ -6,6 +6,7 @@ ghost use Rattle.spdm_machine.specs.Sessions.{is_past_handshake};
 use crate::Responder;
 use spdm_basis::{Eid, SessionId};
 use spdm_grammar::Stage;
+use spdm_grammar::names::SESSION_PLACES;
 
 /// A session at one moment.
 #[derive(Clone, Copy, Debug, PartialEq, Eq)]
@@ -115,7 +116,7 @@ impl SessionWatch {
 
     /// What became of the sessions since they were last asked for, by rising RspSessionID from 1 to 4. Called after
     /// each packet from the requester and after each `tick`, it misses nothing.
-    pub fn changes(&mut self, responder: &Responder) -> [Option<SessionChange>; 4]
+    pub fn changes(&mut self, responder: &Responder) -> [Option<SessionChange>; SESSION_PLACES]
         ensures eid { self.new.eid ≡ self.old.eid }
         ensures changes { result ≡ changes_between (marks_in self.old) (marks_in self.new) }
         ensures marks { (r : Responding) → StandsFor responder.now r
