@@ -1,5 +1,5 @@
 ghost use Rattle.std.specs.Prelude.{◌+◌, ◌≤◌, length, IfErr, IfOk};
-ghost use Rattle.attest_command.specs.Begun.{AreTextsOf, IsReadCause};
+ghost use Rattle.attest_command.specs.AttestStart.{AreTextsOf, IsReadCause};
 
 use frame_stream::{LastLine, read_text, read_text_to};
 use script_text::TEXT_LIMIT;

@@ -183,7 +183,7 @@ impl Conversation {
     ghost use Rattle.mctp_framing.specs.Cutting.{RouteFields};
     ghost use Rattle.mctp_framing.specs.Gathering.Gathered.{Whole};
     ghost use Rattle.requester_machine.specs.Setup.{ReqSetup};
-    ghost use Rattle.check_requester.specs.Asker.{is_first_chunk};
+    ghost use Rattle.check_requester.specs.JudgedRequester.{is_first_chunk};
     ghost use Rattle.check_ends.specs.Conversation.{IsAskedOf, IsRequest, StandsFor};
     ghost use Rattle.check_laws.specs.Order.{asked_why, round_of};
     ghost use Rattle.check_laws.specs.Rows.{StandsForRows};

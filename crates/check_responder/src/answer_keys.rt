@@ -14,8 +14,8 @@ ghost use Rattle.check_responder.specs.AnswerKeys.{IsComing, IsComingKey};
 ghost use Rattle.capture_machine.specs.Opening.{opens_next};
 ghost use Rattle.spdm_grammar.specs.declared.names.TheConstants.{MAX_SESSIONS};
 
-use crate::coming::Coming;
 use crate::opening::Opening;
+use crate::prepared_request::PreparedRequest;
 use check_laws::is_clear;
 use responder_core::{Connection, record_id};
 use responder_session::AnswerKey;
@@ -102,7 +102,7 @@ pub fn coming_key(connection: &Connection, body: &[u8], room: &mut RecordFrame) 
 }
 
 /// What is known of the next record before it is handed in. Requires fewer than 2^64 - 1 received messages.
-pub(crate) fn prepare_record(connection: &Connection, request: &[u8], coming: &mut Coming)
+pub(crate) fn prepare_record(connection: &Connection, request: &[u8], coming: &mut PreparedRequest)
     ensures { (r : RspSetup) (h : History) → connected.StandsFor connection.now r h
         → messages_of h < 2 ^ 64 - 1 → IsComing coming.new r h (record_body request.now) }
 {
@@ -110,7 +110,7 @@ pub(crate) fn prepare_record(connection: &Connection, request: &[u8], coming: &m
 }
 
 /// The same of a body.
-pub fn prepare(connection: &Connection, body: &[u8], coming: &mut Coming)
+pub fn prepare(connection: &Connection, body: &[u8], coming: &mut PreparedRequest)
     ensures { (r : RspSetup) (h : History) → connected.StandsFor connection.now r h
         → messages_of h < 2 ^ 64 - 1 → IsComing coming.new r h body.now }
 {
@@ -205,7 +205,7 @@ impl AnswerKeys {
         &self,
         connection: &Connection,
         request: &[u8],
-        coming: &Coming,
+        coming: &PreparedRequest,
         sealed: &[u8],
         room: &mut RecordFrame,
     ) -> Opening
@@ -239,7 +239,7 @@ impl AnswerKeys {
         &self,
         connection: &Connection,
         body: &[u8],
-        coming: &Coming,
+        coming: &PreparedRequest,
         sealed: &[u8],
         room: &mut RecordFrame,
     ) -> Opening

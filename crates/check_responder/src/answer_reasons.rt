@@ -10,9 +10,9 @@ ghost use Rattle.capture_machine.specs.Difference.Why.{BadRecord, BadReply};
 ghost use Rattle.capture_machine.specs.Rounds.{Dialogue, Round};
 
 use crate::answer_keys::{coming_key, prepare};
-use crate::coming::Coming;
 use crate::opening::{Opening, opens_so};
-use crate::{AnswerKeys, Answerer};
+use crate::prepared_request::PreparedRequest;
+use crate::{AnswerKeys, JudgedResponder};
 use check_laws::is_clear;
 use responder_core::Connection;
 use responder_session::AnswerKey;
@@ -27,7 +27,7 @@ fn opening_of(
     keys: &AnswerKeys,
     connection: &Connection,
     body: &[u8],
-    coming: &Coming,
+    coming: &PreparedRequest,
     answer: &[u8],
     room: &mut RecordFrame,
 ) -> Opening
@@ -52,7 +52,12 @@ fn why_by(opens: bool) -> Why
 
 /// Why an answer is refused, by what was determined of it before and what is known of its request. `room` is scratch
 /// space.
-pub fn why_so(told: Opening, coming: &Coming, answer: &[u8], room: &mut RecordFrame) -> Why
+pub fn reason_for(
+    told: Opening,
+    coming: &PreparedRequest,
+    answer: &[u8],
+    room: &mut RecordFrame,
+) -> Why
     ensures { (r : RspSetup) (d : Dialogue) (round : Round)
         → IsReason r d round coming.now answer.now told
         → why_of result ≡ reply_why r d answer.now (Some round) }
@@ -60,20 +65,20 @@ pub fn why_so(told: Opening, coming: &Coming, answer: &[u8], room: &mut RecordFr
     why_by(opens_so(told, coming, behind_type(answer), room))
 }
 
-impl Answerer {
+impl JudgedResponder {
     ghost use Rattle.std.specs.Prelude.{◌≡◌, ◌<◌, ◌-◌, ◌^◌, Some};
     ghost use Rattle.responder_machine.specs.BoundLaws.{messages_of};
     ghost use Rattle.responder_machine.specs.History.{History};
     ghost use Rattle.responder_machine.specs.Setup.{RspSetup};
     ghost use Rattle.check_responder.specs.AnswerKeys.{IsComing, IsComingKey, StandFor};
-    ghost use Rattle.check_responder.specs.Answerer.{IsAnswerer};
+    ghost use Rattle.check_responder.specs.JudgedResponder.{IsAnswerer};
     ghost use Rattle.check_responder.specs.Opening.{IsReason};
     ghost use Rattle.check_laws.specs.Judged.{why_of};
     ghost use Rattle.capture_machine.specs.Difference.{reply_why};
     ghost use Rattle.capture_machine.specs.Rounds.{Dialogue, Round};
 
     /// What is known of this request before its answer is judged. Requires fewer than 2^64 - 1 received messages.
-    pub fn prepare(&self, body: &[u8], coming: &mut Coming)
+    pub fn prepare(&self, body: &[u8], coming: &mut PreparedRequest)
         ensures { (r : RspSetup) (h : History) → IsAnswerer self.now r h
             → messages_of h < 2 ^ 64 - 1 → IsComing coming.new r h body.now }
     {
@@ -87,7 +92,7 @@ impl Answerer {
         &mut self,
         keys: &AnswerKeys,
         body: &[u8],
-        coming: &Coming,
+        coming: &PreparedRequest,
         answer: &[u8],
     ) -> Opening
         ensures told { (r : RspSetup) (d : Dialogue) (round : Round)
@@ -116,10 +121,10 @@ impl Answerer {
             → why_of result ≡ reply_why r d answer.now (Some round) }
         ensures same { self.new.connection ≡ self.old.connection }
     {
-        let mut coming = Coming::new();
+        let mut coming = PreparedRequest::new();
         self.prepare(body, &mut coming);
         let told = self.opening_with(keys, body, &coming, answer);
-        why_so(told, &coming, answer, &mut self.record)
+        reason_for(told, &coming, answer, &mut self.record)
     }
 
     /// The key of the answer to this body, had before it is judged. Requires fewer than 2^64 - 1 received messages.

@@ -2,8 +2,8 @@ ghost use Rattle.std.specs.Prelude.{◌≡◌};
 ghost use Rattle.check_responder.specs.Given.{judged_of};
 ghost use Rattle.spdm_grammar.specs.declared.names.TheConstants.{MAX_BODY_SIZE};
 
-use crate::coming::Coming;
-use crate::{Answerer, Given, Judged};
+use crate::prepared_request::PreparedRequest;
+use crate::{Given, Judged, JudgedResponder};
 use check_laws::is_clear;
 use responder_core::Setup;
 use session_keys::behind_type;
@@ -20,13 +20,13 @@ fn judged_of(given: Option<Given>) -> Judged
 }
 
 // An answer to a request, each in the clear or a record.
-impl Answerer {
+impl JudgedResponder {
     ghost use Rattle.std.specs.Prelude.{◌≡◌, ◌≤◌, ◌<◌, ◌-◌, ◌^◌, length, slice_index};
     ghost use Rattle.responder_core.specs.Setup.{IsSetUp};
     ghost use Rattle.responder_machine.specs.BoundLaws.{messages_of};
     ghost use Rattle.responder_machine.specs.Setup.{RspSetup};
     ghost use Rattle.check_responder.specs.AnswerKeys.{IsComing};
-    ghost use Rattle.check_responder.specs.Answerer.{IsAnswerer};
+    ghost use Rattle.check_responder.specs.JudgedResponder.{IsAnswerer};
     ghost use Rattle.check_responder.specs.Given.{IsApartInClear, IsGiven};
     ghost use Rattle.capture_machine.specs.Capture.{IsBody};
     ghost use Rattle.capture_machine.specs.Rounds.{Dialogue, Round};
@@ -51,7 +51,7 @@ impl Answerer {
         setup: &Setup<'_>,
         tag: u8,
         body: &[u8],
-        coming: &Coming,
+        coming: &PreparedRequest,
         answer: &[u8],
         text: &mut RecordFrame,
     ) -> Judged
@@ -77,7 +77,7 @@ impl Answerer {
             → round.tag ≡ tag → round.body ≡ body.now → IsBody body.now
             → IsApartInClear r d round answer.now → IsGiven r d round answer.now result self.new }
     {
-        let mut coming = Coming::new();
+        let mut coming = PreparedRequest::new();
         let mut text = RecordFrame::new();
         self.prepare(body, &mut coming);
         self.judges_with(setup, tag, body, &coming, answer, &mut text)

@@ -2,7 +2,7 @@ ghost use Rattle.std.specs.Prelude.{◌≡◌, Bool};
 ghost use Rattle.check_responder.specs.Opening.{IsByKey, IsOpening};
 
 use crate::answer_keys::opens_by;
-use crate::coming::Coming;
+use crate::prepared_request::PreparedRequest;
 use spdm_basis::RecordFrame;
 
 /// Whether an answer opens, as far as it is known before it is judged.
@@ -15,7 +15,7 @@ pub enum Opening {
 }
 
 // Whether a record opens under the key that is known from a request. `room` is scratch space.
-fn opens_coming(coming: &Coming, sealed: &[u8], room: &mut RecordFrame) -> bool
+fn opens_coming(coming: &PreparedRequest, sealed: &[u8], room: &mut RecordFrame) -> bool
     ensures { (is : Bool) → IsByKey coming.now.key sealed.now is → result ≡ is }
 {
     match &coming.key {
@@ -28,7 +28,7 @@ fn opens_coming(coming: &Coming, sealed: &[u8], room: &mut RecordFrame) -> bool
 /// space.
 pub(crate) fn opens_so(
     told: Opening,
-    coming: &Coming,
+    coming: &PreparedRequest,
     sealed: &[u8],
     room: &mut RecordFrame,
 ) -> bool

@@ -7,7 +7,7 @@ pub mod Kept
 pub mod ReqOpen
 pub mod Course
 pub mod Waiting
-pub mod Asking
+pub mod SessionRequest
 pub mod AskTook
 pub mod AskLaws
 pub mod Verdict

@@ -1,4 +1,4 @@
-use crate::{Sessions, Talk};
+use crate::{ClearState, Sessions};
 use chunking::Collector;
 use negotiate::Common;
 use spdm_basis::Frame;
@@ -7,15 +7,15 @@ use spdm_grammar::{Choice, Phase, SessionList, SessionView};
 /// A requester (DSP0274, section 10), with every free value handed in: the clear part, the part received so far of a
 /// large response in the clear, and the sessions. Fixed size; never allocates.
 #[derive(Drop)]
-pub struct Asking {
-    pub(crate) talk: Talk,
+pub struct RequesterCore {
+    pub(crate) clear_state: ClearState,
     pub(crate) gathered: Collector,
     pub(crate) sessions: Sessions,
     // Scratch space for the clear message last sent or received, so that no call zeroes a buffer of its own.
     pub(crate) message: Frame,
 }
 
-impl Asking {
+impl RequesterCore {
     ghost use Rattle.std.specs.Prelude.{◌≡◌, ◌≤◌, ◌<◌, ◌^◌, ◌-◌, [], length};
     ghost use Rattle.requester_core.specs.Joined.{StandsFor};
     ghost use Rattle.requester_core.specs.Slot.{shown_of};
@@ -28,11 +28,11 @@ impl Asking {
     ghost use Rattle.requester_machine.specs.Shown.{last_data, views_of};
 
     /// The initial state of a requester with this MaxSPDMmsgSize.
-    pub fn new(max: u32) -> Asking
+    pub fn new(max: u32) -> RequesterCore
         ensures { (q : ReqSetup) → q.max ≡ max → StandsFor result q [] }
     {
-        Asking {
-            talk: Talk::new(),
+        RequesterCore {
+            clear_state: ClearState::new(),
             gathered: Collector::new(max),
             sessions: Sessions::new(),
             message: Frame::new(),
@@ -50,7 +50,7 @@ impl Asking {
     pub fn phase(&self) -> Phase
         ensures { (q : ReqSetup) (h : History) → StandsFor self.now q h → result ≡ phase_of h }
     {
-        self.talk.phase()
+        self.clear_state.phase()
     }
 
     /// The algorithms negotiated so far.
@@ -58,7 +58,7 @@ impl Asking {
         ensures { (q : ReqSetup) (h : History) → StandsFor self.now q h
             → result ≡ (connection_terms h).choice }
     {
-        self.talk.choice()
+        self.clear_state.choice()
     }
 
     /// The common capabilities negotiated so far.
@@ -66,14 +66,14 @@ impl Asking {
         ensures { (q : ReqSetup) (h : History) → StandsFor self.now q h
             → result.now ≡ (connection_terms h).common }
     {
-        self.talk.common()
+        self.clear_state.common()
     }
 
     /// The handle of the next large request.
     pub fn next_handle(&self) -> u8
         ensures { (q : ReqSetup) (h : History) → StandsFor self.now q h → result ≡ next_handle h }
     {
-        self.talk.next_handle()
+        self.clear_state.next_handle()
     }
 
     /// The least unused ReqSessionID; 4 if there is none.
@@ -107,6 +107,6 @@ impl Asking {
         ensures { (q : ReqSetup) (h : History) → StandsFor self.now q h
             → result.now ≡ last_data h }
     {
-        self.talk.last_data()
+        self.clear_state.last_data()
     }
 }

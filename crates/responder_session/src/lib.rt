@@ -9,7 +9,6 @@
 mod answer_key;
 mod answers;
 mod applying;
-mod deed;
 mod ended;
 mod exchange;
 mod handshake;
@@ -25,6 +24,7 @@ mod own_answers;
 mod parts;
 mod pending;
 mod queue;
+mod request_effect;
 mod requests;
 mod session;
 mod told;
@@ -34,7 +34,6 @@ mod wiping;
 mod work;
 
 pub use answer_key::AnswerKey;
-pub use deed::RecordFree;
 pub use ended::RspEnded;
 pub use handshake::RspHandshake;
 pub use laws::{
@@ -44,6 +43,7 @@ pub use laws::{
 pub use open::RspOpen;
 pub use parts::ExchangeParts;
 pub use queue::{AppQueue, QueueFault};
+pub use request_effect::ResponseValues;
 pub use session::RspSession;
 pub use told::{RspAct, RspTold};
 pub use took::{RspState, RspTook};

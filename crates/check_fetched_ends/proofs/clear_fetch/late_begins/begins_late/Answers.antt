@@ -6,7 +6,7 @@ use Rattle.check_requester.proofs.CarriedBy.{keeps_carries}
 use Rattle.check_ends.proofs.InTurn.{answers_in_turn}
 use Rattle.check_laws.proofs.KnownFetches.{kept_asks_none}
 use Rattle.check_ends.proofs.PartyReplied.{few_messages, kept_limits}
-use Rattle.check_requester.specs.Asker.{IsAsker}
+use Rattle.check_requester.specs.JudgedRequester.{IsAsker}
 use Rattle.check_requester.specs.HeardKept.{asks_upon, heard_kept}
 use Rattle.check_ends.specs.declared.party.Party.{Party}
 use Rattle.check_laws.proofs.AnswerSteps.{kept_answer_is_step}
