@@ -7,6 +7,7 @@
 #![tactic(auto)]
 
 mod body;
+mod busy;
 mod clear;
 mod command;
 mod free_values;
