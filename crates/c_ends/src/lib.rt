@@ -9,6 +9,7 @@ mod argument;
 pub mod codes;
 mod command;
 mod config;
+mod giving_back;
 mod kept_requester;
 mod kept_responder;
 mod open_requester;
