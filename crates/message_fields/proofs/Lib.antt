@@ -3,3 +3,4 @@ mod FieldLines
 mod Covering
 mod CoveredRequests
 mod CoveredResponses
+mod JsonLines

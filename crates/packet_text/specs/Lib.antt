@@ -1,3 +1,5 @@
 pub mod Readings
 pub mod Blocks
+pub mod JsonBlocks
+pub mod Styles
 pub mod Told

@@ -25,7 +25,7 @@ text_limit = 4194304
 
 -- What a word writes of a text, and of an input.
 abbrev pub output_of_text : TextWord → List ℕ → List ℕ
-output_of_text Packets text = packets.packets_text text
+output_of_text (Packets style) text = packets.packets_text style text
 output_of_text Pcap text = files.pcap_of text
 
 abbrev pub output_of : Word → List ℕ → List ℕ
@@ -71,12 +71,12 @@ writes_nothing TooLong = true
 
 -- A text is what the word reads.
 abbrev pub is_good : TextWord → List ℕ → Bool
-is_good Packets text = is_ok (capture_in text)
+is_good (Packets style) text = is_ok (capture_in text)
 is_good Pcap text = is_ok (capture_in text)
 
 -- It has this first bad line, with this first fault.
 abbrev pub IsBadLine : TextWord → List ℕ → (line : ℕ) → LineFault → Type 0
-IsBadLine Packets text line f = packets.IsBad (capture_in text) (to_words.Line line f)
+IsBadLine (Packets style) text line f = packets.IsBad (capture_in text) (to_words.Line line f)
 IsBadLine Pcap text line f = files.IsBad (capture_in text) (to_pcap.Line line f)
 
 abbrev pub IsToldOfText : TextWord → List ℕ → Outcome → Type 0

@@ -8,7 +8,7 @@ ghost use Rattle.spdm_view.specs.declared.words.Word.TheVariants.{FromPcap};
 use crate::outcome::Outcome;
 use crate::words::{TextWord, Word, word_of};
 use capture_pcap::{FromPcapFault, ToPcapFault, from_pcap, to_pcap};
-use packet_text::{PacketsFault, write_blocks};
+use packet_text::{PacketsFault, write_packets};
 use script_text::TEXT_LIMIT;
 use spdm_basis::{InFault, Sink, Source, read_all};
 use std::alloc::Global;
@@ -41,7 +41,7 @@ fn from_pcap_outcome(answer: Result<(), FromPcapFault>) -> Outcome
     }
 }
 
-// The outcome of packets that were written in words.
+// The outcome of packets that were written.
 fn packets_outcome(answer: Result<(), PacketsFault>) -> Outcome
     ensures { result ≡ packets_outcome answer }
 {
@@ -69,7 +69,7 @@ fn write_text<K: Sink>(alloc: Global, word: TextWord, text: &[u8], sink: &mut K)
     ensures later { K.faults sink.old ≤ K.faults sink.new }
 {
     match word {
-        TextWord::Packets => packets_outcome(write_blocks(alloc, text, sink)),
+        TextWord::Packets(style) => packets_outcome(write_packets(alloc, style, text, sink)),
         TextWord::Pcap => pcap_outcome(to_pcap(alloc, text, sink)),
     }
 }
@@ -127,7 +127,7 @@ fn write_capture<S: Source, K: Sink>(alloc: Global, source: &mut S, sink: &mut K
     from_pcap_outcome(from_pcap(alloc, source, sink))
 }
 
-/// Reads an input for the one word, and writes what the word is asked for.
+/// Reads an input for what the words ask for, and writes that.
 pub fn run<S: Source, K: Sink>(
     alloc: Global,
     words: &[String],
