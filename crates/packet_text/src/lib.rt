@@ -15,5 +15,6 @@ mod readings;
 mod style;
 mod writing;
 
+pub use readings::{Lengths, request_hash, response_lengths};
 pub use style::Style;
 pub use writing::{PacketsFault, write_packets};

@@ -2,6 +2,7 @@ ghost use Rattle.std.specs.Prelude.{◌≡◌, map, string_bytes};
 ghost use Rattle.spdm_view.specs.Words.{styled_word, word_named, word_of};
 
 use packet_text::Style;
+use sequence_picture::Form;
 
 /// What is asked for of a text.
 #[derive(Clone, Copy, Debug, PartialEq, Eq)]
@@ -10,6 +11,8 @@ pub enum TextWord {
     Packets(Style),
     /// The pcap file of a capture.
     Pcap,
+    /// The picture of a capture.
+    Picture(Form),
 }
 
 /// What the program is asked for.
@@ -28,6 +31,8 @@ fn named(word: &str) -> Option<Word>
         Some(Word::OfText(TextWord::Packets(Style::Words)))
     } else if word == "pcap" {
         Some(Word::OfText(TextWord::Pcap))
+    } else if word == "picture" {
+        Some(Word::OfText(TextWord::Picture(Form::Svg)))
     } else if word == "from-pcap" {
         Some(Word::FromPcap)
     } else {
@@ -42,12 +47,15 @@ fn styled(word: &str, option: &str) -> Option<Word>
 {
     if word == "packets" && option == "--json" {
         Some(Word::OfText(TextWord::Packets(Style::Json)))
+    } else if word == "picture" && option == "--mermaid" {
+        Some(Word::OfText(TextWord::Picture(Form::Mermaid)))
     } else {
         None
     }
 }
 
-/// What these words ask for, if they are words of the program: one word, or `packets --json`.
+/// What these words ask for, if they are words of the program: one word, or one with its
+/// option.
 pub fn word_of(words: &[String]) -> Option<Word>
     ensures { result ≡ word_of (map string_bytes words.now) }
 {
