@@ -9,7 +9,6 @@ mod argument;
 pub mod codes;
 mod command;
 mod config;
-mod giving_back;
 mod kept_requester;
 mod kept_responder;
 mod open_requester;

@@ -11,7 +11,6 @@ ghost use Rattle.requester_machine.specs.Message.{Command as Commanded};
 ghost use Rattle.requester_machine.specs.Requesting.{Requesting, new_requesting, requester_given, requester_told};
 
 use crate::command::command_of;
-use crate::giving_back::end_requester;
 use crate::open_requester::OpenRequester;
 use crate::packet_outcome::{PacketOutcome, event_told};
 use crate::requester_handle::RequesterHandle;
@@ -119,13 +118,11 @@ impl RequesterHandle {
         code
     }
 
-    /// Closes a requester, overwrites what is secret in it, and frees its memory. A closed one stays closed.
+    /// Closes a requester and frees its memory. A closed one stays closed.
     pub fn close(&mut self, alloc: Global)
         ensures { self.new.kept.held ≡ None }
     {
-        if let Some(end) = self.take_out(alloc) {
-            end_requester(end);
-        }
+        drop(self.take_out(alloc));
     }
 }
 

@@ -11,7 +11,6 @@ ghost use Rattle.responder.specs.Unharmed.{IsHarmless};
 ghost use Rattle.responder_machine.specs.Independence.{after_reply};
 ghost use Rattle.responder_machine.specs.Responding.{Responding, connection_of, new_responding, reply_fault_of, responder_hears, ticks};
 
-use crate::giving_back::end_responder;
 use crate::open_responder::OpenResponder;
 use crate::packet_outcome::{PacketOutcome, heard_told};
 use crate::responder_handle::ResponderHandle;
@@ -140,13 +139,11 @@ impl ResponderHandle {
         codes::OK
     }
 
-    /// Closes a responder, overwrites what is secret in it, and frees its memory. A closed one stays closed.
+    /// Closes a responder and frees its memory. A closed one stays closed.
     pub fn close(&mut self, alloc: Global)
         ensures { self.new.kept.held ≡ None }
     {
-        if let Some(end) = self.take_out(alloc) {
-            end_responder(end);
-        }
+        drop(self.take_out(alloc));
     }
 }
 

@@ -159,7 +159,7 @@ module _ (x : RequesterCore) (q : ReqSetup) (bare : History) (sent : Sent) (took
     its_last = took_last bare sent.aim id ask aims took
 
     pub owed : IsOwed q bare (upon bare) id ask sent
-    owed = is_owed q bare (upon bare) id ask sent (upon_last bare id ask its_last) aims stands.clear_state.holds
+    owed = is_owed q bare (upon bare) id ask sent (upon_last bare id ask its_last) aims stands.talk.holds
 
     ordered : IsOrdered (with_asked q.psk (session_of id bare) ask owed.inner owed.pad)
     ordered = subst IsOrdered owed.steps (stands.sessions.orders id).ordered

@@ -97,10 +97,10 @@ module _ (w : Configuration) (q : ReqSetup) (older earlier : List (List ℕ)) (s
   out_by aim is out =
       let o : IsOutstanding q H sent.content (ByChunks a first.handle 0) = subst (IsOutstanding q H sent.content) is out in
       let piece = o.1 asker.kept.sizes in
-      record { content_is = piece.is; short = chunks_short q H a first.handle 0 sent.content asker.kept.sizes stands.clear_state.holds o.0 piece }
+      record { content_is = piece.is; short = chunks_short q H a first.handle 0 sent.content asker.kept.sizes stands.talk.holds o.0 piece }
 
   piece_is : IsPieceOf H sent.content a first.handle
-  piece_is = out_by sent.aim first.aim (subst (Waits q H) (out_owed k.requester sent took) stands.clear_state.holds.waits)
+  piece_is = out_by sent.aim first.aim (subst (Waits q H) (out_owed k.requester sent took) stands.talk.holds.waits)
 
   -- It is the one of the definitions, with these bytes.
   same_piece : sent ≡ first_piece k.requester a (canonical_request a)

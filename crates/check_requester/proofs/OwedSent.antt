@@ -162,8 +162,8 @@ pub goes : (q : ReqSetup) (bare : History) (sent : Sent) (seen : RequesterCore) 
 goes q bare sent seen sizes took stands =
     let h : History = with_next (Some sent) bare in
     let waits = out_owed bare sent took in
-    goes_by q h bare sent sent.aim sizes stands.clear_state.holds (subst (λ (o : Option Sent). IsUpToSent o (negotiation_of h)) waits stands.clear_state.shows.up_to) refl took
-    (subst (Waits q h) waits stands.clear_state.holds.waits)
+    goes_by q h bare sent sent.aim sizes stands.talk.holds (subst (λ (o : Option Sent). IsUpToSent o (negotiation_of h)) waits stands.talk.shows.up_to) refl took
+    (subst (Waits q h) waits stands.talk.holds.waits)
 
 -- ---- In the clear.
 
@@ -223,7 +223,7 @@ module _ (q : ReqSetup) (bare : History) (sent : Sent) (id : ℕ) (ask : Ask) (t
   sealed_out seen stands =
       let h : History = with_next (Some sent) bare in
       let waits = out_owed bare sent (subst (TookFor bare) (sym aims) took) in
-      (subst (IsOutstanding q h sent.content) aims (subst (Waits q h) waits stands.clear_state.holds.waits)).0
+      (subst (IsOutstanding q h sent.content) aims (subst (Waits q h) waits stands.talk.holds.waits)).0
 
   -- No other body is a record.
   pub no_record : (body : List ℕ) (seen : RequesterCore) → slice_index body 0 ≢ 6 → StandsFor seen q (with_next (Some sent) bare) → IsSentOwed q bare sent body false seen

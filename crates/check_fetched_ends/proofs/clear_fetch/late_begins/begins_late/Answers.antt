@@ -43,7 +43,7 @@ idle : (w : Configuration) (q : ReqSetup) (older : List (List ℕ)) (k : Kept) �
 idle w q older k keeps = none_pends_in_clear w q older (restored k) (kept_is_restored w q older k keeps).0
 
 holds_of : (w : Configuration) (q : ReqSetup) (k : Kept) (seen : Party) → IsAsker seen.asker q k → Holds k.setup (restored k).requester
-holds_of w q k seen asker = subst (λ (x : ReqSetup). Holds x (restored k).requester) (sym asker.setup) asker.stands.clear_state.holds
+holds_of w q k seen asker = subst (λ (x : ReqSetup). Holds x (restored k).requester) (sym asker.setup) asker.stands.talk.holds
 
 sizes_of : (w : Configuration) (q : ReqSetup) (k : Kept) (seen : Party) → IsAsker seen.asker q k → HasSizes k.setup
 sizes_of w q k seen asker = subst HasSizes (sym asker.setup) asker.kept.sizes
