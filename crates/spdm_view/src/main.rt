@@ -1,5 +1,5 @@
-//! The program `spdm_view`: it writes the packets of a capture in words or as JSON, a capture as a pcap file or as a
-//! picture, and a pcap file as a capture.
+//! The program `spdm_view`: it writes the packets of a capture in words or as JSON, a capture as a pcap file, and a pcap
+//! file as a capture.
 //!
 //! Read first: `output_of` in `specs/Answer.antt`, what is written of an input. The call is `run`.
 #![tactic(auto)]
@@ -45,7 +45,7 @@ fn tell(rt: &HostRuntime, outcome: Outcome) {
     let _ = match outcome {
         Outcome::Done => Ok(()),
         Outcome::Usage => eprintln!(rt;
-            "one of the words: packets pcap picture from-pcap, or packets --json, or picture --mermaid"
+            "one of the words: packets pcap from-pcap, or packets --json"
         ),
         Outcome::BadText { line, fault } => eprintln!(rt; "line {line}: {fault:?}\n{fault}"),
         Outcome::BadFile { fault } => eprintln!(rt; "the file: {fault}"),

@@ -1,6 +1,6 @@
 ghost use Rattle.std.specs.Prelude.{◌≡◌, ◌≤◌, ◌<◌, ◌↔◌, ◌⊎◌, ℕ, List, [], Some, None, true, map, length, string_bytes};
 ghost use Rattle.spdm_basis.specs.Stream.{HasFault, Takes, TakesPrefix};
-ghost use Rattle.spdm_view.specs.Answer.{IsTold, IsToldOfFile, IsToldOfText, from_pcap_outcome, output_of, output_of_text, packets_outcome, pcap_outcome, picture_outcome, writes_nothing};
+ghost use Rattle.spdm_view.specs.Answer.{IsTold, IsToldOfFile, IsToldOfText, from_pcap_outcome, output_of, output_of_text, packets_outcome, pcap_outcome, writes_nothing};
 ghost use Rattle.spdm_view.specs.Words.{word_of};
 ghost use Rattle.spdm_view.specs.declared.words.Word.{Word};
 ghost use Rattle.spdm_view.specs.declared.words.Word.TheVariants.{FromPcap};
@@ -8,7 +8,6 @@ ghost use Rattle.spdm_view.specs.declared.words.Word.TheVariants.{FromPcap};
 use crate::outcome::Outcome;
 use crate::words::{TextWord, Word, word_of};
 use capture_pcap::{FromPcapFault, ToPcapFault, from_pcap, to_pcap};
-use capture_picture::{DrawFault, draw_capture};
 use packet_text::{PacketsFault, write_packets};
 use script_text::TEXT_LIMIT;
 use spdm_basis::{InFault, Sink, Source, read_all};
@@ -42,18 +41,6 @@ fn from_pcap_outcome(answer: Result<(), FromPcapFault>) -> Outcome
     }
 }
 
-// The outcome of a capture that was drawn.
-fn picture_outcome(answer: Result<(), DrawFault>) -> Outcome
-    ensures { result ≡ picture_outcome answer }
-{
-    match answer {
-        Ok(()) => Outcome::Done,
-        Err(DrawFault::Line(line, fault)) => Outcome::BadText { line, fault },
-        Err(DrawFault::WriteFault) => Outcome::WriteFault,
-        Err(DrawFault::OutOfMemory) => Outcome::OutOfMemory,
-    }
-}
-
 // The outcome of packets that were written.
 fn packets_outcome(answer: Result<(), PacketsFault>) -> Outcome
     ensures { result ≡ packets_outcome answer }
@@ -84,7 +71,6 @@ fn write_text<K: Sink>(alloc: Global, word: TextWord, text: &[u8], sink: &mut K)
     match word {
         TextWord::Packets(style) => packets_outcome(write_packets(alloc, style, text, sink)),
         TextWord::Pcap => pcap_outcome(to_pcap(alloc, text, sink)),
-        TextWord::Picture(form) => picture_outcome(draw_capture(alloc, form, text, sink)),
     }
 }
 

@@ -2,7 +2,6 @@ ghost use Rattle.std.specs.Prelude.{◌≡◌, map, string_bytes};
 ghost use Rattle.spdm_view.specs.Words.{styled_word, word_named, word_of};
 
 use packet_text::Style;
-use sequence_picture::Form;
 
 /// What is asked for of a text.
 #[derive(Clone, Copy, Debug, PartialEq, Eq)]
@@ -11,8 +10,6 @@ pub enum TextWord {
     Packets(Style),
     /// The pcap file of a capture.
     Pcap,
-    /// The picture of a capture.
-    Picture(Form),
 }
 
 /// What the program is asked for.
@@ -31,8 +28,6 @@ fn named(word: &str) -> Option<Word>
         Some(Word::OfText(TextWord::Packets(Style::Words)))
     } else if word == "pcap" {
         Some(Word::OfText(TextWord::Pcap))
-    } else if word == "picture" {
-        Some(Word::OfText(TextWord::Picture(Form::Svg)))
     } else if word == "from-pcap" {
         Some(Word::FromPcap)
     } else {
@@ -47,15 +42,12 @@ fn styled(word: &str, option: &str) -> Option<Word>
 {
     if word == "packets" && option == "--json" {
         Some(Word::OfText(TextWord::Packets(Style::Json)))
-    } else if word == "picture" && option == "--mermaid" {
-        Some(Word::OfText(TextWord::Picture(Form::Mermaid)))
     } else {
         None
     }
 }
 
-/// What these words ask for, if they are words of the program: one word, or one with its
-/// option.
+/// What these words ask for, if they are words of the program: one word, or `packets --json`.
 pub fn word_of(words: &[String]) -> Option<Word>
     ensures { result ≡ word_of (map string_bytes words.now) }
 {
