@@ -1,7 +1,7 @@
 ghost use Rattle.std.specs.Prelude.{◌≡◌, ◌≢◌, ℕ, List, [], None, Some, slice_get};
 ghost use Rattle.c_ends.specs.Codes.{told_of_command};
 ghost use Rattle.c_ends.specs.Holding.{HoldsRequester};
-ghost use Rattle.c_ends.specs.Opening.{HasRequesterFault, RefusesRequester, code_of_requester};
+ghost use Rattle.c_ends.specs.Opening.{HasRequesterFault, RefusesRequester};
 ghost use Rattle.c_ends.specs.Setting.{as_told, command_in, requester_argument, requester_in};
 ghost use Rattle.c_ends.specs.Telling.{event_told};
 ghost use Rattle.c_ends.specs.Writing.{IsWritten};
@@ -11,23 +11,13 @@ ghost use Rattle.requester_machine.specs.Message.{Command as Commanded};
 ghost use Rattle.requester_machine.specs.Requesting.{Requesting, new_requesting, requester_given, requester_told};
 
 use crate::command::command_of;
-use crate::giving_back::end_requester;
 use crate::open_requester::OpenRequester;
-use crate::packet_outcome::{PacketOutcome, event_told};
 use crate::requester_handle::RequesterHandle;
-use crate::requester_set_up::{RequesterFault, open_requester};
+use crate::requester_set_up::{fault_code, open_requester};
+use crate::told::{Told, event_told};
 use crate::writing::write_packet;
 use crate::{RequesterConfig, codes};
 use std::alloc::Global;
-
-fn code_of(fault: RequesterFault) -> u32
-    ensures { result ≡ code_of_requester fault }
-{
-    match fault {
-        RequesterFault::Argument(fault) => codes::of_argument(fault),
-        RequesterFault::Config(fault) => codes::of_requester(fault),
-    }
-}
 
 impl RequesterHandle {
     /// Opens a requester. Takes all the memory that it will ever have. After any answer but `OK` the handle holds what
@@ -49,7 +39,7 @@ impl RequesterHandle {
                 self.put_in(end);
                 codes::OK
             }
-            Err(fault) => code_of(fault),
+            Err(fault) => fault_code(fault),
         }
     }
 
@@ -85,7 +75,7 @@ impl RequesterHandle {
 
     /// Gives a packet to a requester. What it led to is written to `told`, and the packets that it sends next replace
     /// those before.
-    pub fn on_packet(&mut self, alloc: Global, packet: &[u8], told: &mut PacketOutcome) -> u32
+    pub fn on_packet(&mut self, alloc: Global, packet: &[u8], told: &mut Told) -> u32
         ensures step { (a : Requesting) (sends : List (List ℕ))
             → HoldsRequester self.old.kept.held a sends
             → (result ≡ OK) × (told.new ≡ event_told (requester_given a packet.now).event)
@@ -119,13 +109,11 @@ impl RequesterHandle {
         code
     }
 
-    /// Closes a requester, overwrites what is secret in it, and frees its memory. A closed one stays closed.
+    /// Closes a requester and frees its memory. A closed one stays closed.
     pub fn close(&mut self, alloc: Global)
         ensures { self.new.kept.held ≡ None }
     {
-        if let Some(end) = self.take_out(alloc) {
-            end_requester(end);
-        }
+        drop(self.take_out(alloc));
     }
 }
 

@@ -6,7 +6,6 @@ ghost use Rattle.responder.specs.Standing.{StandsFor};
 ghost use Rattle.responder_machine.specs.Responding.{new_responding};
 
 use crate::argument::ArgumentFault;
-use crate::giving_back::end_known;
 use crate::open_responder::OpenResponder;
 use crate::{Block, KnownRequester, Offer, ResponderConfig};
 use responder::{Known, RspConfig, RspConfigFault};
@@ -174,9 +173,7 @@ fn configured(
         return Err(RspConfigFault::OutOfMemory);
     };
     let own = config_of(config, requesters.as_slice(), measured.as_slice());
-    let made = OpenResponder::new(alloc, &own, *config.seed, config.boot);
-    end_known(requesters);
-    match made {
+    match OpenResponder::new(alloc, &own, *config.seed, config.boot) {
         Ok(end) => Ok(end),
         Err(fault) => Err(fault),
     }

@@ -1,4 +1,3 @@
 pub mod Config
 pub mod SetUp
 pub mod Standing
-pub mod Wiped

@@ -4,7 +4,6 @@
 //! are `Requester::command` and `Requester::on_packet`.
 #![tactic(auto)]
 
-mod busy;
 mod config;
 mod fault;
 mod hearing;
@@ -12,7 +11,6 @@ mod part;
 mod sending;
 mod telling;
 mod whole;
-mod wiping;
 
 pub use config::ReqConfig;
 pub use fault::ReqConfigFault;

@@ -1,16 +1,16 @@
 pub mod Setup
 pub mod Free
-pub mod Outstanding
+pub mod Waiting
 pub mod Negotiating
 pub mod Outgoing
-pub mod ClearState
+pub mod Talk
 pub mod Commands
-pub mod ReplyOutcome
+pub mod Led
 pub mod Gathering
 pub mod Hearing
 pub mod InSession
 pub mod Slot
-pub mod RecordOutcome
+pub mod SessionLed
 pub mod SlotSteps
 pub mod Sessions
 pub mod SessionSteps
@@ -18,4 +18,3 @@ pub mod Joined
 pub mod OwnRecords
 pub mod Owed
 pub mod LargeRequests
-pub mod Wiped

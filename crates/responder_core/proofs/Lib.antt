@@ -26,4 +26,3 @@ pub mod Unseen
 pub mod UnseenRequests
 pub mod LateFetch
 mod PutBack
-pub mod WipedQueue

@@ -2,18 +2,16 @@ pub mod Setup
 pub mod Negotiating
 pub mod Contents
 pub mod Free
-pub mod ClearState
+pub mod Standing
 pub mod Answering
 pub mod Refused
 pub mod Taking
 pub mod Gathering
-pub mod HandledRequest
+pub mod Handled
 pub mod Coming
 pub mod ClearPart
-pub mod LiveSession
-pub mod Wiped
+pub mod Live
 pub mod Sessions
-pub mod NoSessions
 pub mod Beginning
 pub mod Starting
 pub mod Connected
@@ -24,4 +22,3 @@ pub mod Pending
 pub mod Trying
 pub mod UnseenRequests
 pub mod LateFetch
-pub mod Silence

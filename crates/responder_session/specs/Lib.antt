@@ -5,14 +5,13 @@ pub mod Exchange
 pub mod Handshake
 pub mod Open
 pub mod Verifying
-pub mod Wiped
 pub mod Ended
 pub mod Turns
 pub mod Took
 pub mod EndedTook
 pub mod Queue
 pub mod Updates
-pub mod RequestEffects
+pub mod Deeds
 pub mod Judged
 pub mod Laws
 pub mod Reply

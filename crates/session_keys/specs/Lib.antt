@@ -2,4 +2,3 @@ pub mod Keys
 pub mod Handshake
 pub mod Terms
 pub mod Drawing
-pub mod Wiped
