@@ -23,9 +23,8 @@
  *
  * OWNERSHIP AND LIFETIMES. What a caller hands in stays the caller's, and no end keeps a pointer to it: open copies
  * what it needs, keys too. An open end owns blocks of memory that it took at open; close gives them back. An end that
- * is never closed keeps them. The keys and application data of a session are overwritten where it ends, and the
- * pre-shared keys, the seed, the sessions and a responder's buffers before close gives the memory back. Not overwritten
- * are the data that a requester was brought last, chunks that it collected, and copies on the stack.
+ * is never closed keeps them. Keys, pre-shared keys, the seed and application data of an end are overwritten in its memory
+ * before close gives it back, and those of a session where it ends. Copies that were made on the stack are not.
  *
  * MEMORY. Only open takes memory and only open and close give it back, by three functions that the caller links; see
  * the end of this file.

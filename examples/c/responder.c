@@ -1,16 +1,13 @@
 /*
- * A device: a responder behind a link, and an application that answers. `responder [PATH | serial PATH | mctp EID]`
- * (link.h) serves until the other side is gone. What it takes is told on standard error.
+ * A device: a responder behind a link, and an application that answers. `responder [DEVICE]` serves until the other
+ * side is gone. What it takes is told on standard error.
  */
 #include <stdio.h>
 #include <string.h>
 
-#include "application.h"
-#include "common.h"
+#include "device.h"
 #include "link.h"
 #include "spdm.h"
-
-static const char name[] = "device";
 
 /* The digest of the firmware that runs. */
 static const uint8_t firmware[32] = {0x00, 0x01, 0x02, 0x03, 0x04, 0x05, 0x06, 0x07, 0x08, 0x09, 0x0a,
@@ -19,24 +16,29 @@ static const uint8_t firmware[32] = {0x00, 0x01, 0x02, 0x03, 0x04, 0x05, 0x06, 0
 
 static struct spdm_responder responder;
 
-static uint32_t open_responder(uint8_t own, uint8_t controller, const uint8_t seed[32]) {
+static uint32_t open_responder(const uint8_t seed[32]) {
     struct spdm_responder_config config;
     struct spdm_known known;
     struct spdm_block block;
     memset(&config, 0, sizeof config);
-    config.eid = own;
+    config.eid = DEVICE;
     config.beat = PERIOD;
-    config.offer = common_offer(1);
-    config.transfer = TRANSFER;
-    config.max = MAX_MESSAGE;
+    config.offer.hash = SPDM_BOTH_HASHES;
+    config.offer.aead = SPDM_BOTH_AEADS;
+    config.offer.measure = 1;
+    config.offer.heartbeat = 1;
+    config.offer.key_update = 1;
+    config.offer.chunk = 1;
+    config.transfer = 1024;
+    config.max = 4096;
     config.unit = UNIT;
     config.opaque = SPDM_NOTHING;
     config.seed = seed;
-    known.eid = controller;
-    known.hint = common_key.hint;
-    known.hint_len = common_key.hint_len;
-    known.psk = common_key.psk;
-    known.psk_len = common_key.psk_len;
+    known.eid = CONTROLLER;
+    known.hint = device_hint;
+    known.hint_len = sizeof device_hint;
+    known.psk = device_psk;
+    known.psk_len = sizeof device_psk;
     block.index = 1;
     block.value_type = 0;
     block.tcb = 1;
@@ -45,24 +47,24 @@ static uint32_t open_responder(uint8_t own, uint8_t controller, const uint8_t se
     return spdm_responder_open(&responder, &config, &known, 1, &block, 1);
 }
 
-/* The answer to the next message waits before the message comes. */
-static void queue_answer(uint8_t controller) {
-    uint8_t answer[APPLICATION_ANSWER];
-    size_t len = application_answer(answer);
-    spdm_responder_queue(&responder, controller, answer, len);
+/* The application: the answer to the next message is a reading, which waits before the message comes. */
+static void next_reading(void) {
+    static unsigned count;
+    char text[32];
+    int len = sprintf(text, "reading %u", count++);
+    spdm_responder_queue(&responder, CONTROLLER, (const uint8_t *)text, (size_t)len);
 }
 
-static void take_data(uint8_t controller) {
+static void take_data(void) {
     uint8_t room[1024];
     size_t len;
     if (spdm_responder_data(&responder, room, sizeof room, &len) == SPDM_OK) {
-        common_show(name, "", room, len);
-        application_take(room, len);
+        fprintf(stderr, "device: %.*s\n", (int)len, (const char *)room);
     }
-    queue_answer(controller);
+    next_reading();
 }
 
-static int send_packets(struct link *link) {
+static int answer(const struct link *link) {
     uint8_t room[PACKET];
     size_t len;
     size_t index;
@@ -74,26 +76,26 @@ static int send_packets(struct link *link) {
     return 1;
 }
 
-static void serve(struct link *link) {
-    uint64_t last = link_clock() / 1000;
+static void serve(const struct link *link) {
+    uint32_t last = link_clock();
     for (;;) {
         uint8_t packet[1028];
         struct spdm_told told;
         long len = link_receive(link, packet, sizeof packet, 500);
-        uint64_t now = link_clock() / 1000;
+        uint32_t now = link_clock();
         /* Time first: a record that comes late must not find a session that is over. */
-        spdm_responder_tick(&responder, (uint32_t)(now - last));
+        spdm_responder_tick(&responder, now - last);
         last = now;
         if (len < 0) {
             return;
         }
         if (len > 0) {
             spdm_responder_on_packet(&responder, packet, (size_t)len, &told);
-            if (!send_packets(link)) {
+            if (!answer(link)) {
                 return;
             }
             if (told.kind == SPDM_TAKEN) {
-                take_data(link->peer);
+                take_data();
             }
         }
     }
@@ -101,19 +103,19 @@ static void serve(struct link *link) {
 
 int main(int argc, char **argv) {
     struct link link;
-    uint8_t own = DEVICE;
     uint8_t seed[32];
     uint32_t code;
-    if (!common_begin(name, argv + (argc > 0), &own, &link, seed)) {
+    if (spdm_header_fits() != SPDM_OK || !link_seed(seed) || !link_open(&link, argc > 1 ? argv[1] : NULL)) {
+        fprintf(stderr, "device: no link\n");
         return 1;
     }
-    code = open_responder(own, link.peer, seed);
+    code = open_responder(seed);
     memset(seed, 0, sizeof seed);
     if (code != SPDM_OK) {
-        fprintf(stderr, "%s: answer %u\n", name, (unsigned)code);
+        fprintf(stderr, "device: answer %u\n", (unsigned)code);
         return 1;
     }
-    queue_answer(link.peer);
+    next_reading();
     serve(&link);
     spdm_responder_close(&responder);
     return 0;

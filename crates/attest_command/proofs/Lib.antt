@@ -1,3 +1,4 @@
+pub mod Policies
 pub mod LineCounts
 pub mod ReadTexts
 pub mod ParsedTexts

@@ -1,5 +1,6 @@
 pub mod Policy
+pub mod Places
 pub mod Text
-pub mod AttestStart
+pub mod Begun
 pub mod Outcome
 pub mod InputEnds

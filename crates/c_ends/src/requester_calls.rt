@@ -13,9 +13,9 @@ ghost use Rattle.requester_machine.specs.Requesting.{Requesting, new_requesting,
 use crate::command::command_of;
 use crate::giving_back::end_requester;
 use crate::open_requester::OpenRequester;
-use crate::packet_outcome::{PacketOutcome, event_told};
 use crate::requester_handle::RequesterHandle;
 use crate::requester_set_up::{RequesterFault, open_requester};
+use crate::told::{Told, event_told};
 use crate::writing::write_packet;
 use crate::{RequesterConfig, codes};
 use std::alloc::Global;
@@ -85,7 +85,7 @@ impl RequesterHandle {
 
     /// Gives a packet to a requester. What it led to is written to `told`, and the packets that it sends next replace
     /// those before.
-    pub fn on_packet(&mut self, alloc: Global, packet: &[u8], told: &mut PacketOutcome) -> u32
+    pub fn on_packet(&mut self, alloc: Global, packet: &[u8], told: &mut Told) -> u32
         ensures step { (a : Requesting) (sends : List (List ℕ))
             → HoldsRequester self.old.kept.held a sends
             → (result ≡ OK) × (told.new ≡ event_told (requester_given a packet.now).event)

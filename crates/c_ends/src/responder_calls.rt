@@ -13,9 +13,9 @@ ghost use Rattle.responder_machine.specs.Responding.{Responding, connection_of, 
 
 use crate::giving_back::end_responder;
 use crate::open_responder::OpenResponder;
-use crate::packet_outcome::{PacketOutcome, heard_told};
 use crate::responder_handle::ResponderHandle;
 use crate::responder_set_up::{ResponderFault, open_responder};
+use crate::told::{Told, heard_told};
 use crate::writing::write_packet;
 use crate::{Block, KnownRequester, ResponderConfig, codes};
 use spdm_basis::Eid;
@@ -65,7 +65,7 @@ impl ResponderHandle {
     /// those before. A refused request changes nothing in the sessions but the record numbers, the stored response and
     /// the clock of the session that its record names; the connections with other endpoints than the source of the packet
     /// stay as they were.
-    pub fn on_packet(&mut self, alloc: Global, packet: &[u8], told: &mut PacketOutcome) -> u32
+    pub fn on_packet(&mut self, alloc: Global, packet: &[u8], told: &mut Told) -> u32
         ensures step { (r : Responding) (sends : List (List ℕ))
             → HoldsResponder self.old.kept.held r sends
             → (result ≡ OK) × (told.new ≡ heard_told (responder_hears r packet.now).heard)

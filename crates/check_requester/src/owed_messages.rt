@@ -6,14 +6,14 @@ ghost use Rattle.requester_machine.specs.Message as message;
 ghost use Rattle.requester_machine.specs.Message.{Sent, body_of};
 ghost use Rattle.requester_machine.specs.Message.Aim.{InSession};
 ghost use Rattle.requester_machine.specs.Setup.{ReqSetup};
-ghost use Rattle.check_requester.specs.JudgedRequester.{IsKeptSetup, IsSentOwed, is_first_chunk};
+ghost use Rattle.check_requester.specs.Asker.{IsKeptSetup, IsSentOwed, is_first_chunk};
 ghost use Rattle.requester_machine.specs.Owed.{with_next};
 ghost use Rattle.spdm_grammar.specs.declared.names.TheConstants.{MAX_BODY_SIZE};
 
-use crate::judged_setup::JudgedSetup;
+use crate::asker_setup::AskerSetup;
 use check_laws::byte_at;
 use psk_session::InnerPair;
-use requester_core::{Body, Command, FreeValues, RequesterCore};
+use requester_core::{Asking, Body, Command, FreeValues};
 use spdm_grammar::names::message_type::SECURED;
 use spdm_grammar::names::request_code::CHUNK_SEND;
 
@@ -28,11 +28,7 @@ pub fn is_first_chunk(body: &[u8]) -> bool
 }
 
 // Whether a message is outstanding, whose body overwrites `room`. Which values are free does not matter.
-pub(crate) fn write_outstanding(
-    asking: &mut RequesterCore,
-    setup: &JudgedSetup,
-    room: &mut Body,
-) -> bool
+pub(crate) fn write_outstanding(asking: &mut Asking, setup: &AskerSetup, room: &mut Body) -> bool
     ensures waits { (q : ReqSetup) (h : History) → IsKeptSetup setup.now q
         → length h < 2 ^ 64 - 1 → StandsFor asking.old q h → result ≡ is_some (outstanding h) }
     ensures stands { (q : ReqSetup) (h : History) → IsKeptSetup setup.now q
@@ -53,7 +49,7 @@ pub(crate) fn write_outstanding(
 }
 
 // Takes a body as the record that is owed.
-fn take_record(asking: &mut RequesterCore, pair: &mut InnerPair, body: &[u8]) -> bool
+fn take_record(asking: &mut Asking, pair: &mut InnerPair, body: &[u8]) -> bool
     ensures { (q : ReqSetup) (bare : History) (sent : Sent) (id : ℕ) (ask : message.Ask)
         → TookLast bare id → sent.aim ≡ InSession id ask → length body.now ≤ MAX_BODY_SIZE
         → StandsFor asking.old q (with_next (Some sent) bare)
@@ -68,8 +64,8 @@ fn take_record(asking: &mut RequesterCore, pair: &mut InnerPair, body: &[u8]) ->
 // Takes a body of at most 4,161 bytes as the message that is owed: whether it is that, with some padding where it is a
 // record.
 pub(crate) fn sends_owed(
-    asking: &mut RequesterCore,
-    setup: &JudgedSetup,
+    asking: &mut Asking,
+    setup: &AskerSetup,
     room: &mut Body,
     pair: &mut InnerPair,
     body: &[u8],

@@ -1,5 +1,5 @@
 pub mod AnswerKeys
-pub mod JudgedResponder
+pub mod Answerer
 pub mod ClearAnswers
 pub mod Given
 pub mod Opening

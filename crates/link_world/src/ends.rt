@@ -6,7 +6,7 @@ use spdm_basis::Eid;
 
 /// A requester and its endpoint ID.
 #[derive(Drop)]
-pub struct AddressedRequester {
+pub struct Asker {
     pub(crate) eid: Eid,
     pub(crate) requester: Requester,
 }
@@ -14,7 +14,7 @@ pub struct AddressedRequester {
 /// The endpoints of a world: the requesters, in order, and the responder.
 #[derive(Drop)]
 pub struct Ends {
-    pub(crate) requesters: Vec<AddressedRequester>,
+    pub(crate) requesters: Vec<Asker>,
     /// The endpoint ID of the responder.
     pub(crate) eid: Eid,
     pub(crate) responder: Responder,

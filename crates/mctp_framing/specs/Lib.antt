@@ -7,4 +7,3 @@ pub mod Answers
 pub mod Spans
 pub mod CutAndGather
 pub mod Lending
-pub mod Completing

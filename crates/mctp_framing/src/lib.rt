@@ -7,7 +7,6 @@
 
 mod assembler;
 mod body_buffer;
-mod completing;
 mod cutter;
 mod laws;
 mod packet;
@@ -16,7 +15,6 @@ mod route;
 mod unfinished;
 
 pub use assembler::{Assembler, Fed};
-pub use completing::Completing;
 pub use cutter::{Cutter, PacketBuf, cut};
 pub use laws::{
     cut_is_gathered, first_packet_begins_anew, others_count_in_nothing, packets_fit,

@@ -3,4 +3,3 @@ mod FieldLines
 mod Covering
 mod CoveredRequests
 mod CoveredResponses
-mod JsonLines

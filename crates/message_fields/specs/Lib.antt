@@ -4,5 +4,3 @@ pub mod Tables
 pub mod Pieces
 pub mod Covering
 pub mod Texts
-pub mod Json
-pub mod JsonFields

@@ -6,11 +6,11 @@ use spdm_basis::{Bytes, OutOfMemory};
 use trace_text::add_word;
 
 // How many bits the field has.
-pub(crate) const BITS: u32 = 32;
+const BITS: u32 = 32;
 
 // The flag of a bit.
 #[tactic(auto, unfolding(crate::specs::Flags::flag_name))]
-pub(crate) fn flag_name(bit: u32) -> &'static [u8]
+fn flag_name(bit: u32) -> &'static [u8]
     ensures { result.now ≡ flag_name bit }
 {
     match bit {

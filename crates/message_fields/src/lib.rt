@@ -6,18 +6,12 @@
 
 mod field;
 mod flags;
-mod json;
-mod json_fields;
 mod laws;
 mod names;
 mod tables;
 mod texts;
 
 pub use field::{Field, FieldList};
-pub use json::{
-    add_bytes_member, add_name, add_next_name, add_number_member, add_string, add_string_member,
-};
-pub use json_fields::add_json_fields;
 pub use laws::{fields_cover, pieces_are_whole};
 pub use names::{Form, Name};
 pub use tables::{record_fields, request_fields, response_fields};

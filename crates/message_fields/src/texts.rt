@@ -8,7 +8,7 @@ use spdm_basis::{Bytes, OutOfMemory};
 use trace_text::{add_hex, add_number, add_word, end_text_line};
 
 // The number that at most four bytes are, with the low byte first; 0 for more.
-pub(crate) fn number_in(bytes: &[u8]) -> u64
+fn number_in(bytes: &[u8]) -> u64
     ensures { result ≡ number_of bytes.now }
 {
     if bytes.len() > 4 {

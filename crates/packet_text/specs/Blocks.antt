@@ -120,3 +120,8 @@ with_inside text packet (Ok p) = with_payload (with_line text (header_words (tak
 
 unfoldable pub block_of : ScriptConfig → (number : ℕ) → List ℕ → List ℕ
 block_of config number packet = with_inside (with_head [] config number packet) packet (parsed packet) ++ 10 ∷ []
+
+-- The blocks of packets, of which the first has this number.
+abbrev pub blocks_from : ScriptConfig → ℕ → List (List ℕ) → List ℕ
+blocks_from config number [] = []
+blocks_from config number (packet ∷ others) = block_of config number packet ++ blocks_from config (number + 1) others

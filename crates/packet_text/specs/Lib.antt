@@ -1,5 +1,3 @@
 pub mod Readings
 pub mod Blocks
-pub mod JsonBlocks
-pub mod Styles
 pub mod Told

@@ -5,18 +5,17 @@ use Rattle.script_text.specs.declared.texts.faults.LineFault.TheVariants.{TooMan
 use Rattle.script_text.specs.declared.texts.faults.ScriptFault.{ScriptFault}
 use Rattle.script_text.specs.declared.texts.faults.ScriptFault.TheVariants as fault
 use Rattle.script_text.specs.declared.texts.script.Capture.{Capture}
-use Rattle.packet_text.specs.Styles.{written_from}
-use Rattle.packet_text.specs.declared.style.Style.{Style}
+use Rattle.packet_text.specs.Blocks.{blocks_from}
 use Rattle.packet_text.specs.declared.writing.PacketsFault.{PacketsFault}
 use Rattle.packet_text.specs.declared.writing.PacketsFault.TheVariants as told
 
--- What is written of the packets of a capture, and nothing where a line of the text is bad.
-abbrev pub written_by : Style → Result Capture ScriptFault → List ℕ
-written_by style (Ok capture) = written_from style capture.config 1 capture.packets
-written_by style (Err fault) = []
+-- The blocks of the packets of a capture, and none where a line of the text is bad.
+abbrev pub blocks_by : Result Capture ScriptFault → List ℕ
+blocks_by (Ok capture) = blocks_from capture.config 1 capture.packets
+blocks_by (Err fault) = []
 
-unfoldable pub packets_text : Style → List ℕ → List ℕ
-packets_text style text = written_by style (capture_in text)
+unfoldable pub packets_text : List ℕ → List ℕ
+packets_text text = blocks_by (capture_in text)
 
 -- The fault of a text, as it is reported.
 abbrev pub told_of : ScriptFault → PacketsFault

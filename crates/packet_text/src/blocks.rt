@@ -22,8 +22,8 @@ fn add_payload(view: &PacketView<'_>, text: &mut Bytes) -> Result<(), OutOfMemor
     end_text_line(text)
 }
 
-/// The first four bytes of a packet, or all where there are fewer.
-pub(crate) fn header_of(packet: &[u8]) -> &[u8]
+// The first four bytes of a packet, or all where there are fewer.
+fn header_of(packet: &[u8]) -> &[u8]
     ensures { result.now ≡ take 4 packet.now }
 {
     if packet.len() < 4 {

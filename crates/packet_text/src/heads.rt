@@ -35,8 +35,8 @@ fn add_place(eid: u8, place: Option<usize>, text: &mut Bytes) -> Result<(), OutO
     }
 }
 
-/// The place of the requester with this endpoint, if there is one.
-pub(crate) fn place_of(config: &ScriptConfig, eid: u8) -> Option<usize>
+// The place of the requester with this endpoint, if there is one.
+fn place_of(config: &ScriptConfig, eid: u8) -> Option<usize>
     ensures { result ≡ position_from (has_eid eid) 0 config.now.requesters }
 {
     config
@@ -56,8 +56,8 @@ fn add_end(config: &ScriptConfig, eid: u8, text: &mut Bytes) -> Result<(), OutOf
     add_place(eid, place_of(config, eid), text)
 }
 
-/// The word for why bytes are no packet.
-pub(crate) fn fault_word(fault: PacketFault) -> &'static [u8]
+// The word for why bytes are no packet.
+fn fault_word(fault: PacketFault) -> &'static [u8]
     ensures { result.now ≡ fault_word fault }
 {
     match fault {
@@ -98,8 +98,8 @@ pub(crate) fn add_head(
     end_text_line(text)
 }
 
-/// A bit as a number.
-pub(crate) fn bit(is_set: bool) -> u8
+// A bit as a number.
+fn bit(is_set: bool) -> u8
     ensures { result ≡ bit is_set }
 {
     if is_set { 1 } else { 0 }

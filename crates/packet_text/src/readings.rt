@@ -39,7 +39,7 @@ fn is_response(bytes: &[u8], hash_len: usize, has_summary: bool) -> bool
 
 /// The length of a hash under which bytes are read as a request.
 #[tactic(auto, unfolding(crate::specs::Readings::request_hash))]
-pub fn request_hash(bytes: &[u8]) -> usize
+pub(crate) fn request_hash(bytes: &[u8]) -> usize
     ensures { result ≡ request_hash bytes.now }
 {
     if is_request(bytes, SHA_256) {
@@ -53,7 +53,7 @@ pub fn request_hash(bytes: &[u8]) -> usize
 
 /// What decides how bytes are read as a response.
 #[tactic(auto, unfolding(crate::specs::Readings::response_lengths))]
-pub fn response_lengths(bytes: &[u8]) -> Lengths
+pub(crate) fn response_lengths(bytes: &[u8]) -> Lengths
     ensures { result ≡ response_lengths bytes.now }
 {
     let (hash_len, has_summary) = if is_response(bytes, SHA_256, false) {

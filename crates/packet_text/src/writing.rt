@@ -1,28 +1,26 @@
 ghost use Rattle.std.specs.Prelude.{◌≡◌, ◌≤◌, ℕ, Err, length, is_ok, true, IsErrOf, OnErr, OnOk};
-ghost use Rattle.packet_text.specs.Styles.{written_from, written_of};
+ghost use Rattle.packet_text.specs.Blocks.{block_of, blocks_from};
 ghost use Rattle.packet_text.specs.Told.{IsBad, packets_text, told_of};
 ghost use Rattle.script_text.specs.ScriptText.{capture_in};
 ghost use Rattle.script_text.specs.declared.texts.faults.LineFault.{LineFault};
 ghost use Rattle.spdm_basis.specs.Stream.{HasFault, Takes, TakesPrefix};
 
-use crate::Style;
 use crate::blocks::set_block;
-use crate::json_blocks::set_object;
 use script_text::{LineFault, ScriptConfig, ScriptFault, TEXT_LIMIT, parse_capture};
-use spdm_basis::{Bytes, OutOfMemory, Sink, write_all};
+use spdm_basis::{Bytes, Sink, write_all};
 use std::alloc::Global;
 use thiserror::Error;
 
-/// Why not all packets of a capture were written.
+/// Why not all blocks of a capture were written.
 #[derive(Clone, Copy, Debug, PartialEq, Eq, Error)]
 pub enum PacketsFault {
     /// The first bad line, counted from 1, and its first fault. Nothing was written.
     #[error("line {0}: {1}")]
     Line(u32, LineFault),
-    /// Writing failed, after a part of the output.
+    /// Writing failed, after a part of the blocks.
     #[error("writing failed")]
     WriteFault,
-    /// Out of memory, possibly after a part of the output.
+    /// Out of memory, possibly after a part of the blocks.
     #[error("out of memory")]
     OutOfMemory,
 }
@@ -39,41 +37,24 @@ impl From<ScriptFault> for PacketsFault {
     }
 }
 
-// Overwrites a text with what is written of a packet.
-fn set_written(
-    style: Style,
-    config: &ScriptConfig,
-    number: usize,
-    packet: &[u8],
-    text: &mut Bytes,
-) -> Result<(), OutOfMemory>
-    ensures { OnOk result (text.new ≡ written_of style config.now number packet.now) }
-{
-    match style {
-        Style::Words => set_block(config, number, packet, text),
-        Style::Json => set_object(config, number, packet, text),
-    }
-}
-
-// Writes a packet.
-fn write_packet<K: Sink>(
-    style: Style,
+// Writes the block of a packet.
+fn write_block<K: Sink>(
     config: &ScriptConfig,
     number: usize,
     packet: &[u8],
     text: &mut Bytes,
     sink: &mut K,
 ) -> Result<(), PacketsFault>
-    ensures whole { OnOk result (Takes (K.contents sink.old)
-        (written_of style config.now number packet.now) (K.contents sink.new)) }
+    ensures whole { OnOk result (Takes (K.contents sink.old) (block_of config.now number packet.now)
+        (K.contents sink.new)) }
     ensures prefix { OnErr result (TakesPrefix (K.contents sink.old)
-        (written_of style config.now number packet.now) (K.contents sink.new)) }
+        (block_of config.now number packet.now) (K.contents sink.new)) }
     ensures fault { IsErrOf result PacketsFault.WriteFault
         → HasFault (K.faults sink.old) (K.faults sink.new) }
     ensures no_line { (line : ℕ) (f : LineFault) → result ≡ Err (PacketsFault.Line line f) → ⊥ }
     ensures later { K.faults sink.old ≤ K.faults sink.new }
 {
-    let Ok(()) = set_written(style, config, number, packet, text) else {
+    let Ok(()) = set_block(config, number, packet, text) else {
         return Err(PacketsFault::OutOfMemory);
     };
     match write_all(sink, text.as_slice()) {
@@ -82,18 +63,17 @@ fn write_packet<K: Sink>(
     }
 }
 
-// Writes each packet, counted from 1.
-fn write_each<K: Sink>(
+// Writes the block of each packet, counted from 1.
+fn write_all_blocks<K: Sink>(
     alloc: Global,
-    style: Style,
     config: &ScriptConfig,
     packets: &[Bytes],
     sink: &mut K,
 ) -> Result<(), PacketsFault>
-    ensures whole { OnOk result (Takes (K.contents sink.old)
-        (written_from style config.now 1 packets.now) (K.contents sink.new)) }
+    ensures whole { OnOk result (Takes (K.contents sink.old) (blocks_from config.now 1 packets.now)
+        (K.contents sink.new)) }
     ensures prefix { OnErr result (TakesPrefix (K.contents sink.old)
-        (written_from style config.now 1 packets.now) (K.contents sink.new)) }
+        (blocks_from config.now 1 packets.now) (K.contents sink.new)) }
     ensures fault { IsErrOf result PacketsFault.WriteFault
         → HasFault (K.faults sink.old) (K.faults sink.new) }
     ensures no_line { (line : ℕ) (f : LineFault) → result ≡ Err (PacketsFault.Line line f) → ⊥ }
@@ -101,7 +81,7 @@ fn write_each<K: Sink>(
 {
     let mut text = Bytes::new(alloc);
     for (index, packet) in packets.iter().enumerate() {
-        match write_packet(style, config, index + 1, packet.as_slice(), &mut text, sink) {
+        match write_block(config, index + 1, packet.as_slice(), &mut text, sink) {
             Ok(()) => {}
             Err(fault) => return Err(fault),
         }
@@ -109,18 +89,13 @@ fn write_each<K: Sink>(
     Ok(())
 }
 
-/// Writes each packet of the capture that a text of at most 4 MiB is, in a style.
+/// Writes a block of lines for each packet of the capture that a text of at most 4 MiB is.
 #[tactic(auto, unfolding(crate::specs::Told::packets_text))]
-pub fn write_packets<K: Sink>(
-    alloc: Global,
-    style: Style,
-    text: &[u8],
-    sink: &mut K,
-) -> Result<(), PacketsFault>
+pub fn write_blocks<K: Sink>(alloc: Global, text: &[u8], sink: &mut K) -> Result<(), PacketsFault>
     requires { length text.now ≤ TEXT_LIMIT }
-    ensures whole { OnOk result (Takes (K.contents sink.old) (packets_text style text.now)
+    ensures whole { OnOk result (Takes (K.contents sink.old) (packets_text text.now)
         (K.contents sink.new)) }
-    ensures prefix { OnErr result (TakesPrefix (K.contents sink.old) (packets_text style text.now)
+    ensures prefix { OnErr result (TakesPrefix (K.contents sink.old) (packets_text text.now)
         (K.contents sink.new)) }
     ensures read { OnOk result (is_ok (capture_in text.now) ≡ true) }
     ensures bad_line { (line : ℕ) (f : LineFault) → result ≡ Err (PacketsFault.Line line f)
@@ -133,11 +108,5 @@ pub fn write_packets<K: Sink>(
     ensures later { K.faults sink.old ≤ K.faults sink.new }
 {
     let capture = parse_capture(alloc, text)?;
-    write_each(
-        alloc,
-        style,
-        &capture.config,
-        capture.packets.as_slice(),
-        sink,
-    )
+    write_all_blocks(alloc, &capture.config, capture.packets.as_slice(), sink)
 }

@@ -7,7 +7,7 @@ pub mod Kept
 pub mod ReqOpen
 pub mod Course
 pub mod Waiting
-pub mod SessionRequest
+pub mod Asking
 pub mod AskTook
 pub mod AskLaws
 pub mod Verdict

@@ -4,7 +4,6 @@
 //! are `Requester::command` and `Requester::on_packet`.
 #![tactic(auto)]
 
-mod busy;
 mod config;
 mod fault;
 mod hearing;

@@ -1,4 +1,4 @@
-use crate::{ClearState, Sessions};
+use crate::{Sessions, Talk};
 use chunking::Collector;
 use negotiate::Common;
 use spdm_basis::Frame;
@@ -7,16 +7,17 @@ use spdm_grammar::{Choice, Phase, SessionList, SessionView};
 /// A requester (DSP0274, section 10), with every free value handed in: the clear part, the part received so far of a
 /// large response in the clear, and the sessions. Fixed size; never allocates.
 #[derive(Drop)]
-pub struct RequesterCore {
-    pub(crate) clear_state: ClearState,
+pub struct Asking {
+    pub(crate) talk: Talk,
     pub(crate) gathered: Collector,
     pub(crate) sessions: Sessions,
     // Scratch space for the clear message last sent or received, so that no call zeroes a buffer of its own.
     pub(crate) message: Frame,
 }
 
-impl RequesterCore {
-    ghost use Rattle.std.specs.Prelude.{◌≡◌, ◌≤◌, ◌<◌, ◌^◌, ◌-◌, [], length};
+impl Asking {
+    ghost use Rattle.spdm_grammar.specs.declared.names.TheConstants.{MAX_MESSAGE_SIZE};
+    ghost use Rattle.std.specs.Prelude.{replicate, ◌≡◌, ◌≤◌, ◌<◌, ◌^◌, ◌-◌, [], length};
     ghost use Rattle.requester_core.specs.Joined.{StandsFor};
     ghost use Rattle.requester_core.specs.Slot.{shown_of};
     ghost use Rattle.requester_core.specs.Wiped.{IsWiped};
@@ -28,29 +29,32 @@ impl RequesterCore {
     ghost use Rattle.requester_machine.specs.Shown.{last_data, views_of};
 
     /// The initial state of a requester with this MaxSPDMmsgSize.
-    pub fn new(max: u32) -> RequesterCore
+    pub fn new(max: u32) -> Asking
         ensures { (q : ReqSetup) → q.max ≡ max → StandsFor result q [] }
     {
-        RequesterCore {
-            clear_state: ClearState::new(),
+        Asking {
+            talk: Talk::new(),
             gathered: Collector::new(max),
             sessions: Sessions::new(),
             message: Frame::new(),
         }
     }
 
-    /// Overwrites the keys and the plaintexts of each session in place. Not to be gone on with.
+    /// Overwrites the keys and the plaintexts of each session in place, and the data that were brought last. Not to be
+    /// gone on with.
     pub fn wipe(&mut self)
-        ensures { IsWiped self.new.sessions }
+        ensures sessions { IsWiped self.new.sessions }
+        ensures brought { self.new.talk.brought ≡ replicate MAX_MESSAGE_SIZE 0 }
     {
         self.sessions.wipe();
+        self.talk.wipe();
     }
 
     /// The phase of the negotiation.
     pub fn phase(&self) -> Phase
         ensures { (q : ReqSetup) (h : History) → StandsFor self.now q h → result ≡ phase_of h }
     {
-        self.clear_state.phase()
+        self.talk.phase()
     }
 
     /// The algorithms negotiated so far.
@@ -58,7 +62,7 @@ impl RequesterCore {
         ensures { (q : ReqSetup) (h : History) → StandsFor self.now q h
             → result ≡ (connection_terms h).choice }
     {
-        self.clear_state.choice()
+        self.talk.choice()
     }
 
     /// The common capabilities negotiated so far.
@@ -66,14 +70,14 @@ impl RequesterCore {
         ensures { (q : ReqSetup) (h : History) → StandsFor self.now q h
             → result.now ≡ (connection_terms h).common }
     {
-        self.clear_state.common()
+        self.talk.common()
     }
 
     /// The handle of the next large request.
     pub fn next_handle(&self) -> u8
         ensures { (q : ReqSetup) (h : History) → StandsFor self.now q h → result ≡ next_handle h }
     {
-        self.clear_state.next_handle()
+        self.talk.next_handle()
     }
 
     /// The least unused ReqSessionID; 4 if there is none.
@@ -107,6 +111,6 @@ impl RequesterCore {
         ensures { (q : ReqSetup) (h : History) → StandsFor self.now q h
             → result.now ≡ last_data h }
     {
-        self.clear_state.last_data()
+        self.talk.last_data()
     }
 }

@@ -10,6 +10,3 @@ pub mod Taking
 pub mod Making
 pub mod Waiting
 pub mod Harmless
-pub mod Brings
-pub mod Caused
-pub mod Marked

@@ -2,15 +2,15 @@ pub mod Setup
 pub mod Negotiating
 pub mod Contents
 pub mod Free
-pub mod ClearState
+pub mod Standing
 pub mod Answering
 pub mod Refused
 pub mod Taking
 pub mod Gathering
-pub mod HandledRequest
+pub mod Handled
 pub mod Coming
 pub mod ClearPart
-pub mod LiveSession
+pub mod Live
 pub mod Wiped
 pub mod Sessions
 pub mod NoSessions
@@ -24,4 +24,3 @@ pub mod Pending
 pub mod Trying
 pub mod UnseenRequests
 pub mod LateFetch
-pub mod Silence

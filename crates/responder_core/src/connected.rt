@@ -4,8 +4,8 @@ ghost use Rattle.spdm_grammar.specs.declared.names.TheConstants.{MAX_APP_DATA_LE
 
 use crate::clear::clear_part::code_at;
 use crate::wiping::wipe_queue;
-use crate::{ClearOutcome, ClearPart, ExchangeOrigin, FreeValues, Sessions, Setup};
-use responder_session::{AppQueue, QueueFault, ResponseValues, Work};
+use crate::{Begun, ClearPart, FreeValues, Sessions, Setup, Told};
+use responder_session::{AppQueue, QueueFault, RecordFree, Work};
 use spdm_basis::{Frame, RecordFrame};
 use spdm_grammar::Heard;
 use spdm_grammar::names::request_code::GET_MEASUREMENTS;
@@ -50,7 +50,7 @@ impl Connection {
     ghost use Rattle.responder_machine.specs.Place.{clear_place};
     ghost use Rattle.responder_machine.specs.Responder.{on_clear, on_record};
     ghost use Rattle.responder_machine.specs.Setup.{RspSetup};
-    ghost use Rattle.responder_session.specs.RequestEffects.{AreFree};
+    ghost use Rattle.responder_session.specs.Deeds.{AreFree};
     ghost use Rattle.responder_session.specs.Queue.{queue_fault};
     ghost use Rattle.spdm_machine.specs.Bodies.{clear_body};
     ghost use Rattle.spdm_machine.specs.Keys.{Draw};
@@ -111,19 +111,19 @@ impl Connection {
     {
         let held = self.sessions.held();
         match self.clear.on_clear(setup, held, tag, message, free, out) {
-            ClearOutcome::Heard { heard, drawn } => {
+            Told::Heard { heard, drawn } => {
                 self.sessions.follow(heard);
                 self.drawn = drawn;
                 heard
             }
-            ClearOutcome::Begins(begun) => self.begin(begun, setup, tag, message, free, out),
+            Told::Begins(begun) => self.begin(begun, setup, tag, message, free, out),
         }
     }
 
     // Ends the turn of a clear message that begins a session.
     fn begin(
         &mut self,
-        begun: ExchangeOrigin,
+        begun: Begun,
         setup: &Setup<'_>,
         tag: u8,
         message: &[u8],
@@ -159,7 +159,7 @@ impl Connection {
         &mut self,
         setup: &Setup<'_>,
         sealed: &[u8],
-        free: &ResponseValues<'_>,
+        free: &RecordFree<'_>,
         work: &mut Work,
         out: &mut RecordFrame,
     ) -> Heard
@@ -211,10 +211,10 @@ impl Connection {
     }
 
     /// Removes the session with this RspSessionID, as if it timed out without a trace in the capture.
-    pub fn expire(&mut self, id: u16)
+    pub fn drop_unseen(&mut self, id: u16)
         ensures { (r : RspSetup) (h : History) → StandsFor self.old r h
             → StandsFor self.new r (Dropped id ∷ h) }
     {
-        self.sessions.expire(id);
+        self.sessions.drop_unseen(id);
     }
 }

@@ -46,5 +46,3 @@ mod PinnedCounts
 pub mod Making
 pub mod Connected
 pub mod Runs
-pub mod Brought
-pub mod QueuedBrings

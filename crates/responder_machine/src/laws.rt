@@ -72,7 +72,7 @@ pub fn free_id_is_free()
     ensures { FreeIdIsFree }
 {}
 
-/// At most four sessions with an id from 1 to 4 are established.
+/// At most four sessions with an id from 1 to 4 are live past their handshake.
 pub fn four_are_held_at_most()
     ensures { FourAreHeldAtMost }
 {}
@@ -142,7 +142,7 @@ pub fn refused_clear_keeps_connection()
     ensures { RefusedClearKeepsConnection }
 {}
 
-/// At most four sessions of a history that the responder made are established.
+/// Sessions of a history that the responder made that are live past their handshake are four at most.
 pub fn held_are_few()
     ensures { HeldAreFew }
 {}

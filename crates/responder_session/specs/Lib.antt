@@ -12,7 +12,7 @@ pub mod Took
 pub mod EndedTook
 pub mod Queue
 pub mod Updates
-pub mod RequestEffects
+pub mod Deeds
 pub mod Judged
 pub mod Laws
 pub mod Reply

@@ -2,7 +2,7 @@ ghost use Rattle.std.specs.Prelude.{◌≡◌, ◌≤◌, length};
 ghost use Rattle.spdm_grammar.specs.declared.names.TheConstants.{MAX_APP_DATA_LEN, MAX_PADDING, MAX_RECORDS};
 ghost use Rattle.secured_record.specs.declared.TheConstants.{MAX_RECORD_SIZE};
 
-use crate::request_effect::RequestEffect;
+use crate::deed::Deed;
 use crate::{RspAct, RspSession};
 use responder_rules::write_large_response;
 use session_keys::{APP_DATA, byte_at};
@@ -43,7 +43,7 @@ impl RspSession {
     ghost use Rattle.spdm_grammar.specs.declared.messages.error_code.ErrorCode.{ErrorCode};
     ghost use Rattle.spdm_grammar.specs.declared.names.TheConstants.{MAX_MESSAGE_SIZE};
     ghost use Rattle.spdm_grammar.specs.declared.told.phase.Stage.TheVariants.{Handshake, Open, Verifying};
-    ghost use Rattle.responder_session.specs.RequestEffects.{IsFit, is_quiet, is_whole, large_turn, turn_for};
+    ghost use Rattle.responder_session.specs.Deeds.{IsFit, is_quiet, is_whole, large_turn, turn_for};
     ghost use Rattle.responder_session.specs.Session.{StandsFor, IsEnded};
     ghost use Rattle.responder_session.specs.Took.{IsMoved};
     ghost use Rattle.responder_session.specs.Turns.{answered_turn, heard_by};
@@ -248,7 +248,7 @@ impl RspSession {
     pub(crate) fn apply(
         &mut self,
         opened: &Opened<'_>,
-        deed: &RequestEffect<'_>,
+        deed: &Deed<'_>,
         answer: &mut Frame,
         inner: &mut RecordFrame,
     ) -> RspAct
@@ -264,7 +264,7 @@ impl RspSession {
             self.new result }
     {
         match deed {
-            RequestEffect::Large { op: _, handle } => {
+            Deed::Large { op: _, handle } => {
                 self.answer_large(opened, answer, *handle, inner);
                 RspAct::Answered(byte_at(opened.message, 1))
             }
@@ -276,7 +276,7 @@ impl RspSession {
     fn apply_whole(
         &mut self,
         opened: &Opened<'_>,
-        deed: &RequestEffect<'_>,
+        deed: &Deed<'_>,
         answer: &[u8],
         inner: &mut RecordFrame,
     ) -> RspAct
@@ -294,40 +294,40 @@ impl RspSession {
     {
         let answered = RspAct::Answered(byte_at(opened.message, 1));
         match deed {
-            RequestEffect::Refused(code) => {
+            Deed::Refused(code) => {
                 self.refuse(opened, answer, inner);
                 RspAct::Refused(code.number())
             }
-            RequestEffect::Data => {
+            Deed::Data => {
                 self.take_data(opened, answer, inner);
                 RspAct::Data
             }
-            RequestEffect::Finished { verify: _ } => {
+            Deed::Finished { verify: _ } => {
                 self.open(opened, answer, inner);
                 answered
             }
-            RequestEffect::Alive => {
+            Deed::Alive => {
                 self.answer(opened, answer, inner);
                 answered
             }
-            RequestEffect::Measured { op: _ } => {
+            Deed::Measured { op: _ } => {
                 self.answer(opened, answer, inner);
                 answered
             }
-            RequestEffect::Large { op: _, handle: _ } => answered,
-            RequestEffect::Update { all, tag: _ } => {
+            Deed::Large { op: _, handle: _ } => answered,
+            Deed::Update { all, tag: _ } => {
                 self.update(opened, *all, answer, inner);
                 answered
             }
-            RequestEffect::Verified { tag: _ } => {
+            Deed::Verified { tag: _ } => {
                 self.verify(opened, answer, inner);
                 answered
             }
-            RequestEffect::Ended => {
+            Deed::Ended => {
                 self.end(opened, answer, inner);
                 answered
             }
-            RequestEffect::Chunk {
+            Deed::Chunk {
                 handle: _,
                 number: _,
             } => {

@@ -9,6 +9,7 @@
 mod answer_key;
 mod answers;
 mod applying;
+mod deed;
 mod ended;
 mod exchange;
 mod handshake;
@@ -17,14 +18,12 @@ mod kept;
 mod last;
 mod last_read;
 mod laws;
-mod new_data;
 mod number;
 mod open;
 mod own_answers;
 mod parts;
 mod pending;
 mod queue;
-mod request_effect;
 mod requests;
 mod session;
 mod told;
@@ -34,6 +33,7 @@ mod wiping;
 mod work;
 
 pub use answer_key::AnswerKey;
+pub use deed::RecordFree;
 pub use ended::RspEnded;
 pub use handshake::RspHandshake;
 pub use laws::{
@@ -43,7 +43,6 @@ pub use laws::{
 pub use open::RspOpen;
 pub use parts::ExchangeParts;
 pub use queue::{AppQueue, QueueFault};
-pub use request_effect::ResponseValues;
 pub use session::RspSession;
 pub use told::{RspAct, RspTold};
 pub use took::{RspState, RspTook};

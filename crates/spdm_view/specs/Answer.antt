@@ -6,9 +6,6 @@ use Rattle.capture_pcap.specs.declared.into_file.ToPcapFault.{ToPcapFault}
 use Rattle.capture_pcap.specs.declared.into_file.ToPcapFault.TheVariants as to_pcap
 use Rattle.capture_pcap.specs.declared.out_of_file.FromPcapFault.{FromPcapFault}
 use Rattle.capture_pcap.specs.declared.out_of_file.FromPcapFault.TheVariants as from_pcap
-use Rattle.capture_picture.specs.Told as pictures
-use Rattle.capture_picture.specs.declared.writing.DrawFault.{DrawFault}
-use Rattle.capture_picture.specs.declared.writing.DrawFault.TheVariants as to_picture
 use Rattle.frame_stream.specs.Text.{text_of}
 use Rattle.packet_text.specs.Told as packets
 use Rattle.packet_text.specs.declared.writing.PacketsFault.{PacketsFault}
@@ -19,7 +16,7 @@ use Rattle.spdm_view.specs.declared.outcome.Outcome.{Outcome}
 use Rattle.spdm_view.specs.declared.outcome.Outcome.TheVariants.{Done, Usage, BadText, BadFile, ReadFault, WriteFault, OutOfMemory, TooLong}
 use Rattle.spdm_view.specs.declared.words.Word.{Word}
 use Rattle.spdm_view.specs.declared.words.TextWord.{TextWord}
-use Rattle.spdm_view.specs.declared.words.TextWord.TheVariants.{Packets, Pcap, Picture}
+use Rattle.spdm_view.specs.declared.words.TextWord.TheVariants.{Packets, Pcap}
 use Rattle.spdm_view.specs.declared.words.Word.TheVariants.{FromPcap, OfText}
 
 -- The longest text: 4 MiB.
@@ -28,9 +25,8 @@ text_limit = 4194304
 
 -- What a word writes of a text, and of an input.
 abbrev pub output_of_text : TextWord → List ℕ → List ℕ
-output_of_text (Packets style) text = packets.packets_text style text
+output_of_text Packets text = packets.packets_text text
 output_of_text Pcap text = files.pcap_of text
-output_of_text (Picture form) text = pictures.capture_picture form text
 
 abbrev pub output_of : Word → List ℕ → List ℕ
 output_of (OfText word) input = output_of_text word input
@@ -43,12 +39,6 @@ pcap_outcome (Ok done) = Done
 pcap_outcome (Err (to_pcap.Line line f)) = BadText line f
 pcap_outcome (Err to_pcap.WriteFault) = WriteFault
 pcap_outcome (Err to_pcap.OutOfMemory) = OutOfMemory
-
-abbrev pub picture_outcome : Result (Unit {0}) DrawFault → Outcome
-picture_outcome (Ok done) = Done
-picture_outcome (Err (to_picture.Line line f)) = BadText line f
-picture_outcome (Err to_picture.WriteFault) = WriteFault
-picture_outcome (Err to_picture.OutOfMemory) = OutOfMemory
 
 abbrev pub packets_outcome : Result (Unit {0}) PacketsFault → Outcome
 packets_outcome (Ok done) = Done
@@ -81,15 +71,13 @@ writes_nothing TooLong = true
 
 -- A text is what the word reads.
 abbrev pub is_good : TextWord → List ℕ → Bool
-is_good (Packets style) text = is_ok (capture_in text)
+is_good Packets text = is_ok (capture_in text)
 is_good Pcap text = is_ok (capture_in text)
-is_good (Picture form) text = is_ok (capture_in text)
 
 -- It has this first bad line, with this first fault.
 abbrev pub IsBadLine : TextWord → List ℕ → (line : ℕ) → LineFault → Type 0
-IsBadLine (Packets style) text line f = packets.IsBad (capture_in text) (to_words.Line line f)
+IsBadLine Packets text line f = packets.IsBad (capture_in text) (to_words.Line line f)
 IsBadLine Pcap text line f = files.IsBad (capture_in text) (to_pcap.Line line f)
-IsBadLine (Picture form) text line f = pictures.IsBad (capture_in text) (to_picture.Line line f)
 
 abbrev pub IsToldOfText : TextWord → List ℕ → Outcome → Type 0
 IsToldOfText word text Done = is_good word text ≡ true

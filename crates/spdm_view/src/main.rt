@@ -1,5 +1,5 @@
-//! The program `spdm_view`: it writes the packets of a capture in words or as JSON, a capture as a pcap file or as a
-//! picture, and a pcap file as a capture.
+//! The program `spdm_view`: it writes the packets of a capture in words, a capture as a pcap file, and a pcap file as a
+//! capture.
 //!
 //! Read first: `output_of` in `specs/Answer.antt`, what is written of an input. The call is `run`.
 #![tactic(auto)]
@@ -14,7 +14,7 @@ use std::process::ExitCode;
 use std::rt::Env;
 use std::{env, io};
 
-/// Runs the words after the program's name over standard input and output. What is wrong is told in a line of standard
+/// Runs the word after the program's name over standard input and output. What is wrong is told in a line of standard
 /// error, and the status is that of the outcome.
 fn main(rt: HostRuntime) -> ExitCode {
     let outcome = command(&rt);
@@ -44,9 +44,7 @@ fn given(rt: &(impl Env + AllocGlobal)) -> io::Result<Vec<String>> {
 fn tell(rt: &HostRuntime, outcome: Outcome) {
     let _ = match outcome {
         Outcome::Done => Ok(()),
-        Outcome::Usage => eprintln!(rt;
-            "one of the words: packets pcap picture from-pcap, or packets --json, or picture --mermaid"
-        ),
+        Outcome::Usage => eprintln!(rt; "one of the words: packets pcap from-pcap"),
         Outcome::BadText { line, fault } => eprintln!(rt; "line {line}: {fault:?}\n{fault}"),
         Outcome::BadFile { fault } => eprintln!(rt; "the file: {fault}"),
         Outcome::ReadFault => eprintln!(rt; "reading failed"),

@@ -6,7 +6,7 @@ use script_text::LineFault;
 pub enum Outcome {
     /// All was written.
     Done,
-    /// The words are none of the program. Nothing was read.
+    /// The words are not one word of the program. Nothing was read.
     Usage,
     /// The first bad line of the text, counted from 1, and its first fault. Nothing was written.
     BadText { line: u32, fault: LineFault },

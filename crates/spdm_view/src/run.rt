@@ -1,6 +1,6 @@
 ghost use Rattle.std.specs.Prelude.{◌≡◌, ◌≤◌, ◌<◌, ◌↔◌, ◌⊎◌, ℕ, List, [], Some, None, true, map, length, string_bytes};
 ghost use Rattle.spdm_basis.specs.Stream.{HasFault, Takes, TakesPrefix};
-ghost use Rattle.spdm_view.specs.Answer.{IsTold, IsToldOfFile, IsToldOfText, from_pcap_outcome, output_of, output_of_text, packets_outcome, pcap_outcome, picture_outcome, writes_nothing};
+ghost use Rattle.spdm_view.specs.Answer.{IsTold, IsToldOfFile, IsToldOfText, from_pcap_outcome, output_of, output_of_text, packets_outcome, pcap_outcome, writes_nothing};
 ghost use Rattle.spdm_view.specs.Words.{word_of};
 ghost use Rattle.spdm_view.specs.declared.words.Word.{Word};
 ghost use Rattle.spdm_view.specs.declared.words.Word.TheVariants.{FromPcap};
@@ -8,8 +8,7 @@ ghost use Rattle.spdm_view.specs.declared.words.Word.TheVariants.{FromPcap};
 use crate::outcome::Outcome;
 use crate::words::{TextWord, Word, word_of};
 use capture_pcap::{FromPcapFault, ToPcapFault, from_pcap, to_pcap};
-use capture_picture::{DrawFault, draw_capture};
-use packet_text::{PacketsFault, write_packets};
+use packet_text::{PacketsFault, write_blocks};
 use script_text::TEXT_LIMIT;
 use spdm_basis::{InFault, Sink, Source, read_all};
 use std::alloc::Global;
@@ -42,19 +41,7 @@ fn from_pcap_outcome(answer: Result<(), FromPcapFault>) -> Outcome
     }
 }
 
-// The outcome of a capture that was drawn.
-fn picture_outcome(answer: Result<(), DrawFault>) -> Outcome
-    ensures { result ≡ picture_outcome answer }
-{
-    match answer {
-        Ok(()) => Outcome::Done,
-        Err(DrawFault::Line(line, fault)) => Outcome::BadText { line, fault },
-        Err(DrawFault::WriteFault) => Outcome::WriteFault,
-        Err(DrawFault::OutOfMemory) => Outcome::OutOfMemory,
-    }
-}
-
-// The outcome of packets that were written.
+// The outcome of packets that were written in words.
 fn packets_outcome(answer: Result<(), PacketsFault>) -> Outcome
     ensures { result ≡ packets_outcome answer }
 {
@@ -82,9 +69,8 @@ fn write_text<K: Sink>(alloc: Global, word: TextWord, text: &[u8], sink: &mut K)
     ensures later { K.faults sink.old ≤ K.faults sink.new }
 {
     match word {
-        TextWord::Packets(style) => packets_outcome(write_packets(alloc, style, text, sink)),
+        TextWord::Packets => packets_outcome(write_blocks(alloc, text, sink)),
         TextWord::Pcap => pcap_outcome(to_pcap(alloc, text, sink)),
-        TextWord::Picture(form) => picture_outcome(draw_capture(alloc, form, text, sink)),
     }
 }
 
@@ -141,7 +127,7 @@ fn write_capture<S: Source, K: Sink>(alloc: Global, source: &mut S, sink: &mut K
     from_pcap_outcome(from_pcap(alloc, source, sink))
 }
 
-/// Reads an input for what the words ask for, and writes that.
+/// Reads an input for the one word, and writes what the word is asked for.
 pub fn run<S: Source, K: Sink>(
     alloc: Global,
     words: &[String],

@@ -1,18 +1,13 @@
 ghost use Rattle.std.specs.Prelude.{◌≡◌, map, string_bytes};
-ghost use Rattle.spdm_view.specs.Words.{styled_word, word_named, word_of};
-
-use packet_text::Style;
-use sequence_picture::Form;
+ghost use Rattle.spdm_view.specs.Words.{word_named, word_of};
 
 /// What is asked for of a text.
 #[derive(Clone, Copy, Debug, PartialEq, Eq)]
 pub enum TextWord {
-    /// The packets of a capture, in a style.
-    Packets(Style),
+    /// The packets of a capture in words.
+    Packets,
     /// The pcap file of a capture.
     Pcap,
-    /// The picture of a capture.
-    Picture(Form),
 }
 
 /// What the program is asked for.
@@ -28,11 +23,9 @@ fn named(word: &str) -> Option<Word>
     ensures { result ≡ word_named word.now }
 {
     if word == "packets" {
-        Some(Word::OfText(TextWord::Packets(Style::Words)))
+        Some(Word::OfText(TextWord::Packets))
     } else if word == "pcap" {
         Some(Word::OfText(TextWord::Pcap))
-    } else if word == "picture" {
-        Some(Word::OfText(TextWord::Picture(Form::Svg)))
     } else if word == "from-pcap" {
         Some(Word::FromPcap)
     } else {
@@ -40,28 +33,12 @@ fn named(word: &str) -> Option<Word>
     }
 }
 
-// The word with its option.
-#[tactic(auto, unfolding(crate::specs::Words::styled_word))]
-fn styled(word: &str, option: &str) -> Option<Word>
-    ensures { result ≡ styled_word word.now option.now }
-{
-    if word == "packets" && option == "--json" {
-        Some(Word::OfText(TextWord::Packets(Style::Json)))
-    } else if word == "picture" && option == "--mermaid" {
-        Some(Word::OfText(TextWord::Picture(Form::Mermaid)))
-    } else {
-        None
-    }
-}
-
-/// What these words ask for, if they are words of the program: one word, or one with its
-/// option.
+/// The word that these words are, if they are one.
 pub fn word_of(words: &[String]) -> Option<Word>
     ensures { result ≡ word_of (map string_bytes words.now) }
 {
     match words {
         [word] => named(word.as_str()),
-        [word, option] => styled(word.as_str(), option.as_str()),
         _ => None,
     }
 }

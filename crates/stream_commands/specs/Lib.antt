@@ -1,5 +1,5 @@
 pub mod Texts
-pub mod StreamStart
+pub mod Begun
 pub mod Outside
 pub mod SetUp
 pub mod InputEnds

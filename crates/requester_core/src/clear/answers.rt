@@ -7,13 +7,13 @@ ghost use Rattle.spdm_grammar.specs.Message.{RequestMessage, response_message};
 ghost use Rattle.spdm_grammar.specs.Requests.{canonical_request};
 ghost use Rattle.spdm_grammar.specs.declared.messages.malformed.Malformed.{Malformed};
 ghost use Rattle.spdm_grammar.specs.declared.names.TheConstants.{MAX_MESSAGE_SIZE};
-ghost use Rattle.requester_core.specs.ReplyOutcome.{IsAnswered};
+ghost use Rattle.requester_core.specs.Led.{IsAnswered};
 ghost use Rattle.requester_core.specs.Negotiating.{IsUpTo};
 ghost use Rattle.requester_core.specs.Setup.{IsSetUp};
-ghost use Rattle.requester_core.specs.ClearState.{Shows, StandsFor};
-ghost use Rattle.requester_core.specs.Outstanding.{kind_of};
+ghost use Rattle.requester_core.specs.Talk.{Shows, StandsFor};
+ghost use Rattle.requester_core.specs.Waiting.{kind_of};
 
-use crate::{ClearState, PendingRequest, ReplyOutcome, Setup};
+use crate::{Asked, ReplyOutcome, Setup, Talk};
 use spdm_basis::Frame;
 use spdm_grammar::{ReqIgnored, Response};
 
@@ -34,13 +34,13 @@ fn put(bytes: &[u8], out: &mut Frame)
     let _ = out.replace(bytes);
 }
 
-impl ClearState {
+impl Talk {
     // Handles the complete response to the outstanding request, of at most 4,096 bytes. It begins at this offset of its
     // message, near the front.
     fn on_response(
         &mut self,
         setup: &Setup<'_>,
-        asked: PendingRequest,
+        asked: Asked,
         answer: &[u8],
         response: Response<'_>,
         place: usize,
@@ -58,19 +58,19 @@ impl ClearState {
             (_, Response::Error { code, extended, .. }) => {
                 self.on_error(asked, code, extended, out)
             }
-            (PendingRequest::Version, Response::Version { entries }) => {
+            (Asked::Version, Response::Version { entries }) => {
                 self.on_version(setup, answer, entries, out)
             }
-            (PendingRequest::Capabilities, Response::Capabilities(theirs)) => {
+            (Asked::Capabilities, Response::Capabilities(theirs)) => {
                 self.on_capabilities(setup, answer, &theirs, out)
             }
-            (PendingRequest::Algorithms, Response::Algorithms(reply)) => {
+            (Asked::Algorithms, Response::Algorithms(reply)) => {
                 self.on_algorithms(setup, answer, &reply)
             }
-            (PendingRequest::Measurements { op }, Response::Measurements(measured)) => {
+            (Asked::Measurements { op }, Response::Measurements(measured)) => {
                 self.on_measurements(op, &measured)
             }
-            (PendingRequest::Exchange { .. }, Response::PskExchangeRsp(_)) => {
+            (Asked::Exchange { .. }, Response::PskExchangeRsp(_)) => {
                 put(answer, out);
                 ReplyOutcome::Exchange
             }
@@ -83,7 +83,7 @@ impl ClearState {
     pub(crate) fn on_answer(
         &mut self,
         setup: &Setup<'_>,
-        asked: PendingRequest,
+        asked: Asked,
         answer: &[u8],
         place: usize,
         out: &mut Frame,

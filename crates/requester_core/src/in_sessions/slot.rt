@@ -1,5 +1,5 @@
 ghost use Rattle.std.specs.Prelude.{◌≡◌, ◌≤◌, ◌<◌, ◌-◌, ◌^◌, ℕ, List, length};
-ghost use Rattle.requester_core.specs.RecordOutcome.{IsStepped, settled, told_led};
+ghost use Rattle.requester_core.specs.SessionLed.{IsStepped, settled, told_led};
 ghost use Rattle.requester_core.specs.Slot.{IsFinishing, IsResting};
 ghost use Rattle.requester_core.specs.SlotSteps.{IsAskedOf};
 ghost use Rattle.requester_core.specs.declared.in_sessions.slot.Slot.TheVariants as slot;
@@ -12,10 +12,9 @@ ghost use Rattle.requester_machine.specs.Session.{Steps, request_epoch, response
 ghost use Rattle.spdm_grammar.specs.declared.names.TheConstants.{MAX_PADDING};
 ghost use Rattle.secured_record.specs.declared.TheConstants.{MAX_RECORD_SIZE};
 
-use crate::RecordOutcome;
+use crate::SessionLed;
 use psk_session::{
-    AskFault, FinishTook, Finishing, OpenFault, Opening, Reply, ReqSession, ResponseOutcome,
-    SessionRequest,
+    Ask, AskFault, FinishTook, Finishing, OpenFault, Opening, Reply, ReqSession, Told,
 };
 use spdm_basis::{RecordFault, SessionId};
 use spdm_grammar::{CommandFault, Event, Finished, SessionView};
@@ -48,15 +47,15 @@ fn event_of(id: SessionId, reply: Reply) -> Event
 }
 
 // What is reported of a record in this session.
-fn led_as(id: SessionId, told: ResponseOutcome) -> RecordOutcome
+fn led_as(id: SessionId, told: Told) -> SessionLed
     ensures { result ≡ told_led id told }
 {
     match told {
-        ResponseOutcome::Answer(reply) => RecordOutcome::Rests(event_of(id, reply)),
-        ResponseOutcome::Next => RecordOutcome::Sends,
-        ResponseOutcome::Ended => RecordOutcome::Ends(Event::Done(Finished::Ended(id))),
-        ResponseOutcome::Bad(fault) => RecordOutcome::Ends(Event::Lost(id, fault)),
-        ResponseOutcome::Stay(fault) => RecordOutcome::Ignored(fault),
+        Told::Answer(reply) => SessionLed::Rests(event_of(id, reply)),
+        Told::Next => SessionLed::Sends,
+        Told::Ended => SessionLed::Ends(Event::Done(Finished::Ended(id))),
+        Told::Bad(fault) => SessionLed::Ends(Event::Lost(id, fault)),
+        Told::Stay(fault) => SessionLed::Ignored(fault),
     }
 }
 
@@ -72,21 +71,21 @@ fn fault_as(fault: AskFault) -> CommandFault
 }
 
 // A record for a session that awaits one.
-fn step(session: &mut ReqSession, sealed: &[u8], pad: &[u8]) -> RecordOutcome
+fn step(session: &mut ReqSession, sealed: &[u8], pad: &[u8]) -> SessionLed
     requires { length pad.now ≤ MAX_PADDING }
     ensures { (psk : List ℕ) (s : Steps) (a : message.Ask) → IsAwaiting session.old psk s a
         → request_epoch s < 2 ^ 64 - 1 → taken_of s < 2 ^ 64
         → IsStepped psk s a sealed.now pad.now (settled result (slot.Live session.new)) result }
 {
     if !session.is_awaiting() || session.request_epoch() == u64::MAX {
-        return RecordOutcome::Ignored(RecordFault::KeySpent);
+        return SessionLed::Ignored(RecordFault::KeySpent);
     }
     let id = session.view().id;
     led_as(id, session.take_with(sealed, pad))
 }
 
 // A record for a session that awaits PSK_FINISH_RSP.
-fn take_finish(state: Finishing, sealed: &[u8]) -> (Slot, RecordOutcome)
+fn take_finish(state: Finishing, sealed: &[u8]) -> (Slot, SessionLed)
     ensures { (psk : List ℕ) (s : Steps) (pad : List ℕ) → IsFinishing state psk s
         → IsStepped psk s AskFinish sealed.now pad (settled result.1 result.0) result.1 }
 {
@@ -94,20 +93,20 @@ fn take_finish(state: Finishing, sealed: &[u8]) -> (Slot, RecordOutcome)
     match state.take(sealed) {
         FinishTook::Open(open) => (
             Slot::Live(open.into_session()),
-            RecordOutcome::Rests(Event::Done(Finished::Opened(id))),
+            SessionLed::Rests(Event::Done(Finished::Opened(id))),
         ),
         // The session is gone: one of zeros is put over it, before its slot is emptied.
         FinishTook::Bad(_, fault) => (
             Slot::Live(ReqSession::wiped()),
-            RecordOutcome::Ends(Event::Lost(id, fault)),
+            SessionLed::Ends(Event::Lost(id, fault)),
         ),
-        FinishTook::Stay(state, fault) => (Slot::Finishing(state), RecordOutcome::Ignored(fault)),
+        FinishTook::Stay(state, fault) => (Slot::Finishing(state), SessionLed::Ignored(fault)),
     }
 }
 
 impl Slot {
     ghost use Rattle.std.specs.Prelude.{◌≡◌, ◌≤◌, ◌<◌, ◌-◌, ◌^◌, [], ℕ, List, None, Some, length};
-    ghost use Rattle.requester_core.specs.RecordOutcome.{IsStepped, settled};
+    ghost use Rattle.requester_core.specs.SessionLed.{IsStepped, settled};
     ghost use Rattle.requester_core.specs.Slot.{IsFinishingSlot, IsSlotOf, shown_of};
     ghost use Rattle.requester_core.specs.SlotSteps.{IsAcceptedBy, IsAskedOf};
     ghost use Rattle.requester_core.specs.Wiped.{IsWipedSlot};
@@ -154,7 +153,7 @@ impl Slot {
     }
 
     /// Sends a request in the session.
-    pub(crate) fn ask(&mut self, ask: SessionRequest<'_>, pad: &[u8]) -> Result<(), CommandFault>
+    pub(crate) fn ask(&mut self, ask: Ask<'_>, pad: &[u8]) -> Result<(), CommandFault>
         requires { length pad.now ≤ MAX_PADDING }
         ensures { (psk : List ℕ) (s : Steps) → IsSlotOf self.old psk s → FitsWaits Rests s
             → response_epoch s < 2 ^ 64 - 1
@@ -168,7 +167,7 @@ impl Slot {
     }
 
     // A record for the session.
-    pub(crate) fn take(&mut self, sealed: &[u8], pad: &[u8]) -> RecordOutcome
+    pub(crate) fn take(&mut self, sealed: &[u8], pad: &[u8]) -> SessionLed
         requires { length pad.now ≤ MAX_PADDING }
         ensures { (psk : List ℕ) (s : Steps) (a : message.Ask) → IsSlotOf self.old psk s
             → waiting_ask s ≡ Some a → request_epoch s < 2 ^ 64 - 1 → taken_of s < 2 ^ 64
@@ -180,7 +179,7 @@ impl Slot {
     }
 
     // Empties the slot where the session is gone.
-    fn settle(&mut self, led: &RecordOutcome)
+    fn settle(&mut self, led: &SessionLed)
         ensures { self.new ≡ settled led.now self.old }
     {
         if led.is_end() {
@@ -209,7 +208,7 @@ impl Slot {
     }
 
     // A record for the session, which stays in its slot.
-    fn answer(&mut self, sealed: &[u8], pad: &[u8]) -> RecordOutcome
+    fn answer(&mut self, sealed: &[u8], pad: &[u8]) -> SessionLed
         requires { length pad.now ≤ MAX_PADDING }
         ensures { (psk : List ℕ) (s : Steps) (a : message.Ask) → IsSlotOf self.old psk s
             → waiting_ask s ≡ Some a → request_epoch s < 2 ^ 64 - 1 → taken_of s < 2 ^ 64
@@ -218,13 +217,13 @@ impl Slot {
         match self {
             Slot::Live(session) => step(session, sealed, pad),
             Slot::Finishing(_) => self.finish(sealed),
-            Slot::Opening(_) => RecordOutcome::Ignored(RecordFault::KeySpent),
-            Slot::Empty => RecordOutcome::Ignored(RecordFault::KeySpent),
+            Slot::Opening(_) => SessionLed::Ignored(RecordFault::KeySpent),
+            Slot::Empty => SessionLed::Ignored(RecordFault::KeySpent),
         }
     }
 
     // A record for a session that awaits PSK_FINISH_RSP.
-    fn finish(&mut self, sealed: &[u8]) -> RecordOutcome
+    fn finish(&mut self, sealed: &[u8]) -> SessionLed
         ensures { (psk : List ℕ) (s : Steps) (a : message.Ask) (pad : List ℕ)
             → IsFinishingSlot self.old psk s → waiting_ask s ≡ Some a
             → IsStepped psk s a sealed.now pad (settled result self.new) result }
@@ -237,7 +236,7 @@ impl Slot {
             }
             other => {
                 *self = other;
-                RecordOutcome::Ignored(RecordFault::KeySpent)
+                SessionLed::Ignored(RecordFault::KeySpent)
             }
         }
     }
@@ -285,7 +284,7 @@ impl Slot {
 }
 
 // Asks something of a session that is open.
-fn ask_of(session: &mut ReqSession, ask: SessionRequest<'_>, pad: &[u8]) -> Result<(), CommandFault>
+fn ask_of(session: &mut ReqSession, ask: Ask<'_>, pad: &[u8]) -> Result<(), CommandFault>
     requires { length pad.now ≤ MAX_PADDING }
     ensures { (psk : List ℕ) (s : Steps) → IsResting session.old psk s
         → response_epoch s < 2 ^ 64 - 1

@@ -14,7 +14,7 @@ ghost use Rattle.responder_core.specs.Free.{IsFree};
 ghost use Rattle.responder_core.specs.Setup.{IsSetUp};
 
 use crate::clear::handling::replace;
-use crate::{ClearOutcome, ExchangeOrigin, FreeValues, KeptReply, RequestOutcome, Requests, Setup};
+use crate::{Begun, Came, FreeValues, KeptReply, Requests, Setup, Told};
 use spdm_basis::Frame;
 use spdm_grammar::Heard;
 use std::marker::Model;
@@ -94,7 +94,7 @@ impl ClearPart {
         message: &[u8],
         free: &FreeValues<'_>,
         out: &mut Frame,
-    ) -> ClearOutcome
+    ) -> Told
         ensures told { (r : RspSetup) (h : History) (f : Free) (d : Draw) → IsSetUp setup.now r
             → IsFree free.now f → StandsFor self.old r h → held_of h ≡ held
             → IsTold r h tag message.now f d result self.new out.new }
@@ -102,24 +102,24 @@ impl ClearPart {
     {
         if self.kept.is_repeat(tag, message) {
             replace(out, self.kept.reply());
-            return ClearOutcome::Heard {
+            return Told::Heard {
                 heard: Heard::Same,
                 drawn: false,
             };
         }
         match self.requests.on_request(setup, held, message, free, out) {
-            RequestOutcome::Refused(code) => ClearOutcome::Heard {
+            Came::Refused(code) => Told::Heard {
                 heard: Heard::Refused(code.number()),
                 drawn: false,
             },
-            RequestOutcome::Answered { drawn } => {
+            Came::Answered { drawn } => {
                 self.kept.keep(tag, message, out.as_slice());
-                ClearOutcome::Heard {
+                Told::Heard {
                     heard: Heard::Answered(code_at(message)),
                     drawn,
                 }
             }
-            RequestOutcome::Begins(begun) => ClearOutcome::Begins(begun),
+            Came::Begins(begun) => Told::Begins(begun),
         }
     }
 
@@ -127,7 +127,7 @@ impl ClearPart {
     /// bytes, with this handle if it is sent in chunks. The message sent overwrites `out`.
     pub fn begin(
         &mut self,
-        begun: ExchangeOrigin,
+        begun: Begun,
         tag: u8,
         message: &[u8],
         answer: &[u8],

@@ -1,9 +1,9 @@
 ghost use Rattle.std.specs.Prelude.{◌≡◌, ◌≤◌, length};
 ghost use Rattle.spdm_grammar.specs.declared.names.TheConstants.{MAX_APP_DATA_LEN, MAX_OPAQUE_LEN, MAX_PADDING};
 
-use crate::LiveSession;
+use crate::Live;
 use measurements::Inventory;
-use responder_session::{ResponseValues, RspTold, Work};
+use responder_session::{RecordFree, RspTold, Work};
 use spdm_basis::RecordFrame;
 use std::marker::Model;
 use std::mem;
@@ -13,15 +13,15 @@ use std::mem;
 #[derive(Drop)]
 pub struct SessionSlot {
     pub(crate) is_there: bool,
-    pub(crate) live: LiveSession,
+    pub(crate) live: Live,
 }
 
 impl Model for SessionSlot {
     ghost use Rattle.std.specs.Prelude.{◌≡◌, Option, Some, None, false, if◌then◌else◌};
     ghost use Rattle.responder_core.specs.Wiped.{IsWipedLive};
-    ghost use Rattle.responder_core.specs.declared.in_sessions.live_session.LiveSession.{LiveSession};
+    ghost use Rattle.responder_core.specs.declared.in_sessions.live.Live.{Live};
 
-    ghost Value = { Option LiveSession };
+    ghost Value = { Option Live };
 
     ghost view = { λ p. if p.is_there then Some p.live else None };
 
@@ -33,9 +33,9 @@ impl SessionSlot {
     ghost use Rattle.responder_machine.specs.Answer.{Free};
     ghost use Rattle.responder_machine.specs.Session.{Events, after_tick};
     ghost use Rattle.responder_machine.specs.Setup.{RspSetup, inventory_of};
-    ghost use Rattle.responder_session.specs.RequestEffects.{AreFree};
+    ghost use Rattle.responder_session.specs.Deeds.{AreFree};
     ghost use Rattle.responder_session.specs.Updates.{HasEpochs};
-    ghost use Rattle.responder_core.specs.LiveSession.{IsSlotOf, IsTakenIn};
+    ghost use Rattle.responder_core.specs.Live.{IsSlotOf, IsTakenIn};
 
     /// A slot without a session.
     pub fn empty() -> SessionSlot
@@ -43,12 +43,12 @@ impl SessionSlot {
     {
         SessionSlot {
             is_there: false,
-            live: LiveSession::wiped(),
+            live: Live::wiped(),
         }
     }
 
     /// The session.
-    pub fn live(&self) -> Option<&LiveSession>
+    pub fn live(&self) -> Option<&Live>
         ensures { MatchOption result (self.now ≡ None) (λ live. self.now ≡ Some live.now) }
     {
         if self.is_there {
@@ -69,7 +69,7 @@ impl SessionSlot {
     }
 
     /// Puts a session into the slot, over what was there.
-    pub fn put(&mut self, live: LiveSession)
+    pub fn put(&mut self, live: Live)
         ensures { self.new ≡ Some live }
     {
         self.live = live;
@@ -77,7 +77,7 @@ impl SessionSlot {
     }
 
     // Takes the session out of the slot, which is empty then; used only by the checker.
-    pub(crate) fn take_out(&mut self) -> Option<LiveSession>
+    pub(crate) fn take_out(&mut self) -> Option<Live>
         ensures taken { result ≡ self.old }
         ensures empty { self.new ≡ None }
     {
@@ -85,11 +85,11 @@ impl SessionSlot {
             return None;
         }
         self.is_there = false;
-        Some(mem::replace(&mut self.live, LiveSession::wiped()))
+        Some(mem::replace(&mut self.live, Live::wiped()))
     }
 
     // Puts into the slot what was taken out of one.
-    pub(crate) fn put_back(&mut self, session: Option<LiveSession>)
+    pub(crate) fn put_back(&mut self, session: Option<Live>)
         ensures { self.new ≡ session }
     {
         match session {
@@ -103,7 +103,7 @@ impl SessionSlot {
         &mut self,
         sealed: &[u8],
         inventory: &Inventory,
-        free: &ResponseValues<'_>,
+        free: &RecordFree<'_>,
         work: &mut Work,
         out: &mut RecordFrame,
     ) -> Option<RspTold>

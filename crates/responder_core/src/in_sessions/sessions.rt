@@ -6,9 +6,9 @@ ghost use Rattle.spdm_grammar.specs.declared.names.TheConstants.{MAX_APP_DATA_LE
 ghost use Rattle.secured_record.specs.declared.TheConstants.{MAX_RECORD_SIZE};
 
 use crate::in_sessions::records::{record_id, replace_record, write_decrypt_error};
-use crate::{EndedRecord, LiveSession, SessionSlot};
+use crate::{EndedRecord, Live, SessionSlot};
 use measurements::Inventory;
-use responder_session::{ResponseValues, RspAct, RspSession, RspTold, Work};
+use responder_session::{RecordFree, RspAct, RspSession, RspTold, Work};
 use spdm_basis::{RecordFrame, SessionId};
 use spdm_grammar::names::request_code::GET_VERSION;
 use spdm_grammar::names::{MAX_SESSIONS, SESSION_PLACES};
@@ -67,14 +67,14 @@ impl Sessions {
     ghost use Rattle.responder_machine.specs.Session.{Events, after_tick, session_of, turns_of};
     ghost use Rattle.responder_session.specs.Data.{data_of};
     ghost use Rattle.responder_machine.specs.Setup.{RspSetup, inventory_of};
-    ghost use Rattle.responder_session.specs.RequestEffects.{AreFree};
+    ghost use Rattle.responder_session.specs.Deeds.{AreFree};
     ghost use Rattle.responder_session.specs.Updates.{HasEpochs};
     ghost use Rattle.spdm_grammar.specs.declared.names.request_code.TheConstants.{GET_VERSION};
     ghost use Rattle.spdm_machine.specs.Keys.{Draw};
-    ghost use Rattle.responder_core.specs.LiveSession.{IsSlotOf, IsTakenIn};
+    ghost use Rattle.responder_core.specs.Live.{IsSlotOf, IsTakenIn};
     ghost use Rattle.responder_core.specs.Sessions.{IsAnswered, IsDelivered, IsViewOf, StandsFor, is_held_in, slot_of};
     ghost use Rattle.responder_core.specs.NoSessions.{HasNoSessions};
-    ghost use Rattle.responder_core.specs.declared.in_sessions.live_session.LiveSession.{LiveSession};
+    ghost use Rattle.responder_core.specs.declared.in_sessions.live.Live.{Live};
     ghost use Rattle.responder_session.specs.Session.{IsEnded};
 
     /// No sessions.
@@ -98,7 +98,7 @@ impl Sessions {
         id: u16,
         sealed: &[u8],
         inventory: &Inventory,
-        free: &ResponseValues<'_>,
+        free: &RecordFree<'_>,
         work: &mut Work,
         out: &mut RecordFrame,
     ) -> Option<RspTold>
@@ -124,7 +124,7 @@ impl Sessions {
         requires reply { length reply.now ≤ MAX_RECORD_SIZE }
         ensures live { (r : RspSetup) (s : Events) → IsSlotOf (slot_of self.old id) r s
             → self.new ≡ self.old }
-        ensures gone { (kept : LiveSession) (bytes : List ℕ) → slot_of self.old id ≡ Some kept
+        ensures gone { (kept : Live) (bytes : List ℕ) → slot_of self.old id ≡ Some kept
             → IsEnded kept.session bytes sealed.now reply.now → length sealed.now ≤ MAX_RECORD_SIZE
             → (slot_of self.new id ≡ None)
             × (self.new.ended ≡ Some (record { sealed = sealed.now; reply = reply.now })) }
@@ -173,7 +173,7 @@ impl Sessions {
         phase: Phase,
         sealed: &[u8],
         inventory: &Inventory,
-        free: &ResponseValues<'_>,
+        free: &RecordFree<'_>,
         work: &mut Work,
         out: &mut RecordFrame,
     ) -> Heard
@@ -226,7 +226,7 @@ impl Sessions {
     }
 
     /// Removes the session with this RspSessionID, as if it timed out without a trace in the capture.
-    pub fn expire(&mut self, id: u16)
+    pub fn drop_unseen(&mut self, id: u16)
         ensures { (r : RspSetup) (h : History) → StandsFor self.old r h
             → StandsFor self.new r (Dropped id ∷ h) }
     {
@@ -278,7 +278,7 @@ impl Sessions {
         self.leave(3);
         self.leave(4);
         self.ended.clear();
-        self.put(id, LiveSession::begin(session, answer));
+        self.put(id, Live::begin(session, answer));
     }
 
     /// GET_VERSION was accepted: removes all sessions, and the last record of an ended one.
@@ -329,7 +329,7 @@ impl Sessions {
     }
 
     // The session with this RspSessionID; `None` if there is none.
-    pub(crate) fn session(&self, id: u16) -> Option<&LiveSession>
+    pub(crate) fn session(&self, id: u16) -> Option<&Live>
         ensures { MatchOption result (slot_of self.now id ≡ None)
             (λ live. slot_of self.now id ≡ Some live.now) }
     {
@@ -405,7 +405,7 @@ impl Sessions {
     }
 
     // Puts a session into the slot with this RspSessionID.
-    fn put(&mut self, id: u16, live: LiveSession)
+    fn put(&mut self, id: u16, live: Live)
         requires least { 1 ≤ id }
         requires most { id ≤ MAX_SESSIONS }
         ensures own { slot_of self.new id ≡ Some live }

@@ -1,14 +1,14 @@
-use crate::{ClearPart, ClearState, Connection, LiveSession, Requests, SessionSlot, Sessions};
+use crate::{ClearPart, Connection, Live, Requests, SessionSlot, Sessions, Standing};
 use spdm_grammar::names::MAX_SESSIONS;
 
 // The clear part without the MEASUREMENTS that were to go by LargeResponse in answer to what was taken last: they were
 // never seen.
-impl ClearState {
+impl Standing {
     ghost use Rattle.std.specs.Prelude.{◌∷◌, List};
     ghost use Rattle.responder_rules.specs.LargeAnswer.{turn_unseen};
     ghost use Rattle.responder_machine.specs.Turn.{Turn};
     ghost use Rattle.responder_core.specs.Pending.{GoesLarge};
-    ghost use Rattle.responder_core.specs.ClearState.{StandsFor};
+    ghost use Rattle.responder_core.specs.Standing.{StandsFor};
 
     fn forget(&mut self)
         ensures { (t : Turn) (older : List Turn) → GoesLarge t → StandsFor self.old (t ∷ older)
@@ -55,7 +55,7 @@ impl ClearPart {
 }
 
 // A session without the MEASUREMENTS that went by LargeResponse last, though chunks of them may have been given.
-impl LiveSession {
+impl Live {
     ghost use Rattle.std.specs.Prelude.{◌≡◌, is_some, true};
     ghost use Rattle.responder_rules.specs.LargeAnswer.{last_takes};
     ghost use Rattle.responder_machine.specs.LargeMessages.{large_of};
@@ -63,7 +63,7 @@ impl LiveSession {
     ghost use Rattle.responder_machine.specs.Setup.{RspSetup};
     ghost use Rattle.responder_session.specs.Pending.{IsUncounted, events_unseen};
     ghost use Rattle.spdm_grammar.specs.declared.names.request_code.TheConstants.{GET_MEASUREMENTS};
-    ghost use Rattle.responder_core.specs.LiveSession.{StandsFor};
+    ghost use Rattle.responder_core.specs.Live.{StandsFor};
 
     fn forget(&mut self)
         ensures { (r : RspSetup) (s : Events) → is_some (large_of (turns_of s)) ≡ true
@@ -90,7 +90,7 @@ impl SessionSlot {
     ghost use Rattle.responder_machine.specs.Setup.{RspSetup};
     ghost use Rattle.responder_session.specs.Pending.{IsUncounted, events_unseen};
     ghost use Rattle.spdm_grammar.specs.declared.names.request_code.TheConstants.{GET_MEASUREMENTS};
-    ghost use Rattle.responder_core.specs.LiveSession.{IsSlotOf};
+    ghost use Rattle.responder_core.specs.Live.{IsSlotOf};
 
     fn forget(&mut self)
         ensures { (r : RspSetup) (s : Events) → is_some (large_of (turns_of s)) ≡ true
@@ -122,7 +122,7 @@ impl Sessions {
     ghost use Rattle.responder_machine.specs.Setup.{RspSetup};
     ghost use Rattle.responder_session.specs.Pending.{events_unseen};
     ghost use Rattle.spdm_grammar.specs.declared.names.request_code.TheConstants.{GET_MEASUREMENTS};
-    ghost use Rattle.responder_core.specs.LiveSession.{IsSlotOf};
+    ghost use Rattle.responder_core.specs.Live.{IsSlotOf};
     ghost use Rattle.responder_session.specs.Pending as sessions;
     ghost use Rattle.responder_core.specs.Pending.{history_unseen};
     ghost use Rattle.responder_core.specs.Sessions.{StandsFor, slot_of};

@@ -1,14 +1,14 @@
-use crate::{Connection, EndedRecord, LiveSession, SessionSlot, Sessions};
+use crate::{Connection, EndedRecord, Live, SessionSlot, Sessions};
 use spdm_grammar::names::MAX_SESSIONS;
 
 // A session in which MEASUREMENTS that were never seen are pending again.
-impl LiveSession {
+impl Live {
     ghost use Rattle.std.specs.Prelude.{◌≤◌, ◌<◌, ◌+◌, length};
     ghost use Rattle.responder_machine.specs.Session.{Events, session_terms, turns_of};
     ghost use Rattle.responder_machine.specs.Setup.{RspSetup};
     ghost use Rattle.responder_session.specs.LateFetch.{IsNewestUnseen, events_pending};
     ghost use Rattle.spdm_grammar.specs.declared.names.TheConstants.{MAX_MESSAGE_SIZE};
-    ghost use Rattle.responder_core.specs.LiveSession.{StandsFor};
+    ghost use Rattle.responder_core.specs.Live.{StandsFor};
 
     fn make_pending(&mut self, answer: &[u8], handle: u8)
         requires { length answer.now ≤ MAX_MESSAGE_SIZE }
@@ -27,7 +27,7 @@ impl SessionSlot {
     ghost use Rattle.responder_machine.specs.Setup.{RspSetup};
     ghost use Rattle.responder_session.specs.LateFetch.{IsNewestUnseen, events_pending};
     ghost use Rattle.spdm_grammar.specs.declared.names.TheConstants.{MAX_MESSAGE_SIZE};
-    ghost use Rattle.responder_core.specs.LiveSession.{IsSlotOf};
+    ghost use Rattle.responder_core.specs.Live.{IsSlotOf};
 
     fn make_pending(&mut self, answer: &[u8], handle: u8)
         requires { length answer.now ≤ MAX_MESSAGE_SIZE }
@@ -50,7 +50,7 @@ impl Sessions {
     ghost use Rattle.responder_session.specs.LateFetch.{IsNewestUnseen, events_pending};
     ghost use Rattle.spdm_grammar.specs.declared.names.TheConstants.{MAX_MESSAGE_SIZE};
     ghost use Rattle.responder_core.specs.LateFetch.{history_pending};
-    ghost use Rattle.responder_core.specs.LiveSession.{IsSlotOf};
+    ghost use Rattle.responder_core.specs.Live.{IsSlotOf};
     ghost use Rattle.responder_core.specs.Sessions.{StandsFor, slot_of};
 
     // The session with this RspSessionID.
