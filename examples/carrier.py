@@ -25,9 +25,15 @@ class End:
 
     def __init__(self, name, command, text, folder=None):
         self.name, self.ahead = name, b""
+        # In a session of its own: Ctrl-C in a terminal is for the program that carries, which then ends this one.
         try:
             self.process = subprocess.Popen(
-                command, shell=isinstance(command, str), stdin=subprocess.PIPE, stdout=subprocess.PIPE, cwd=folder
+                command,
+                shell=isinstance(command, str),
+                stdin=subprocess.PIPE,
+                stdout=subprocess.PIPE,
+                cwd=folder,
+                start_new_session=True,
             )
         except OSError as error:
             raise Ended(f"{name} cannot be started: {error}") from error
@@ -41,7 +47,8 @@ class End:
             raise self.ended() from error
 
     def ended(self):
-        return Ended(f"{self.name} ended with status {self.process.wait()}")
+        status = self.process.wait()
+        return Ended(f"{self.name} was killed by signal {-status}" if status < 0 else f"{self.name} ended with status {status}")
 
     def give(self, kind, content):
         self.write(struct.pack("<BH", kind, len(content)) + content)

@@ -2,11 +2,11 @@
 use Rattle.std.proofs.Common.{◌≡◌, ◌≤◌, ℕ, List, [], length, sym, subst, Option, Some, Ok, Err}
 use Rattle.appraise.specs.declared.appraisal.Appraisal.{Appraisal}
 use Rattle.attest_command.proofs.Streams.{in_part, so_far, whole, with_verdict}
-use Rattle.attest_command.specs.Begun.{IsBegun, setting_as}
+use Rattle.attest_command.specs.AttestStart.{IsBegun, setting_as}
 use Rattle.attest_command.specs.Outcome as outcome
 use Rattle.attest_command.specs.Outcome.{IsBegunToAttest, IsSetUp, attesting_command}
 use Rattle.attest_command.specs.Text.{stream_in, texts_before}
-use Rattle.attest_command.specs.declared.begin.Begun.{Begun}
+use Rattle.attest_command.specs.declared.begin.AttestStart.{AttestStart}
 use Rattle.attestor.specs.Attesting.{Attesting}
 use Rattle.frame_stream.proofs.Fronts.{fault_later}
 use Rattle.frame_stream.specs.Frames.{Ending}
@@ -23,21 +23,21 @@ use Rattle.stream_commands.specs.Told.{IsDriveTold}
 use Rattle.stream_commands.specs.declared.fault.StreamFault.{StreamFault}
 
 -- One seed was taken,
-pub seeded : (before after : Outside) (begun : Begun) (rest : Option (List ℕ)) → IsBegun before.left before.seeds begun rest after.seeds → IsSeeded texts_before before after
+pub seeded : (before after : Outside) (begun : AttestStart) (rest : Option (List ℕ)) → IsBegun before.left before.seeds begun rest after.seeds → IsSeeded texts_before before after
 seeded before after begun rest is = record { good = (setting_as begun.parsed, is.set); seed = begun.seed; given = is.seed }
 
 -- told of the same bytes,
-pub with_bytes : (before after : Outside) (begun : Begun) (rest : Option (List ℕ)) (bytes : List ℕ) → bytes ≡ begun.before → IsBegun before.left before.seeds begun rest after.seeds →
+pub with_bytes : (before after : Outside) (begun : AttestStart) (rest : Option (List ℕ)) (bytes : List ℕ) → bytes ≡ begun.before → IsBegun before.left before.seeds begun rest after.seeds →
     IsBegun before.left before.seeds (record begun { before = bytes }) rest after.seeds
 with_bytes before after begun rest bytes same is = subst (λ (l : List ℕ). IsBegun before.left before.seeds (record begun { before = l }) rest after.seeds) (sym same) is
 
 -- and the stream was not, but for what was read with them.
-pub unread : (before after : Outside) (begun : Begun) → IsBegun before.left before.seeds begun after.left after.seeds → length begun.before ≤ 4096 → IsStreamUnread texts_before before after
+pub unread : (before after : Outside) (begun : AttestStart) → IsBegun before.left before.seeds begun after.left after.seeds → length begun.before ≤ 4096 → IsStreamUnread texts_before before after
 unread before after begun is few = λ input e. let behind = is.read input e in (begun.before, behind.0, behind.1, behind.2, few)
 
 -- ---- Where what is ahead is the stream of the input, in the life of a boot number.
 
-module _ (boot : ℕ) (before after : Outside) (begun : Begun) (rest ahead : Option (List ℕ)) (a : Attesting) (appraised : List ℕ → Appraisal)
+module _ (boot : ℕ) (before after : Outside) (begun : AttestStart) (rest ahead : Option (List ℕ)) (a : Attesting) (appraised : List ℕ → Appraisal)
     (is : IsBegun before.left before.seeds begun rest after.seeds)
     (first : attesting_in_life begun.parsed.config begun.parsed.policy begun.seed boot ≡ Some a) (right : Appraises begun.parsed.policy appraised)
     (same : (stream : List ℕ) → stream_in before.left ≡ Some stream → ahead ≡ Some stream) where

@@ -1,4 +1,3 @@
-pub mod Policies
 pub mod LineCounts
 pub mod ReadTexts
 pub mod ParsedTexts

@@ -1,6 +1,6 @@
 -- What was parsed of two texts, or their first bad line.
 use Rattle.std.proofs.Common.{◌≡◌, ◌∙◌, ℕ, List, ap, sym, Result, Ok, Err}
-use Rattle.attest_command.specs.Begun.{IsParsed}
+use Rattle.attest_command.specs.AttestStart.{IsParsed}
 use Rattle.attest_command.specs.Text.{line_behind, setting_in, setting_of, with_rules}
 use Rattle.attest_command.specs.declared.texts.Texts.{Texts}
 use Rattle.script_text.specs.ConfigText.{config_in}

@@ -1,11 +1,11 @@
 -- The two texts that were read are those before the stream.
 use Rattle.std.proofs.Common.{◌≡◌, ◌∙◌, ◌≤◌, ◌<◌, ◌+◌, ◌-◌, ◌++◌, ℕ, List, ap, arith, length, length-append, sym, Option, Some, Ok}
-use Rattle.attest_command.specs.Policy.{IsPolicyOf, behind_policy, policy_of}
+use Rattle.attest_command.specs.Policy.{behind_policy, policy_of}
 use Rattle.attest_command.specs.Text.{IsBadText, IsLongText, IsSet, Setting, setting_before, setting_in, stream_behind, whole_text}
 use Rattle.frame_stream.proofs.Fronts.{in_front_of}
-use Rattle.frame_stream.specs.Parts.{IsTextOf}
+use Rattle.frame_stream.specs.Parts.{IsTextOf, IsTextTo}
 use Rattle.frame_stream.specs.Standing.{in_front}
-use Rattle.frame_stream.specs.Text.{stream_of, text_of}
+use Rattle.frame_stream.specs.Text.{go_line, stream_of, text_of}
 use Rattle.script_text.specs.Reading.{BadLine, bad_line_in}
 use Rattle.stream_commands.specs.Texts.{text_limit}
 
@@ -17,7 +17,7 @@ pub record AreTexts (input config policy before : List ℕ) (new : Option (List 
   pub left : new ≡ Some rest
   pub behind : stream_behind input ≡ before ++ rest
 
-pub texts_read : (old mid new : Option (List ℕ)) (config ahead policy before : List ℕ) → IsTextOf old config ahead mid → IsPolicyOf (in_front ahead mid) policy before new →
+pub texts_read : (old mid new : Option (List ℕ)) (config ahead policy before : List ℕ) → IsTextOf old config ahead mid → IsTextTo go_line (in_front ahead mid) policy before new →
     (input : List ℕ) → old ≡ Some input → AreTexts input config policy before new
 texts_read old mid new config ahead policy before first then input e =
     let a = first input e in

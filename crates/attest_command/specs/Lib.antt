@@ -1,6 +1,5 @@
 pub mod Policy
-pub mod Places
 pub mod Text
-pub mod Begun
+pub mod AttestStart
 pub mod Outcome
 pub mod InputEnds

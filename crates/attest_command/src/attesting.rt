@@ -1,12 +1,12 @@
 ghost use Rattle.std.specs.Prelude.{◌≡◌, ◌≤◌, ◌⊎◌, ◌-◌, ◌^◌, List, Option, ℕ, Err, Some};
-ghost use Rattle.attest_command.specs.Begun.{IsBegun, IsRead};
+ghost use Rattle.attest_command.specs.AttestStart.{IsBegun, IsRead};
 ghost use Rattle.attest_command.specs.InputEnds.{Answers, HasEnd};
 ghost use Rattle.attest_command.specs.Outcome.{IsAnswered, attesting_command};
 ghost use Rattle.spdm_basis.specs.Stream.{IsQuiet};
 ghost use Rattle.stream_commands.specs.InputEnds.{InputEnd};
 ghost use Rattle.stream_commands.specs.Outside.{IsFollowedBy, outside};
 
-use crate::begin::{Begun, begin};
+use crate::begin::{AttestStart, begin};
 use crate::parsing::Parsed;
 use appraise::{Appraisal, Policy};
 use requester_attest::attest;
@@ -80,7 +80,7 @@ pub fn attest_input<S: Source, K: Sink, E: Seeds>(
         Ok(begun) => begun,
         Err(fault) => return Err(fault),
     };
-    let Begun {
+    let AttestStart {
         parsed,
         seed,
         before,

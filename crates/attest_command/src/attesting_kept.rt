@@ -8,7 +8,7 @@ ghost use Rattle.stream_commands.specs.Outside.{outside};
 ghost use Rattle.stream_commands.specs.declared.fault.StreamFault.TheVariants.{OutOfMemory};
 
 use crate::attesting::attest_behind;
-use crate::begin::{Begun, begin};
+use crate::begin::{AttestStart, begin};
 use crate::parsing::Parsed;
 use appraise::Appraisal;
 use boot_keeper::{Keeper, next_boot};
@@ -52,7 +52,7 @@ pub fn attest_kept_input<S: Source, K: Sink, E: Seeds, P: Keeper>(
         Ok(begun) => begun,
         Err(fault) => return Err(KeptFault::Stream(fault)),
     };
-    let Begun {
+    let AttestStart {
         parsed,
         seed,
         before,

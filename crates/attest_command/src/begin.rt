@@ -1,5 +1,5 @@
 ghost use Rattle.std.specs.Prelude.{◌≡◌, ◌≤◌, IfErr, IfOk, OnErr};
-ghost use Rattle.attest_command.specs.Begun.{IsBeginCause, IsBegun};
+ghost use Rattle.attest_command.specs.AttestStart.{IsBeginCause, IsBegun};
 
 use crate::parsing::{Parsed, parse};
 use crate::texts::read_texts;
@@ -10,7 +10,7 @@ use stream_commands::StreamFault;
 /// What precedes a stream: the configuration and the policy, a seed for the requester that they set up, and the bytes of
 /// the stream that were read with them.
 #[derive(Drop)]
-pub(crate) struct Begun {
+pub(crate) struct AttestStart {
     pub(crate) parsed: Parsed,
     pub(crate) seed: [u8; 32],
     pub(crate) before: Buffer<4096>,
@@ -21,7 +21,7 @@ pub(crate) fn begin<S: Source, E: Seeds>(
     alloc: Global,
     source: &mut S,
     seeds: &mut E,
-) -> Result<Begun, StreamFault>
+) -> Result<AttestStart, StreamFault>
     ensures begun { IfOk result (λ begun. IsBegun (S.remaining source.old) (E.left seeds.old) begun
         (S.remaining source.new) (E.left seeds.new)) }
     ensures fault { IfErr result (IsBeginCause (S.remaining source.old) (record {
@@ -43,7 +43,7 @@ pub(crate) fn begin<S: Source, E: Seeds>(
         Err(fault) => return Err(fault),
     };
     match seeds.seed() {
-        Ok(seed) => Ok(Begun {
+        Ok(seed) => Ok(AttestStart {
             parsed,
             seed,
             before: texts.before,

@@ -8,10 +8,8 @@
 mod attesting;
 mod attesting_kept;
 mod begin;
-mod go_line;
 mod line_count;
 mod parsing;
-mod policy_text;
 mod texts;
 
 pub use attesting::attest_input;

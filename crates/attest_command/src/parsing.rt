@@ -1,5 +1,5 @@
 ghost use Rattle.std.specs.Prelude.{◌+◌, ◌≤◌, length};
-ghost use Rattle.attest_command.specs.Begun.{IsParsed};
+ghost use Rattle.attest_command.specs.AttestStart.{IsParsed};
 
 use crate::line_count::count_of_lines;
 use crate::texts::Texts;

@@ -1,8 +1,7 @@
 ghost use Rattle.std.specs.Prelude.{◌+◌, ◌≤◌, length, IfErr, IfOk};
-ghost use Rattle.attest_command.specs.Begun.{AreTextsOf, IsReadCause};
+ghost use Rattle.attest_command.specs.AttestStart.{AreTextsOf, IsReadCause};
 
-use crate::policy_text::read_policy;
-use frame_stream::read_text;
+use frame_stream::{LastLine, read_text, read_text_to};
 use script_text::TEXT_LIMIT;
 use spdm_basis::{Buffer, Bytes, Source};
 use std::alloc::Global;
@@ -32,7 +31,7 @@ pub(crate) fn read_texts<S: Source>(alloc: Global, source: &mut S) -> Result<Tex
         Err(fault) => return Err(StreamFault::of_reading(fault)),
     };
     let limit = TEXT_LIMIT - config.text.as_slice().len();
-    match read_policy(alloc, config.before, source, limit) {
+    match read_text_to(alloc, LastLine::Go, config.before, source, limit) {
         Ok(policy) => Ok(Texts {
             config: config.text,
             policy: policy.text,

@@ -24,8 +24,8 @@ const FOLDER: &str = ".";
 /// call; where there is none, one of zeros is made under another name, synced and renamed. A file of
 /// any other length is a failure, and is never mended. A write answers once the file is synced.
 ///
-/// It tells nothing of what it holds. Its count of faults rises by one at each call that failed, and
-/// stands still at 2^64 - 1. Two programs at one time in one folder may get one boot number both.
+/// Its contents are unknown to contracts. Its count of faults rises by one at each failed call, and
+/// saturates at `u64::MAX`. Two programs that run at one time in one folder may get the same boot number.
 #[derive(Drop)]
 pub struct FileKeeper<'a, F: Files> {
     files: &'a F,

@@ -19,7 +19,7 @@ pub trait Keeper {
     /// The bytes that it holds, where it tells them.
     ghost contents: { Self → Option (List ℕ) };
 
-    /// How often it has failed. The count never falls, and stands still at the last number of 64 bits.
+    /// The number of failed calls. It never decreases, and saturates at `u64::MAX`.
     ghost faults: { Self → ℕ };
 
     /// No call of it fails, now or later.

@@ -1,6 +1,6 @@
 -- What C is told of a packet, as numbers: each case of an enum has one number.
 use Rattle.std.specs.Prelude.{◌+◌, ◌*◌, ◌^◌, ℕ}
-use Rattle.c_ends.specs.declared.told.Told.{Told}
+use Rattle.c_ends.specs.declared.packet_outcome.PacketOutcome.{PacketOutcome}
 use Rattle.spdm_basis.specs.declared.DropCause.{DropCause}
 use Rattle.spdm_basis.specs.declared.DropCause.TheVariants as dropped
 use Rattle.spdm_basis.specs.declared.PacketFault.{PacketFault}
@@ -67,26 +67,26 @@ caps_code caps.NoProtection = 4
 -- ---- Lines.
 
 -- The line of a kind and a cause that carries nothing else,
-abbrev pub caused : (kind cause : ℕ) → Told
+abbrev pub caused : (kind cause : ℕ) → PacketOutcome
 caused kind cause = record { kind = kind; cause = cause; detail = 0; session = 0; number = 0 }
 
 -- that with a detail, that of a session, and that with a number.
-abbrev pub detailed : (kind cause detail : ℕ) → Told
+abbrev pub detailed : (kind cause detail : ℕ) → PacketOutcome
 detailed kind cause detail = record (caused kind cause) { detail = detail }
 
 -- A session as one number: ReqSessionID is its low half.
 abbrev pub session_number : SessionId → ℕ
 session_number id = id.req + 2 ^ 16 * id.rsp
 
-abbrev pub of_session : (kind cause : ℕ) → SessionId → Told
+abbrev pub of_session : (kind cause : ℕ) → SessionId → PacketOutcome
 of_session kind cause id = record (caused kind cause) { session = session_number id }
 
-abbrev pub numbered : (kind cause number : ℕ) → Told
+abbrev pub numbered : (kind cause number : ℕ) → PacketOutcome
 numbered kind cause number = record (caused kind cause) { number = number }
 
 -- ---- A responder.
 
-abbrev pub unheard_told : RspIgnored → Told
+abbrev pub unheard_told : RspIgnored → PacketOutcome
 unheard_told responder.Worn = caused 7 1
 unheard_told (responder.Packet why) = detailed 7 2 (packet_code why)
 unheard_told (responder.Dropped why) = detailed 7 3 (drop_code why)
@@ -94,7 +94,7 @@ unheard_told responder.UnknownPeer = caused 7 4
 unheard_told responder.NotRequest = caused 7 5
 unheard_told responder.OtherType = caused 7 6
 
-abbrev pub heard_told : Heard → Told
+abbrev pub heard_told : Heard → PacketOutcome
 heard_told (heard.Answered code) = numbered 1 0 code
 heard_told (heard.Taken id) = of_session 2 0 id
 heard_told (heard.Refused code) = numbered 3 0 code
@@ -105,7 +105,7 @@ heard_told (heard.Ignored why) = unheard_told why
 
 -- ---- A requester.
 
-abbrev pub finished_told : Finished → Told
+abbrev pub finished_told : Finished → PacketOutcome
 finished_told finished.Connected = caused 18 1
 finished_told (finished.Opened id) = of_session 18 2 id
 finished_told (finished.Answered id) = of_session 18 3 id
@@ -114,21 +114,21 @@ finished_told (finished.Updated id) = of_session 18 5 id
 finished_told (finished.Measured count) = numbered 18 6 count
 finished_told (finished.Ended id) = of_session 18 7 id
 
-abbrev pub stopped_told : Stop → Told
+abbrev pub stopped_told : Stop → PacketOutcome
 stopped_told stop.NoVersion = caused 21 1
 stopped_told (stop.Caps why) = detailed 21 2 (caps_code why)
 stopped_told stop.NoChoice = caused 21 3
 stopped_told stop.TooLong = caused 21 4
 
 -- Why a session was lost, whatever the session.
-abbrev pub lost_told : BadReply → Told
+abbrev pub lost_told : BadReply → PacketOutcome
 lost_told bad.TooLong = caused 22 1
 lost_told (bad.Malformed place) = numbered 22 2 place
 lost_told bad.WrongKind = caused 22 3
 lost_told (bad.Refused code) = numbered 22 4 code
 lost_told (bad.Chunk why) = detailed 22 5 (chunk_code why)
 
-abbrev pub ignored_told : ReqIgnored → Told
+abbrev pub ignored_told : ReqIgnored → PacketOutcome
 ignored_told requester.Worn = caused 23 1
 ignored_told (requester.Packet why) = detailed 23 2 (packet_code why)
 ignored_told (requester.Dropped why) = detailed 23 3 (drop_code why)
@@ -143,7 +143,7 @@ ignored_told (requester.Chunk why) = detailed 23 11 (chunk_code why)
 ignored_told requester.BadVerify = caused 23 12
 ignored_told (requester.Record why) = detailed 23 13 (record_code why)
 
-abbrev pub event_told : Event → Told
+abbrev pub event_told : Event → PacketOutcome
 event_told event.Progress = caused 16 0
 event_told event.More = caused 17 0
 event_told (event.Done finished) = finished_told finished

@@ -11,10 +11,11 @@ ghost use Rattle.requester_machine.specs.Message.{Command as Commanded};
 ghost use Rattle.requester_machine.specs.Requesting.{Requesting, new_requesting, requester_given, requester_told};
 
 use crate::command::command_of;
+use crate::giving_back::end_requester;
 use crate::open_requester::OpenRequester;
+use crate::packet_outcome::{PacketOutcome, event_told};
 use crate::requester_handle::RequesterHandle;
 use crate::requester_set_up::{RequesterFault, open_requester};
-use crate::told::{Told, event_told};
 use crate::writing::write_packet;
 use crate::{RequesterConfig, codes};
 use std::alloc::Global;
@@ -84,7 +85,7 @@ impl RequesterHandle {
 
     /// Gives a packet to a requester. What it led to is written to `told`, and the packets that it sends next replace
     /// those before.
-    pub fn on_packet(&mut self, alloc: Global, packet: &[u8], told: &mut Told) -> u32
+    pub fn on_packet(&mut self, alloc: Global, packet: &[u8], told: &mut PacketOutcome) -> u32
         ensures step { (a : Requesting) (sends : List (List ℕ))
             → HoldsRequester self.old.kept.held a sends
             → (result ≡ OK) × (told.new ≡ event_told (requester_given a packet.now).event)
@@ -118,11 +119,13 @@ impl RequesterHandle {
         code
     }
 
-    /// Closes a requester and frees its memory. A closed one stays closed.
+    /// Closes a requester, overwrites what is secret in it, and frees its memory. A closed one stays closed.
     pub fn close(&mut self, alloc: Global)
         ensures { self.new.kept.held ≡ None }
     {
-        drop(self.take_out(alloc));
+        if let Some(end) = self.take_out(alloc) {
+            end_requester(end);
+        }
     }
 }
 

@@ -11,10 +11,11 @@ ghost use Rattle.responder.specs.Unharmed.{IsHarmless};
 ghost use Rattle.responder_machine.specs.Independence.{after_reply};
 ghost use Rattle.responder_machine.specs.Responding.{Responding, connection_of, new_responding, reply_fault_of, responder_hears, ticks};
 
+use crate::giving_back::end_responder;
 use crate::open_responder::OpenResponder;
+use crate::packet_outcome::{PacketOutcome, heard_told};
 use crate::responder_handle::ResponderHandle;
 use crate::responder_set_up::{ResponderFault, open_responder};
-use crate::told::{Told, heard_told};
 use crate::writing::write_packet;
 use crate::{Block, KnownRequester, ResponderConfig, codes};
 use spdm_basis::Eid;
@@ -64,7 +65,7 @@ impl ResponderHandle {
     /// those before. A refused request changes nothing in the sessions but the record numbers, the stored response and
     /// the clock of the session that its record names; the connections with other endpoints than the source of the packet
     /// stay as they were.
-    pub fn on_packet(&mut self, alloc: Global, packet: &[u8], told: &mut Told) -> u32
+    pub fn on_packet(&mut self, alloc: Global, packet: &[u8], told: &mut PacketOutcome) -> u32
         ensures step { (r : Responding) (sends : List (List ℕ))
             → HoldsResponder self.old.kept.held r sends
             → (result ≡ OK) × (told.new ≡ heard_told (responder_hears r packet.now).heard)
@@ -139,11 +140,13 @@ impl ResponderHandle {
         codes::OK
     }
 
-    /// Closes a responder and frees its memory. A closed one stays closed.
+    /// Closes a responder, overwrites what is secret in it, and frees its memory. A closed one stays closed.
     pub fn close(&mut self, alloc: Global)
         ensures { self.new.kept.held ≡ None }
     {
-        drop(self.take_out(alloc));
+        if let Some(end) = self.take_out(alloc) {
+            end_responder(end);
+        }
     }
 }
 

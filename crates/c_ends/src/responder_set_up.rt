@@ -6,6 +6,7 @@ ghost use Rattle.responder.specs.Standing.{StandsFor};
 ghost use Rattle.responder_machine.specs.Responding.{new_responding};
 
 use crate::argument::ArgumentFault;
+use crate::giving_back::end_known;
 use crate::open_responder::OpenResponder;
 use crate::{Block, KnownRequester, Offer, ResponderConfig};
 use responder::{Known, RspConfig, RspConfigFault};
@@ -173,7 +174,9 @@ fn configured(
         return Err(RspConfigFault::OutOfMemory);
     };
     let own = config_of(config, requesters.as_slice(), measured.as_slice());
-    match OpenResponder::new(alloc, &own, *config.seed, config.boot) {
+    let made = OpenResponder::new(alloc, &own, *config.seed, config.boot);
+    end_known(requesters);
+    match made {
         Ok(end) => Ok(end),
         Err(fault) => Err(fault),
     }

@@ -5,7 +5,7 @@ ghost use Rattle.c_ends.specs.Writing.{IsPut, over};
 ghost use Rattle.c_ends.specs.declared.codes.TheConstants.{NONE};
 
 use crate::codes;
-use crate::told::session_number;
+use crate::packet_outcome::session_number;
 use crate::writing::write_over;
 use responder::Phase;
 use spdm_basis::{AeadAlg, HashAlg, HashBytes};

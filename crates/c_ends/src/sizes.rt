@@ -5,8 +5,8 @@ ghost use Rattle.c_ends.specs.declared.codes.TheConstants.{HEADER, OK};
 use crate::open_requester::OpenRequester;
 use crate::open_responder::OpenResponder;
 use crate::{
-    Block, KnownRequester, RequesterConfig, RequesterHandle, ResponderConfig, ResponderHandle,
-    Session, Told, codes,
+    Block, KnownRequester, PacketOutcome, RequesterConfig, RequesterHandle, ResponderConfig,
+    ResponderHandle, Session, codes,
 };
 use mctp_framing::Assembler;
 use responder::Known;
@@ -40,7 +40,7 @@ impl Sizes {
             requester_config: size_of::<RequesterConfig<'_>>(),
             known: size_of::<KnownRequester<'_>>(),
             block: size_of::<Block<'_>>(),
-            told: size_of::<Told>(),
+            told: size_of::<PacketOutcome>(),
             session: size_of::<Session>(),
         }
     }

@@ -1,6 +1,6 @@
 use c_ends::{
-    KnownRequester, Offer, RequesterConfig, RequesterHandle, ResponderConfig, ResponderHandle,
-    Session, Told, codes,
+    KnownRequester, Offer, PacketOutcome, RequesterConfig, RequesterHandle, ResponderConfig,
+    ResponderHandle, Session, codes,
 };
 use std::alloc::Global;
 use std::test::Fail;
@@ -16,7 +16,7 @@ const OFFER: Offer = Offer {
 
 const KEY: &[u8] = b"1234567890123456";
 
-const NOTHING: Told = Told {
+const NOTHING: PacketOutcome = PacketOutcome {
     kind: 0,
     cause: 0,
     detail: 0,
@@ -78,7 +78,7 @@ impl Ends {
     }
 
     // Carries packets, each of one message, there and back until the requester sends none; what it was told last.
-    fn carry(&mut self, alloc: Global) -> Told {
+    fn carry(&mut self, alloc: Global) -> PacketOutcome {
         let mut told = NOTHING;
         let mut room = [0; 1028];
         let mut len = 0;

@@ -18,7 +18,7 @@ use Rattle.script_text.specs.Reading.{read_lines, line_fault, after_line, unless
 use Rattle.script_text.specs.ScriptText.{after_capture, capture_fault, capture_in, capture_with, is_full, packet_fault, whole_capture}
 use Rattle.script_text.specs.Sound.{are_bytes, fits_word}
 use Rattle.script_text.specs.declared.configuration.config.ScriptConfig.{ScriptConfig}
-use Rattle.script_text.specs.declared.configuration.given.Given.{Given}
+use Rattle.script_text.specs.declared.configuration.partial_config.PartialConfig.{PartialConfig}
 use Rattle.script_text.specs.declared.texts.capture_text.CaptureReader.{CaptureReader}
 use Rattle.script_text.specs.declared.texts.faults.LineFault.{LineFault}
 use Rattle.script_text.specs.declared.texts.faults.ScriptFault.{ScriptFault}
@@ -203,7 +203,7 @@ config_is (Some c) packets config h = (
   ap (λ (s : Option Capture). (unwrap_or s (no_packets config)).packets) h,
 )
 
-is_ended : (given : Given) (ended : Bool) (config : ScriptConfig) → cond ended (config_with given.responder given) None ≡ Some config → ended ≡ true
+is_ended : (given : PartialConfig) (ended : Bool) (config : ScriptConfig) → cond ended (config_with given.responder given) None ≡ Some config → ended ≡ true
 is_ended given true config h = refl
 is_ended given false config h = absurd (cc h)
 

@@ -20,8 +20,8 @@ use Rattle.check_laws.specs.Walks.{Walks}
 use Rattle.check_laws.specs.declared.verdict.Seen.{Seen}
 use Rattle.check_ends.specs.Conversation.{IsAnswer, IsJudgedAnswer, NoneGoesOn, StandsBehind}
 use Rattle.check_ends.specs.PartyReplies.{IsGoingWhy, IsReplied, RepliesOnward}
-use Rattle.check_ends.specs.declared.onward.Onward.{Onward}
-use Rattle.check_ends.specs.declared.onward.Onward.TheVariants as onward
+use Rattle.check_ends.specs.declared.continuation.Continuation.{Continuation}
+use Rattle.check_ends.specs.declared.continuation.Continuation.TheVariants as onward
 use Rattle.check_ends.specs.declared.party.Party.{Party}
 use Rattle.check_laws.proofs.Large.Onward.{came, replied}
 use Rattle.capture_machine.specs.Capture.{RepliesBy}
@@ -85,7 +85,7 @@ module _ (w : Configuration) (q : ReqSetup) (older : List (List ℕ)) (rows : Li
     entries = c.2.stands;
   }
 
-  pub told_on : (told : Result Onward declared.Why) (party : Party) (table : List Seen) → IsReplied w q older rows k route answer told party table → IsJudgedAnswer w q older rows packet route answer told party None table
+  pub told_on : (told : Result Continuation declared.Why) (party : Party) (table : List Seen) → IsReplied w q older rows k route answer told party table → IsJudgedAnswer w q older rows packet route answer told party None table
   told_on (Ok onward.Kept) party table c = kept_on party table c
   told_on (Ok onward.Large) party table c = (k, keeps, c)
   told_on (Ok (onward.Asked why)) party table c = ((k, keeps, c.0), answered_reason (why_of why) c.1)

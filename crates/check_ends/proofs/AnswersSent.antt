@@ -44,13 +44,13 @@ use Rattle.check_ends.proofs.SendingTold.{asker_before, asker_meanwhile}
 use Rattle.check_ends.proofs.SendingWalks.{form, own_setup, walk_form}
 use Rattle.check_ends.proofs.WalkRows.{places_for}
 use Rattle.check_responder.specs.AnswerKeys as answer_keys
-use Rattle.check_responder.specs.Answerer.{IsAnswerer, history_shown}
-use Rattle.check_requester.specs.Asker.{IsAsker}
+use Rattle.check_responder.specs.JudgedResponder.{IsAnswerer, history_shown}
+use Rattle.check_requester.specs.JudgedRequester.{IsAsker}
 use Rattle.check_ends.specs.Conversation.{IsAnswer, IsJudgedAnswer, IsUnderWay, NoneGoesOn, StandsBehind, meanwhile}
 use Rattle.check_responder.specs.Given.{IsApartInClear, IsGivenNever}
 use Rattle.check_responder.specs.declared.answer_keys.AnswerKeys.{AnswerKeys}
-use Rattle.check_responder.specs.declared.answerer.Answerer.{Answerer}
-use Rattle.check_requester.specs.declared.asker.Asker.{Asker}
+use Rattle.check_responder.specs.declared.judged_responder.JudgedResponder.{JudgedResponder}
+use Rattle.check_requester.specs.declared.judged_requester.JudgedRequester.{JudgedRequester}
 use Rattle.check_ends.specs.declared.party.Party.{Party}
 use Rattle.check_laws.proofs.Large.Onward.{replies as steps_replying}
 use Rattle.check_laws.proofs.Large.Replied.{behind_next, replies_all, sending_is_replied, sending_replies}
@@ -247,7 +247,7 @@ module _ (w : Configuration) (q : ReqSetup) (older : List (List ℕ)) (rows : Li
     places_before places are = places_for places (restored (meanwhile s)) before rows refl refl are
 
     -- The keys of the answers, by what holds of any values.
-    pub keys_behind : (keys : AnswerKeys) (seen : Answerer) → IsAnswerer seen r h
+    pub keys_behind : (keys : AnswerKeys) (seen : JudgedResponder) → IsAnswerer seen r h
         → ((ids : List ℕ) (f : Free) → IsAnswerer seen r (behind_by (with_dropped s.responder ids) (on_body r (with_dropped s.responder ids) s.round.tag s.round.body f no_draw))
         → answer_keys.StandFor keys r (behind_by (with_dropped s.responder ids) (on_body r (with_dropped s.responder ids) s.round.tag s.round.body f no_draw)))
         → answer_keys.StandFor keys r h
@@ -271,7 +271,7 @@ module _ (w : Configuration) (q : ReqSetup) (older : List (List ℕ)) (rows : Li
           sending = behind;
           chunks = chunks;
           kept = record {
-            asker = subst (λ (x : Asker). IsAsker x q (meanwhile next)) (sym asker) (asker_meanwhile old.asker q next (asker_before old.asker q s way.kept.asker));
+            asker = subst (λ (x : JudgedRequester). IsAsker x q (meanwhile next)) (sym asker) (asker_meanwhile old.asker q next (asker_before old.asker q s way.kept.asker));
             answerer = answerer;
             keys = keys;
             number = number ∙ way.kept.number;

@@ -12,11 +12,11 @@ use Rattle.check_ends.proofs.RequestRows.{IsToldNothing, before, chunk_session, 
 use Rattle.check_ends.proofs.SendingTold.{in_round}
 use Rattle.check_ends.proofs.SendingWalks.{form, walk_form}
 use Rattle.check_ends.proofs.WalkRows.{places_for}
-use Rattle.check_requester.specs.Asker.{IsAsker}
+use Rattle.check_requester.specs.JudgedRequester.{IsAsker}
 use Rattle.check_ends.specs.Conversation.{IsBeginning, IsJudgedRequest, IsRequest, StandsBehind, meanwhile}
 use Rattle.check_requester.specs.LargeAsked.{IsBegun}
 use Rattle.check_ends.specs.Party.{IsAskedWhole, IsParty}
-use Rattle.check_requester.specs.declared.asker.Asker.{Asker}
+use Rattle.check_requester.specs.declared.judged_requester.JudgedRequester.{JudgedRequester}
 use Rattle.check_ends.specs.declared.party.Party.{Party}
 use Rattle.check_laws.proofs.Rounded.{no_copy}
 use Rattle.check_laws.specs.ChangeLaws.{CopyIsRequest, RoundIsRequest}
@@ -34,7 +34,7 @@ use Rattle.capture_machine.specs.Rounds.{Dialogue, new_round}
 use Rattle.capture_machine.specs.SessionTable.{Row, rows_between}
 use Rattle.world_machine.specs.Setup.{Configuration}
 
-pub party_with : (party : Party) (w : Configuration) (q : ReqSetup) (k : Kept) (rows : List Row) (seen : Asker) → IsParty party w q k rows → IsAsker seen q k → IsParty (record party { asker = seen }) w q k rows
+pub party_with : (party : Party) (w : Configuration) (q : ReqSetup) (k : Kept) (rows : List Row) (seen : JudgedRequester) → IsParty party w q k rows → IsAsker seen q k → IsParty (record party { asker = seen }) w q k rows
 party_with party w q k rows seen is asker = record { asker = asker; answerer = is.answerer; keys = is.keys; number = is.number; places = is.places }
 
 -- ---- Whether it begins a large request.

@@ -22,7 +22,7 @@ use Rattle.check_laws.proofs.Steadily.{IsSteady}
 use Rattle.check_laws.specs.AnswersShown.{values_shown_by}
 use Rattle.check_laws.specs.DropsShown.{drops_shown_by, outcome_shown}
 use Rattle.check_laws.specs.Keeping.{Kept, restored}
-use Rattle.check_requester.specs.Asker.{Carries}
+use Rattle.check_requester.specs.JudgedRequester.{Carries}
 use Rattle.check_laws.specs.Order.{is_answer, is_request}
 use Rattle.check_responder.specs.Given.{IsApartInClear}
 use Rattle.check_laws.specs.RepliesShown.{responder_for}

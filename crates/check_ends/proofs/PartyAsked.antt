@@ -13,9 +13,9 @@ use Rattle.spdm_grammar.specs.declared.told.why.Why as declared
 use Rattle.spdm_basis.proofs.Bools.{and_first, and_second}
 use Rattle.check_ends.proofs.InTurn.{AsksInTurn}
 use Rattle.check_responder.specs.AnswerKeys.{StandFor as keys_stand}
-use Rattle.check_responder.specs.Answerer.{IsAnswerer}
+use Rattle.check_responder.specs.JudgedResponder.{IsAnswerer}
 use Rattle.check_requester.specs.Asked.{IsRefusedFor}
-use Rattle.check_requester.specs.Asker.{IsAsker, is_first_chunk}
+use Rattle.check_requester.specs.JudgedRequester.{IsAsker, is_first_chunk}
 use Rattle.check_laws.proofs.RequestSteps.{kept_copy_is_request, kept_round_is_request}
 use Rattle.check_laws.specs.ChangeLaws.{IsRequestStep}
 use Rattle.check_laws.specs.Changes.{session_in}
@@ -28,10 +28,10 @@ use Rattle.check_laws.specs.Rows.{StandFor, StandsForRows}
 use Rattle.check_laws.specs.declared.places.Places.{Places}
 use Rattle.check_laws.specs.declared.verdict.Seen.{Seen}
 use Rattle.check_responder.specs.declared.answer_keys.AnswerKeys.{AnswerKeys}
-use Rattle.check_responder.specs.declared.answerer.Answerer.{Answerer}
-use Rattle.check_requester.specs.declared.asker.Asker.{Asker}
-use Rattle.check_ends.specs.declared.onward.Onward.{Onward}
-use Rattle.check_ends.specs.declared.onward.Onward.TheVariants as onward
+use Rattle.check_responder.specs.declared.judged_responder.JudgedResponder.{JudgedResponder}
+use Rattle.check_requester.specs.declared.judged_requester.JudgedRequester.{JudgedRequester}
+use Rattle.check_ends.specs.declared.continuation.Continuation.{Continuation}
+use Rattle.check_ends.specs.declared.continuation.Continuation.TheVariants as onward
 use Rattle.check_ends.specs.declared.party.Party.{Party}
 use Rattle.capture_machine.specs.Capture.{may_begin}
 use Rattle.capture_machine.specs.Difference.{Why, comes_why, is_copy, request_why}
@@ -41,7 +41,7 @@ use Rattle.capture_machine.specs.SessionTable.{Row, rows_between}
 use Rattle.world_machine.specs.Setup.{Configuration}
 
 -- Of what is kept of the requester, the round does not count.
-asker_with : (seen : Asker) (q : ReqSetup) (k : Kept) (round : Option Round) → IsAsker seen q k → IsAsker seen q (record k { round = round })
+asker_with : (seen : JudgedRequester) (q : ReqSetup) (k : Kept) (round : Option Round) → IsAsker seen q k → IsAsker seen q (record k { round = round })
 asker_with seen q k round asker = record { kept = asker.kept; setup = asker.setup; stands = asker.stands; owes = asker.owes }
 
 pub copy_of : (o : Option Round) (tag : ℕ) (body : List ℕ) → is_copy o tag body ≡ true → (round : Round) × (o ≡ Some round) × (round.tag ≡ tag) × (round.body ≡ body)
@@ -144,14 +144,14 @@ pub whole_by : (w : Configuration) (q : ReqSetup) (older : List (List ℕ)) (row
 whole_by w q older rows k route body (Ok u) old new table party same told =
     let next : Kept = told.0 in
     let at = asks_same k next route body told.1 in
-    let one : IsAnswerer new.answerer (responder_for w k) k.responder = subst (λ (x : Answerer). IsAnswerer x (responder_for w k) k.responder) (sym same) party.answerer in
+    let one : IsAnswerer new.answerer (responder_for w k) k.responder = subst (λ (x : JudgedResponder). IsAnswerer x (responder_for w k) k.responder) (sym same) party.answerer in
     let two : IsAnswerer new.answerer (responder_for w next) k.responder = subst (λ (s : ReqSetup). IsAnswerer new.answerer (responder_for w (record k { setup = s })) k.responder) (sym at.0) one in
     let here : IsAnswerer new.answerer (responder_for w next) next.responder = subst (IsAnswerer new.answerer (responder_for w next)) (sym at.1) two in
     (next, told.1, record { party = party_of new w q next _ told.2.beside here; stands = told.2.stands })
 whole_by w q older rows k route body (Err why) old new table party same told = told
 
 -- Where it may begin a large request, no more is told.
-pub large_or_refused : (w : Configuration) (q : ReqSetup) (older : List (List ℕ)) (rows : List Row) (k : Kept) (route : RouteFields) (body : List ℕ) (new : Party) (table : List Seen) (why : declared.Why) (result : Result Onward declared.Why) (b : Bool)
+pub large_or_refused : (w : Configuration) (q : ReqSetup) (older : List (List ℕ)) (rows : List Row) (k : Kept) (route : RouteFields) (body : List ℕ) (new : Party) (table : List Seen) (why : declared.Why) (result : Result Continuation declared.Why) (b : Bool)
     → is_first_chunk body ≡ b → result ≡ cond b (Ok onward.Large) (Err why) → IsAskedWhole w q older rows k route body (Err why) new table → IsAsked w q older rows k route body result new table
-large_or_refused w q older rows k route body new table why result true is told refused = subst (λ (x : Result Onward declared.Why). IsAsked w q older rows k route body x new table) (sym told) (is, refused.0)
-large_or_refused w q older rows k route body new table why result false is told refused = subst (λ (x : Result Onward declared.Why). IsAsked w q older rows k route body x new table) (sym told) (is, refused.0, refused.1)
+large_or_refused w q older rows k route body new table why result true is told refused = subst (λ (x : Result Continuation declared.Why). IsAsked w q older rows k route body x new table) (sym told) (is, refused.0)
+large_or_refused w q older rows k route body new table why result false is told refused = subst (λ (x : Result Continuation declared.Why). IsAsked w q older rows k route body x new table) (sym told) (is, refused.0, refused.1)

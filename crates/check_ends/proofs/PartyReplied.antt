@@ -26,9 +26,9 @@ use Rattle.check_laws.proofs.LargeShown.{large_is_shown}
 use Rattle.check_laws.proofs.PlainShown.{plain_is_shown}
 use Rattle.check_laws.proofs.RepliesTold.{replies_are_told}
 use Rattle.check_responder.specs.AnswerKeys.{StandFor}
-use Rattle.check_responder.specs.Answerer.{IsAnswerer, history_shown}
+use Rattle.check_responder.specs.JudgedResponder.{IsAnswerer, history_shown}
 use Rattle.check_laws.specs.ApartShown.{IsApartShown}
-use Rattle.check_requester.specs.Asker.{Carries, IsAsker}
+use Rattle.check_requester.specs.JudgedRequester.{Carries, IsAsker}
 use Rattle.check_laws.specs.AnswersShown.{values_shown_by}
 use Rattle.check_laws.specs.DropsShown.{IsShownAnswer, drops_shown_by, outcome_shown}
 use Rattle.check_requester.specs.HeardKept.{asks_upon, heard_kept}
@@ -46,8 +46,8 @@ use Rattle.check_laws.specs.Rows as rows_of
 use Rattle.check_laws.specs.Rows.{StandsForRows}
 use Rattle.check_laws.specs.declared.places.Places.{Places}
 use Rattle.check_laws.specs.declared.verdict.Seen.{Seen}
-use Rattle.check_requester.specs.declared.asker.Asker.{Asker}
-use Rattle.check_ends.specs.declared.onward.Onward.TheVariants as onward
+use Rattle.check_requester.specs.declared.judged_requester.JudgedRequester.{JudgedRequester}
+use Rattle.check_ends.specs.declared.continuation.Continuation.TheVariants as onward
 use Rattle.check_ends.specs.declared.party.Party.{Party}
 use Rattle.capture_machine.specs.Capture.{RepliesBy}
 use Rattle.capture_machine.specs.CapturedAnswers.{Answers, AnswersAgain, AnswersPlainly}
@@ -220,7 +220,7 @@ module _ (w : Configuration) (q : ReqSetup) (older : List (List ℕ)) (k : Kept)
 
 -- ---- Bounds.
 
-pub kept_limits : (q : ReqSetup) (k : Kept) (seen : Asker) → IsAsker seen q k → IsSetUp k.setup
+pub kept_limits : (q : ReqSetup) (k : Kept) (seen : JudgedRequester) → IsAsker seen q k → IsSetUp k.setup
 kept_limits q k seen asker = subst IsSetUp (sym asker.setup) asker.kept.limits
 
 pub few_messages : (w : Configuration) (q : ReqSetup) (older : List (List ℕ)) (k : Kept) → Carries w q older k → length older < 2 ^ 64 - 1 → messages_of k.responder < 2 ^ 64 - 1

@@ -20,7 +20,7 @@ use Rattle.check_requester.proofs.FewMessages.{after_more, dropped_same}
 use Rattle.check_ends.proofs.InTurn.{AnswersInTurn}
 use Rattle.check_requester.proofs.CarriedBy.{keeps_carries}
 use Rattle.check_ends.proofs.PartyReplied.{few_messages, whole_kept, whole_replies}
-use Rattle.check_responder.specs.Answerer.{history_shown}
+use Rattle.check_responder.specs.JudgedResponder.{history_shown}
 use Rattle.check_requester.specs.HeardKept.{asks_upon}
 use Rattle.capture_machine.specs.Rounds.{Round}
 use Rattle.capture_machine.specs.SessionTable.{Row}

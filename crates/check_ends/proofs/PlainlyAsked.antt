@@ -6,7 +6,7 @@ use Rattle.mctp_framing.specs.Gathering.Gathered.{Whole}
 use Rattle.requester_machine.specs.Setup.{ReqSetup}
 use Rattle.spdm_grammar.specs.declared.told.why.Why as declared
 use Rattle.check_ends.proofs.BeginsTold.{refused_on, whole_on}
-use Rattle.check_requester.specs.Asker.{is_first_chunk}
+use Rattle.check_requester.specs.JudgedRequester.{is_first_chunk}
 use Rattle.check_ends.specs.Conversation.{IsAskedOf, IsBeginning, IsRequest, StandsBehind}
 use Rattle.check_ends.specs.Party.{IsAskedWhole}
 use Rattle.check_ends.specs.declared.conversation.Conversation.{Conversation}

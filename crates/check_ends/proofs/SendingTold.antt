@@ -31,11 +31,11 @@ use Rattle.check_ends.proofs.PartyAsked.{copy_of, is_no_copy}
 use Rattle.check_ends.proofs.RequestRows.{IsToldNothing, before, chunk_session, over_before, places_behind, table_behind}
 use Rattle.check_ends.proofs.SendingWalks.{ended_behind, form, none_sends, sent_behind, sent_reason, walk_form}
 use Rattle.check_ends.proofs.WalkRows.{places_for}
-use Rattle.check_requester.specs.Asker.{IsAsker}
+use Rattle.check_requester.specs.JudgedRequester.{IsAsker}
 use Rattle.check_ends.specs.Conversation.{IsJudgedRequest, IsRequest, IsUnderWay, StandsBehind, meanwhile}
 use Rattle.check_requester.specs.LargeAsked.{IsConnectedOver, refused_why}
 use Rattle.check_ends.specs.Party.{IsParty}
-use Rattle.check_requester.specs.declared.asker.Asker.{Asker}
+use Rattle.check_requester.specs.declared.judged_requester.JudgedRequester.{JudgedRequester}
 use Rattle.check_ends.specs.declared.party.Party.{Party}
 use Rattle.check_laws.proofs.Large.Meanwhile.{sending_connects}
 use Rattle.check_laws.specs.Large.LargeRequests as large_requests
@@ -63,15 +63,15 @@ in_round party w q k o rows more is are = record {
 }
 
 -- The requester is as it was before.
-pub asker_before : (seen : Asker) (q : ReqSetup) (s : Sending) → IsAsker seen q (meanwhile s) → IsAsker seen q s.before
+pub asker_before : (seen : JudgedRequester) (q : ReqSetup) (s : Sending) → IsAsker seen q (meanwhile s) → IsAsker seen q s.before
 asker_before seen q s is = record { kept = is.kept; setup = is.setup; stands = is.stands; owes = is.owes }
 
 -- And the other way round.
-pub asker_meanwhile : (seen : Asker) (q : ReqSetup) (s : Sending) → IsAsker seen q s.before → IsAsker seen q (meanwhile s)
+pub asker_meanwhile : (seen : JudgedRequester) (q : ReqSetup) (s : Sending) → IsAsker seen q s.before → IsAsker seen q (meanwhile s)
 asker_meanwhile seen q s is = record { kept = is.kept; setup = is.setup; stands = is.stands; owes = is.owes }
 
 -- Another requester may be kept in its place.
-pub way_with : (party : Party) (large : LargeRequest) (w : Configuration) (q : ReqSetup) (older : List (List ℕ)) (rows : List Row) (s : Sending) (seen : Asker) → IsUnderWay party large w q older rows s → IsAsker seen q s.before → IsUnderWay (record party { asker = seen }) large w q older rows s
+pub way_with : (party : Party) (large : LargeRequest) (w : Configuration) (q : ReqSetup) (older : List (List ℕ)) (rows : List Row) (s : Sending) (seen : JudgedRequester) → IsUnderWay party large w q older rows s → IsAsker seen q s.before → IsUnderWay (record party { asker = seen }) large w q older rows s
 way_with party large w q older rows s seen way asker = record {
   sending = way.sending;
   chunks = way.chunks;
@@ -189,7 +189,7 @@ module _ (copies : CopyIsRequest) (rounds : RoundIsRequest) (w : Configuration) 
 
   -- ---- The large request ends.
 
-  module _ (h : History) (seen : Asker) (asker : IsAsker seen q (record s.before { requester = h; owed = None })) (none_sent : session_in (outstanding h) ≡ None) where
+  module _ (h : History) (seen : JudgedRequester) (asker : IsAsker seen q (record s.before { requester = h; owed = None })) (none_sent : session_in (outstanding h) ≡ None) where
     abbrev last : Kept
     last = whole_kept s h route.tag body
 
@@ -219,7 +219,7 @@ module _ (copies : CopyIsRequest) (rounds : RoundIsRequest) (w : Configuration) 
         }
 
   -- By GET_VERSION.
-  pub connected : (seen : Asker) → body ≡ clear_body (canonical_request GetVersion) → may_begin (Some s.round) body ≡ true → is_copy (Some s.round) route.tag body ≡ false → IsConnectedOver q s seen
+  pub connected : (seen : JudgedRequester) → body ≡ clear_body (canonical_request GetVersion) → may_begin (Some s.round) body ≡ true → is_copy (Some s.round) route.tag body ≡ false → IsConnectedOver q s seen
       → StandsBehind (record party { asker = seen }) None table w q older rows packet
   connected seen is may other c =
       let tells : Tells s.before.setup (without_due s c.beginning c.whole) Connect body c.after = subst (λ (l : List ℕ). Tells s.before.setup (without_due s c.beginning c.whole) Connect l c.after) (sym is) c.tells in
@@ -227,7 +227,7 @@ module _ (copies : CopyIsRequest) (rounds : RoundIsRequest) (w : Configuration) 
       ended c.after seen c.asker (connect_session s.before.setup (without_due s c.beginning c.whole) body c.after tells) (turn.body, turn.owner, inr way_on)
 
   -- By the last chunk.
-  pub completed : (seen : Asker) (whole : List ℕ) (b : Beginning) → MayBegin s.before b → LastSending s route.tag body (whole_kept s (requester_of s b whole) route.tag body)
+  pub completed : (seen : JudgedRequester) (whole : List ℕ) (b : Beginning) → MayBegin s.before b → LastSending s route.tag body (whole_kept s (requester_of s b whole) route.tag body)
       → IsAsker seen q (record s.before { requester = requester_of s b whole; owed = None }) → StandsBehind (record party { asker = seen }) None table w q older rows packet
   completed seen whole b may goes asker = ended (requester_of s b whole) seen asker (chunk_session s b whole may) (turn.body, turn.owner, inl goes)
 

@@ -18,8 +18,8 @@ use Rattle.check_laws.specs.Rows.{StandsForRows}
 use Rattle.check_laws.specs.Walks.{Walks}
 use Rattle.check_laws.specs.declared.verdict.Seen.{Seen}
 use Rattle.check_ends.specs.declared.conversation.Conversation.{Conversation}
-use Rattle.check_ends.specs.declared.onward.Onward.{Onward}
-use Rattle.check_ends.specs.declared.onward.Onward.TheVariants as onward
+use Rattle.check_ends.specs.declared.continuation.Continuation.{Continuation}
+use Rattle.check_ends.specs.declared.continuation.Continuation.TheVariants as onward
 use Rattle.check_ends.specs.declared.party.Party.{Party}
 use Rattle.check_laws.specs.Large.LargeRequests as large_requests
 use Rattle.check_laws.specs.Large.Sending.{IsSendingOf, Sending}
@@ -141,7 +141,7 @@ IsAsked w q older tag answer = (k : Kept) × Keeps w q older k × IsAskedUpon w 
 -- Of an answer: it goes on, or it is a part of a large one, of which nothing more is said; or the requester asks for a
 -- chunk in response to it, and why it is refused where no walk goes on with it; or no walk does, and then why.
 abbrev pub IsJudgedAnswer : Configuration → ReqSetup → List (List ℕ) → List Row → (packet : List ℕ) → RouteFields → (answer : List ℕ)
-    → Result Onward declared.Why → (party : Party) → (large : Option LargeRequest) → (table : List Seen) → Type 0
+    → Result Continuation declared.Why → (party : Party) → (large : Option LargeRequest) → (table : List Seen) → Type 0
 IsJudgedAnswer w q older rows packet route answer (Ok onward.Kept) party large table = StandsBehind party large table w q older rows packet
 IsJudgedAnswer w q older rows packet route answer (Ok onward.Large) party large table = IsPart w q older route.tag answer
 IsJudgedAnswer w q older rows packet route answer (Ok (onward.Asked why)) party large table =

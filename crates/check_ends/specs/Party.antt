@@ -7,15 +7,15 @@ use Rattle.mctp_framing.specs.Gathering.Gathered.{Whole}
 use Rattle.requester_machine.specs.Setup.{ReqSetup}
 use Rattle.spdm_grammar.specs.declared.told.why.Why as declared
 use Rattle.check_responder.specs.AnswerKeys as answer_keys
-use Rattle.check_responder.specs.Answerer.{IsAnswerer}
-use Rattle.check_requester.specs.Asker.{IsAsker, is_first_chunk}
+use Rattle.check_responder.specs.JudgedResponder.{IsAnswerer}
+use Rattle.check_requester.specs.JudgedRequester.{IsAsker, is_first_chunk}
 use Rattle.check_laws.specs.Judged.{why_of}
 use Rattle.check_laws.specs.Keeping.{AsksKept, Kept, restored}
 use Rattle.check_laws.specs.RepliesShown.{responder_for}
 use Rattle.check_laws.specs.Rows.{StandFor, StandsForRows}
 use Rattle.check_laws.specs.declared.verdict.Seen.{Seen}
-use Rattle.check_ends.specs.declared.onward.Onward.{Onward}
-use Rattle.check_ends.specs.declared.onward.Onward.TheVariants as onward
+use Rattle.check_ends.specs.declared.continuation.Continuation.{Continuation}
+use Rattle.check_ends.specs.declared.continuation.Continuation.TheVariants as onward
 use Rattle.check_ends.specs.declared.party.Party.{Party}
 use Rattle.capture_machine.specs.Difference.{ComesApart, Why, comes_why}
 use Rattle.capture_machine.specs.Difference.Why.{BadVerify}
@@ -68,7 +68,7 @@ IsComingWhy k g why = (ComesApart (restored k) g → ⊥) × (comes_why (restore
 
 -- Of a request that goes on: what is kept is that after it, and so is the table. Nothing is said of what is kept where
 -- it may begin a large one: it is a first chunk. None goes on as answers do in response to which a chunk is asked for.
-abbrev pub AsksOnward : Configuration → ReqSetup → List (List ℕ) → List Row → Kept → RouteFields → (body : List ℕ) → Onward
+abbrev pub AsksOnward : Configuration → ReqSetup → List (List ℕ) → List Row → Kept → RouteFields → (body : List ℕ) → Continuation
     → (new : Party) → (table : List Seen) → Type 0
 AsksOnward w q older rows k route body onward.Kept new table =
     (next : Kept) × AsksKept k (Whole route body) next × StandBehind new table w q older rows k next
@@ -94,7 +94,7 @@ IsAskedBeside w q older rows k route body (Err why) new table =
 
 -- Of a request: it goes on, or it is refused, and then why: it is no first chunk either.
 abbrev pub IsAsked : Configuration → ReqSetup → List (List ℕ) → List Row → Kept → RouteFields → (body : List ℕ)
-    → Result Onward declared.Why → (new : Party) → (table : List Seen) → Type 0
+    → Result Continuation declared.Why → (new : Party) → (table : List Seen) → Type 0
 IsAsked w q older rows k route body (Ok on) new table = AsksOnward w q older rows k route body on new table
 IsAsked w q older rows k route body (Err why) new table =
     (is_first_chunk body ≡ false) × ((next : Kept) → AsksKept k (Whole route body) next → ⊥) × IsComingWhy k (Whole route body) (why_of why)

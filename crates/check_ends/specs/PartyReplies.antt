@@ -15,8 +15,8 @@ use Rattle.check_requester.specs.HeardKept.{asks_upon}
 use Rattle.check_ends.specs.Party.{StandBehind}
 use Rattle.check_laws.specs.RepliesShown.{AnswersRound, responder_for}
 use Rattle.check_laws.specs.declared.verdict.Seen.{Seen}
-use Rattle.check_ends.specs.declared.onward.Onward.{Onward}
-use Rattle.check_ends.specs.declared.onward.Onward.TheVariants as onward
+use Rattle.check_ends.specs.declared.continuation.Continuation.{Continuation}
+use Rattle.check_ends.specs.declared.continuation.Continuation.TheVariants as onward
 use Rattle.check_ends.specs.declared.party.Party.{Party}
 use Rattle.capture_machine.specs.Capture.{RepliesBy}
 use Rattle.capture_machine.specs.Difference.{GoesApart, Why, goes_why}
@@ -49,7 +49,7 @@ IsAskedUpon w k tag answer =
 
 -- Of an answer that goes on, likewise. Where the requester asks for a chunk in response to it, the reason is that for
 -- which it is refused where it does not go on.
-abbrev pub RepliesOnward : Configuration → ReqSetup → List (List ℕ) → List Row → Kept → RouteFields → (answer : List ℕ) → Onward
+abbrev pub RepliesOnward : Configuration → ReqSetup → List (List ℕ) → List Row → Kept → RouteFields → (answer : List ℕ) → Continuation
     → (new : Party) → (table : List Seen) → Type 0
 RepliesOnward w q older rows k route answer onward.Kept new table =
     (next : Kept) × RepliesKept w k (Whole route answer) next × StandBehind new table w q older rows k next
@@ -59,7 +59,7 @@ RepliesOnward w q older rows k route answer (onward.Asked why) new table =
 
 -- Of an answer: it goes on, or it is refused, and then why: it begins no fetch either.
 abbrev pub IsReplied : Configuration → ReqSetup → List (List ℕ) → List Row → Kept → RouteFields → (answer : List ℕ)
-    → Result Onward declared.Why → (new : Party) → (table : List Seen) → Type 0
+    → Result Continuation declared.Why → (new : Party) → (table : List Seen) → Type 0
 IsReplied w q older rows k route answer (Ok on) new table = RepliesOnward w q older rows k route answer on new table
 IsReplied w q older rows k route answer (Err why) new table =
     ((next : Dialogue) → RepliesBy w (restored k) (Whole route answer) next → ⊥) × IsGoingWhy (responder_for w k) k (Whole route answer) (why_of why)

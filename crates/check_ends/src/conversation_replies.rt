@@ -1,4 +1,4 @@
-use crate::{Conversation, Onward, Party};
+use crate::{Continuation, Conversation, Party};
 use check_laws::{
     LargeRequest, Round, SessionTable, ack_accepts_none, answer_asks_none, walks_step,
 };
@@ -20,7 +20,7 @@ impl Party {
     ghost use Rattle.check_laws.specs.Order.{answered_why};
     ghost use Rattle.check_laws.specs.RepliesShown.{responder_for};
     ghost use Rattle.check_laws.specs.Rows.{StandsForRows};
-    ghost use Rattle.check_ends.specs.declared.onward.Onward.TheVariants as onward;
+    ghost use Rattle.check_ends.specs.declared.continuation.Continuation.TheVariants as onward;
     ghost use Rattle.check_laws.specs.Large.Sending.{Sending};
     ghost use Rattle.capture_machine.specs.SessionTable.{Row};
     ghost use Rattle.world_machine.specs.Setup.{Configuration};
@@ -34,7 +34,7 @@ impl Party {
         setup: &Setup<'_>,
         round: &Round,
         answer: &[u8],
-    ) -> Result<Result<Onward, Why>, OutOfMemory>
+    ) -> Result<Result<Continuation, Why>, OutOfMemory>
         requires { length answer.now ≤ MAX_BODY_SIZE }
         ensures told { (w : Configuration) (q : ReqSetup) (older : List (List ℕ)) (rows : List Row)
             (packet : List ℕ) (route : RouteFields) (s : Sending)
@@ -63,7 +63,7 @@ impl Party {
                 let change = self.change(begun, None, taken);
                 table.take(&mut self.places, self.number, &change)?;
                 large.acknowledge();
-                Ok(Ok(Onward::Kept))
+                Ok(Ok(Continuation::Kept))
             }
             // A chunk that is not the last one leads to neither.
             Judged::Given(Given::Large) => Ok(Err(why)),
@@ -86,19 +86,19 @@ impl Conversation {
     ghost use Rattle.check_laws.specs.DropsShown.{id_begun, response_of};
     ghost use Rattle.check_laws.specs.Order.{answered_why, round_of};
     ghost use Rattle.check_laws.specs.Rows.{StandsForRows};
-    ghost use Rattle.check_ends.specs.declared.onward.Onward.TheVariants as onward;
+    ghost use Rattle.check_ends.specs.declared.continuation.Continuation.TheVariants as onward;
     ghost use Rattle.capture_machine.specs.SessionTable.{Row};
     ghost use Rattle.world_machine.specs.Setup.{Configuration, known_of};
 
-    // The same where a large request is in progress. It stands apart, since a function clears the places of its values
-    // when it is entered, and a large request is large.
+    // The same where a large request is in progress. A function of its own: at entry a function clears the stack of its
+    // values, and a large request is large.
     fn replies_largely(
         &mut self,
         table: &mut SessionTable,
         setup: &Setup<'_>,
         round: &Round,
         answer: &[u8],
-    ) -> Result<Result<Onward, Why>, OutOfMemory>
+    ) -> Result<Result<Continuation, Why>, OutOfMemory>
         requires { length answer.now ≤ MAX_BODY_SIZE }
         ensures told { (w : Configuration) (q : ReqSetup) (older : List (List ℕ)) (rows : List Row)
             (packet : List ℕ) (route : RouteFields) → IsAnswer w q older packet route answer.now
@@ -134,7 +134,7 @@ impl Conversation {
         setup: &Setup<'_>,
         round: &Round,
         answer: &[u8],
-    ) -> Result<Result<Onward, Why>, OutOfMemory>
+    ) -> Result<Result<Continuation, Why>, OutOfMemory>
         requires { length answer.now ≤ MAX_BODY_SIZE }
         ensures told { (w : Configuration) (q : ReqSetup) (older : List (List ℕ)) (rows : List Row)
             (packet : List ℕ) (route : RouteFields) → IsAnswer w q older packet route answer.now

@@ -183,7 +183,7 @@ impl Conversation {
     ghost use Rattle.mctp_framing.specs.Cutting.{RouteFields};
     ghost use Rattle.mctp_framing.specs.Gathering.Gathered.{Whole};
     ghost use Rattle.requester_machine.specs.Setup.{ReqSetup};
-    ghost use Rattle.check_requester.specs.Asker.{is_first_chunk};
+    ghost use Rattle.check_requester.specs.JudgedRequester.{is_first_chunk};
     ghost use Rattle.check_ends.specs.Conversation.{IsAskedOf, IsRequest, StandsFor};
     ghost use Rattle.check_laws.specs.Order.{asked_why, round_of};
     ghost use Rattle.check_laws.specs.Rows.{StandsForRows};
@@ -211,8 +211,8 @@ impl Conversation {
         self.party.asks_whole(table, round, tag, body)
     }
 
-    // The same where a large request is in progress, or may begin. It stands apart, since a function clears the places
-    // of its values when it is entered, and a large request is large.
+    // The same where a large request is in progress, or may begin. A function of its own: at entry a function clears
+    // the stack of its values, and a large request is large.
     fn asks_largely(
         &mut self,
         table: &mut SessionTable,

@@ -6,18 +6,18 @@
 //! `Conversation::asks` and `Conversation::replies`, and `Party::asks` and `Party::replies`.
 #![tactic(auto)]
 
+mod continuation;
 mod conversation;
 mod conversation_laws;
 mod conversation_replies;
 mod conversation_requests;
-mod onward;
 mod party;
 mod party_laws;
 mod party_replies;
 
+pub use continuation::Continuation;
 pub use conversation::Conversation;
 pub use conversation_laws::{awaiting_conversations_stay, other_conversations_stay, walks_show};
-pub use onward::Onward;
 pub use party::Party;
 pub use party_laws::other_parties_stay;
 pub use spdm_grammar::Why;

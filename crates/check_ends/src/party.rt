@@ -1,12 +1,12 @@
 ghost use Rattle.std.specs.Prelude.{◌≡◌, Err, Ok, if◌then◌else◌};
-ghost use Rattle.check_requester.specs.Asker.{is_first_chunk};
-ghost use Rattle.check_ends.specs.declared.onward.Onward.TheVariants as onward;
+ghost use Rattle.check_requester.specs.JudgedRequester.{is_first_chunk};
+ghost use Rattle.check_ends.specs.declared.continuation.Continuation.TheVariants as onward;
 ghost use Rattle.spdm_grammar.specs.declared.names.TheConstants.{MAX_BODY_SIZE};
 
-use crate::Onward;
+use crate::Continuation;
 use check_laws::{Places, Round, SessionTable};
-use check_requester::{Asker, is_first_chunk};
-use check_responder::{AnswerKeys, Answerer, Coming};
+use check_requester::{JudgedRequester, is_first_chunk};
+use check_responder::{AnswerKeys, JudgedResponder, PreparedRequest};
 use responder_core::Setup;
 use spdm_basis::RecordFrame;
 use spdm_grammar::Why;
@@ -18,27 +18,27 @@ use spdm_grammar::Why;
 #[derive(Drop)]
 pub struct Party {
     /// The requester.
-    pub asker: Asker,
+    pub asker: JudgedRequester,
     /// The responder towards it.
-    pub answerer: Answerer,
+    pub answerer: JudgedResponder,
     /// The keys of answers that were given.
     pub keys: AnswerKeys,
     /// The requester's number, counted from 1.
     pub number: u8,
     /// Where its entries stand in the table of sessions.
     pub places: Places,
-    /// What is had of the request whose answer is judged. Between two calls it does not matter.
-    pub coming: Coming,
+    /// What is known of the request whose answer is judged. Meaningless between two calls.
+    pub coming: PreparedRequest,
     /// Room for the text of a record. Scratch space.
     pub text: RecordFrame,
 }
 
 // What is reported of a request that is refused for this: its body may be the first chunk of a large one.
-fn refused(why: Why, body: &[u8]) -> Result<Onward, Why>
+fn refused(why: Why, body: &[u8]) -> Result<Continuation, Why>
     ensures { result ≡ (if is_first_chunk body.now then Ok onward.Large else Err why) }
 {
     if is_first_chunk(body) {
-        return Ok(Onward::Large);
+        return Ok(Continuation::Large);
     }
     Err(why)
 }
@@ -49,7 +49,7 @@ impl Party {
     ghost use Rattle.mctp_framing.specs.Cutting.{RouteFields};
     ghost use Rattle.mctp_framing.specs.Gathering.Gathered.{Whole};
     ghost use Rattle.requester_machine.specs.Setup.{ReqSetup};
-    ghost use Rattle.check_requester.specs.Asker.{Carries, IsAsker};
+    ghost use Rattle.check_requester.specs.JudgedRequester.{Carries, IsAsker};
     ghost use Rattle.check_laws.specs.Keeping.{Keeps, Kept, kept_of};
     ghost use Rattle.check_laws.specs.Order.{asked_why};
     ghost use Rattle.check_ends.specs.Party.{IsAsked, IsAskedBeside, IsBeside, IsParty};
@@ -61,7 +61,7 @@ impl Party {
 
     /// A requester with this number, counted from 1, of which nothing came yet, and the responder that is set up so
     /// towards it. The table of sessions has no entries.
-    pub fn new(asker: Asker, number: u8, setup: &Setup<'_>) -> Party
+    pub fn new(asker: JudgedRequester, number: u8, setup: &Setup<'_>) -> Party
         ensures { (w : Configuration) (q : ReqSetup) → IsAsker asker q (kept_of (new_dialogue q))
             → number ≡ number_from 1 q.eid w.requesters
             → IsSetUp setup.now (responder_for w (kept_of (new_dialogue q)))
@@ -69,11 +69,11 @@ impl Party {
     {
         Party {
             asker,
-            answerer: Answerer::new(setup),
+            answerer: JudgedResponder::new(setup),
             keys: AnswerKeys::new(),
             number,
             places: Places::new(),
-            coming: Coming::new(),
+            coming: PreparedRequest::new(),
             text: RecordFrame::new(),
         }
     }
@@ -87,7 +87,7 @@ impl Party {
         round: &Round,
         tag: u8,
         body: &[u8],
-    ) -> Result<Onward, Why>
+    ) -> Result<Continuation, Why>
         ensures told { (w : Configuration) (q : ReqSetup) (older : List (List ℕ)) (rows : List Row)
             (k : Kept) (route : RouteFields) → Keeps w q older k → length older < 2 ^ 64 - 1
             → length body.now ≤ MAX_BODY_SIZE → round.now ≡ k.round → route.tag ≡ tag
@@ -97,7 +97,7 @@ impl Party {
         ensures stays { (result ≡ Ok onward.Kept → ⊥) → table.new ≡ table.old }
     {
         match self.asks_whole(table, round, tag, body) {
-            Ok(()) => Ok(Onward::Kept),
+            Ok(()) => Ok(Continuation::Kept),
             Err(why) => refused(why, body),
         }
     }

@@ -1,9 +1,9 @@
 ghost use Rattle.spdm_grammar.specs.declared.names.TheConstants.{MAX_BODY_SIZE};
 
-use crate::{Onward, Party};
+use crate::{Continuation, Party};
 use check_laws::{Change, Round, SessionTable};
-use check_requester::Heard;
-use check_responder::{Given, Judged, why_so};
+use check_requester::AnswerEffect;
+use check_responder::{Given, Judged, reason_for};
 use responder_core::Setup;
 use responder_session::AnswerKey;
 use spdm_basis::OutOfMemory;
@@ -25,8 +25,8 @@ impl Party {
     ghost use Rattle.responder_machine.specs.Setup.{RspSetup};
     ghost use Rattle.spdm_machine.specs.Keys.{Draw};
     ghost use Rattle.check_responder.specs.AnswerKeys.{IsComing, IsComingKey, StandFor};
-    ghost use Rattle.check_responder.specs.Answerer.{IsAnswerer};
-    ghost use Rattle.check_requester.specs.Asker.{Carries, IsAsker};
+    ghost use Rattle.check_responder.specs.JudgedResponder.{IsAnswerer};
+    ghost use Rattle.check_requester.specs.JudgedRequester.{Carries, IsAsker};
     ghost use Rattle.check_requester.specs.HeardKept.{asks_upon, heard_kept};
     ghost use Rattle.check_laws.specs.Changes.{views_in};
     ghost use Rattle.check_laws.specs.DropsShown.{id_begun, response_of};
@@ -37,14 +37,14 @@ impl Party {
     ghost use Rattle.check_ends.specs.PartyReplies.{IsReplied};
     ghost use Rattle.check_laws.specs.RepliesShown.{responder_for};
     ghost use Rattle.check_laws.specs.Rows.{StandsForRows};
-    ghost use Rattle.check_ends.specs.declared.onward.Onward.TheVariants as onward;
+    ghost use Rattle.check_ends.specs.declared.continuation.Continuation.TheVariants as onward;
     ghost use Rattle.capture_machine.specs.LargeAnswers.{is_fetching};
     ghost use Rattle.capture_machine.specs.Rounds as rounds;
     ghost use Rattle.capture_machine.specs.SessionTable.{Row};
     ghost use Rattle.world_machine.specs.Setup.{Configuration};
 
-    /// Prepares for a body, before an answer to it is judged: what is had of it is kept, and all else stays. Requires
-    /// fewer than 2^64 - 1 received messages.
+    /// Prepares for the answer to a request, before it is judged: what is known of the request is kept, and all else is
+    /// unchanged. Requires fewer than 2^64 - 1 received messages.
     pub fn prepare(&mut self, body: &[u8])
         ensures coming { (r : RspSetup) (h : History) → IsAnswerer self.old.answerer r h
             → messages_of h < 2 ^ 64 - 1 → IsComing self.new.coming r h body.now }
@@ -64,7 +64,7 @@ impl Party {
         setup: &Setup<'_>,
         round: &Round,
         answer: &[u8],
-    ) -> Result<Result<Onward, Why>, OutOfMemory>
+    ) -> Result<Result<Continuation, Why>, OutOfMemory>
         requires { length answer.now ≤ MAX_BODY_SIZE }
         ensures told { (w : Configuration) (q : ReqSetup) (older : List (List ℕ)) (rows : List Row)
             (k : Kept) (route : RouteFields) → Keeps w q older k → length older < 2 ^ 64 - 2
@@ -87,7 +87,7 @@ impl Party {
         setup: &Setup<'_>,
         round: &Round,
         answer: &[u8],
-    ) -> Result<Result<Onward, Why>, OutOfMemory>
+    ) -> Result<Result<Continuation, Why>, OutOfMemory>
         requires { length answer.now ≤ MAX_BODY_SIZE }
         ensures told { (w : Configuration) (q : ReqSetup) (older : List (List ℕ)) (rows : List Row)
             (k : Kept) (route : RouteFields) → Keeps w q older k → length older < 2 ^ 64 - 2
@@ -117,19 +117,19 @@ impl Party {
             Judged::Given(Given::Whole) => {
                 let heard = self.asker.hears(round.tag(), answer, false);
                 if heard.fetches {
-                    let why = why_so(told, &self.coming, answer, &mut self.text);
-                    return Ok(Ok(Onward::Asked(why)));
+                    let why = reason_for(told, &self.coming, answer, &mut self.text);
+                    return Ok(Ok(Continuation::Asked(why)));
                 }
                 let key = self.coming.take_key();
                 self.keys.follow(&self.answerer.connection, body, key);
                 let change = self.change(begun, heard.accepted, taken);
                 table.take(&mut self.places, self.number, &change)?;
-                Ok(Ok(Onward::Kept))
+                Ok(Ok(Continuation::Kept))
             }
-            Judged::Given(Given::Large) => Ok(Ok(Onward::Large)),
-            Judged::Given(Given::Last) => Ok(Ok(Onward::Large)),
+            Judged::Given(Given::Large) => Ok(Ok(Continuation::Large)),
+            Judged::Given(Given::Last) => Ok(Ok(Continuation::Large)),
             Judged::Apart => Ok(Err(Why::BadVerify)),
-            Judged::Refused => Ok(Err(why_so(told, &self.coming, answer, &mut self.text))),
+            Judged::Refused => Ok(Err(reason_for(told, &self.coming, answer, &mut self.text))),
         }
     }
 
@@ -161,7 +161,7 @@ impl Party {
         key: Option<AnswerKey>,
         answer: &[u8],
         awaits: bool,
-    ) -> Heard
+    ) -> AnswerEffect
         ensures answerer { self.new.answerer ≡ self.old.answerer }
         ensures number { self.new.number ≡ self.old.number }
         ensures places { self.new.places ≡ self.old.places }

@@ -13,8 +13,8 @@ use Rattle.check_requester.proofs.CarriedBy.{keeps_carries}
 use Rattle.check_ends.proofs.InTurn.{AnswersInTurn}
 use Rattle.check_responder.proofs.RecordAnswered.{session_sized}
 use Rattle.check_responder.specs.AnswerKeys.{StandFor, will_take}
-use Rattle.check_responder.specs.Answerer.{IsAnswerer}
-use Rattle.check_requester.specs.Asker.{Carries, IsAsker}
+use Rattle.check_responder.specs.JudgedResponder.{IsAnswerer}
+use Rattle.check_requester.specs.JudgedRequester.{Carries, IsAsker}
 use Rattle.check_requester.specs.HeardKept.{asks_upon, heard_kept}
 use Rattle.check_responder.specs.ShownBy.{HasFewBlocks}
 use Rattle.check_ends.specs.declared.party.Party.{Party}

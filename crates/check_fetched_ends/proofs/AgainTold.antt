@@ -6,7 +6,7 @@ use Rattle.std.proofs.lemmas.Bool.{and_parts, false≢true}
 use Rattle.std.proofs.lemmas.Option.{none-some}
 use Rattle.std.proofs.lemmas.Slice.Eq.{bytes_eq-Decides}
 use Rattle.check_responder.proofs.LargeReplies.{turn_tells}
-use Rattle.check_responder.specs.Answerer.{shows_large}
+use Rattle.check_responder.specs.JudgedResponder.{shows_large}
 use Rattle.check_responder.specs.RecordAnswers.{has_large}
 use Rattle.check_laws.specs.DropsShown.{response_of}
 use Rattle.responder_core.proofs.Whole.{no_data}

@@ -21,7 +21,7 @@ use Rattle.spdm_basis.proofs.Bools.{and_first}
 use Rattle.check_ends.proofs.AnswerWalks.{none_on}
 use Rattle.check_ends.specs.Conversation.{IsAnswer, NoneGoesOn}
 use Rattle.check_requester.specs.HeardKept.{asks_upon}
-use Rattle.check_ends.specs.declared.onward.Onward.TheVariants as onward
+use Rattle.check_ends.specs.declared.continuation.Continuation.TheVariants as onward
 use Rattle.check_laws.proofs.FetchShown.{fetch_same}
 use Rattle.check_laws.proofs.KeptAnswers.{kept_is_restored}
 use Rattle.check_laws.proofs.LargeShown.{large_is_shown}

@@ -9,7 +9,7 @@ use Rattle.spdm_machine.specs.Bodies.{clear_body}
 use Rattle.check_laws.proofs.OneWalk.{walks_alike}
 use Rattle.check_laws.specs.Keeping.{restored}
 use Rattle.check_laws.specs.Order.{body_in}
-use Rattle.check_requester.specs.Asker.{Carries}
+use Rattle.check_requester.specs.JudgedRequester.{Carries}
 use Rattle.check_late_laws.specs.Fetching.{Fetching, IsFetchingOf, dialogue_of}
 use Rattle.capture_machine.proofs.Fetching.{IsSound}
 use Rattle.capture_machine.specs.LargeAnswers.{is_fetching, is_for_chunk, place_named}

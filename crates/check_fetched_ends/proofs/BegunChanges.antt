@@ -4,7 +4,7 @@ use Rattle.std.specs.Prelude.{slice_index}
 use Rattle.mctp_framing.specs.Cutting.{RouteFields}
 use Rattle.check_ends.proofs.InTurn.{AnswersInTurn}
 use Rattle.check_responder.specs.AnswerKeys.{will_take}
-use Rattle.check_requester.specs.Asker.{Carries}
+use Rattle.check_requester.specs.JudgedRequester.{Carries}
 use Rattle.check_laws.specs.ChangeLaws.{AnswerAccepts, LargeAnswerChanges}
 use Rattle.check_laws.specs.Changes.{IsChange, IsStep, views_in}
 use Rattle.check_laws.specs.Keeping.{Kept, restored}

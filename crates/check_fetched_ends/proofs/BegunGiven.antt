@@ -6,11 +6,11 @@ use Rattle.std.proofs.lemmas.Option.{none-some}
 use Rattle.mctp_framing.specs.Cutting.{RouteFields}
 use Rattle.check_ends.proofs.InTurn.{AnswersInTurn}
 use Rattle.check_ends.proofs.KeptTyped.{kept_apart, kept_body}
-use Rattle.check_responder.specs.Answerer.{IsAnswerer}
-use Rattle.check_requester.specs.Asker.{Carries}
+use Rattle.check_responder.specs.JudgedResponder.{IsAnswerer}
+use Rattle.check_requester.specs.JudgedRequester.{Carries}
 use Rattle.check_responder.specs.Given.{IsGivenNever}
 use Rattle.check_responder.specs.RecordAnswers.{IsGivenTo, history_behind}
-use Rattle.check_responder.specs.declared.answerer.Answerer.{Answerer}
+use Rattle.check_responder.specs.declared.judged_responder.JudgedResponder.{JudgedResponder}
 use Rattle.check_responder.specs.declared.given.Given.{Given}
 use Rattle.check_responder.specs.declared.given.Given.TheVariants as given
 use Rattle.check_laws.specs.ApartShown.{IsApartShown}
@@ -51,7 +51,7 @@ module _ (w : Configuration) (q : ReqSetup) (older : List (List ℕ)) (k : Kept)
   pub given_is : (request : List ℕ) (result : Option Given) → request ≡ drop 1 turn.round.body → IsGivenTo (responder_for w k) k.responder turn.round.tag (record_body request) answer result → IsGivenTo (responder_for w k) k.responder turn.round.tag turn.round.body answer result
   given_is request result is told = subst (λ (b : List ℕ). IsGivenTo r h round.tag b answer result) (own_body request is) told
 
-  pub behind_is : (new : Answerer) (request : List ℕ) (brought : Given) → request ≡ drop 1 turn.round.body → IsAnswerer new (responder_for w k) (history_behind (responder_for w k) k.responder turn.round.tag (record_body request) answer brought)
+  pub behind_is : (new : JudgedResponder) (request : List ℕ) (brought : Given) → request ≡ drop 1 turn.round.body → IsAnswerer new (responder_for w k) (history_behind (responder_for w k) k.responder turn.round.tag (record_body request) answer brought)
       → IsAnswerer new (responder_for w k) (history_behind (responder_for w k) k.responder turn.round.tag turn.round.body answer brought)
   behind_is new request brought is stands = subst (λ (b : List ℕ). IsAnswerer new r (history_behind r h round.tag b answer brought)) (own_body request is) stands
 

@@ -5,7 +5,7 @@ use Rattle.std.proofs.lemmas.Bool.{false≢true}
 use Rattle.std.proofs.lemmas.Option.{same_Some}
 use Rattle.mctp_framing.specs.Cutting.{RouteFields}
 use Rattle.check_ends.proofs.InTurn.{AnswersInTurn}
-use Rattle.check_requester.specs.Asker.{Carries}
+use Rattle.check_requester.specs.JudgedRequester.{Carries}
 use Rattle.check_ends.specs.Party.{IsParty}
 use Rattle.check_ends.specs.declared.party.Party.{Party}
 use Rattle.check_laws.specs.Keeping.{Kept}

@@ -5,10 +5,10 @@ use Rattle.mctp_framing.specs.Cutting.{RouteFields}
 use Rattle.check_requester.proofs.FewMessages.{after_more}
 use Rattle.check_ends.proofs.InTurn.{AnswersInTurn}
 use Rattle.check_responder.specs.AnswerKeys.{will_take}
-use Rattle.check_responder.specs.Answerer.{IsAnswerer}
-use Rattle.check_requester.specs.Asker.{Carries}
+use Rattle.check_responder.specs.JudgedResponder.{IsAnswerer}
+use Rattle.check_requester.specs.JudgedRequester.{Carries}
 use Rattle.check_responder.specs.RecordAnswers.{history_behind}
-use Rattle.check_responder.specs.declared.answerer.Answerer.{Answerer}
+use Rattle.check_responder.specs.declared.judged_responder.JudgedResponder.{JudgedResponder}
 use Rattle.check_responder.specs.declared.given.Given.TheVariants as given
 use Rattle.check_laws.specs.Keeping.{Kept}
 use Rattle.check_laws.specs.LargeShown.{IsShownLarge, drops_before, first_dropped, large_shown}
@@ -62,7 +62,7 @@ module _ (w : Configuration) (q : ReqSetup) (older : List (List ℕ)) (k : Kept)
   no_drops : drops_before h round.body ≡ []
   no_drops = ap (λ (b : Bool). cond (b && held_of h == 4) (first_dropped h (1 ∷ 2 ∷ 3 ∷ 4 ∷ [])) []) type
 
-  pub behind_large : (new : Answerer) → IsAnswerer new (responder_for w k) (history_behind (responder_for w k) k.responder turn.round.tag turn.round.body answer given.Large) → IsAnswerer new (responder_for w k) (e ∷ k.responder)
+  pub behind_large : (new : JudgedResponder) → IsAnswerer new (responder_for w k) (history_behind (responder_for w k) k.responder turn.round.tag turn.round.body answer given.Large) → IsAnswerer new (responder_for w k) (e ∷ k.responder)
   behind_large new is =
       subst (λ (o : Outcome). IsAnswerer new r (after h o)) (shown_is r h round.tag round.body answer type will large op asks)
       (subst (λ (l : List ℕ). IsAnswerer new r (after (with_dropped h l) (large_shown r h round.tag round.body answer))) no_drops is)

@@ -7,12 +7,12 @@ use Rattle.mctp_framing.specs.Gathering.Gathered.{Whole}
 use Rattle.spdm_basis.proofs.Bools.{and_first, and_second}
 use Rattle.check_ends.proofs.InTurn.{AnswersInTurn}
 use Rattle.check_responder.specs.AnswerKeys.{StandFor, will_take}
-use Rattle.check_responder.specs.Answerer.{IsAnswerer}
-use Rattle.check_requester.specs.Asker.{Carries, IsAsker}
+use Rattle.check_responder.specs.JudgedResponder.{IsAnswerer}
+use Rattle.check_requester.specs.JudgedRequester.{Carries, IsAsker}
 use Rattle.check_requester.specs.HeardKept.{asks_upon, heard_kept}
 use Rattle.check_ends.specs.Party.{StandBehind}
 use Rattle.check_ends.specs.PartyReplies.{IsReplied}
-use Rattle.check_ends.specs.declared.onward.Onward.TheVariants as onward
+use Rattle.check_ends.specs.declared.continuation.Continuation.TheVariants as onward
 use Rattle.check_ends.specs.declared.party.Party.{Party}
 use Rattle.check_laws.proofs.RepliesTold.{replies_are_told}
 use Rattle.check_laws.specs.Keeping.{Keeps, Kept, RepliesKept, restored}

@@ -7,9 +7,9 @@ use Rattle.check_requester.proofs.FewMessages.{after_more}
 use Rattle.check_ends.proofs.InTurn.{AnswersInTurn}
 use Rattle.check_ends.proofs.KeptTyped.{kept_body}
 use Rattle.check_responder.specs.AnswerKeys.{StandFor}
-use Rattle.check_responder.specs.Answerer.{IsAnswerer, history_shown}
+use Rattle.check_responder.specs.JudgedResponder.{IsAnswerer, history_shown}
 use Rattle.check_responder.specs.RecordAnswers.{IsGivenTo, history_behind}
-use Rattle.check_responder.specs.declared.answerer.Answerer.{Answerer}
+use Rattle.check_responder.specs.declared.judged_responder.JudgedResponder.{JudgedResponder}
 use Rattle.check_responder.specs.declared.given.Given.{Given}
 use Rattle.check_responder.specs.declared.given.Given.TheVariants as given
 use Rattle.check_ends.specs.declared.party.Party.{Party}
@@ -111,13 +111,13 @@ module _ (w : Configuration) (q : ReqSetup) (older : List (List ℕ)) (rows : Li
   given_is request result is told = subst (λ (b : List ℕ). IsGivenTo r g round.tag b answer result) (own_body request is) told
 
   -- Both a chunk and the last one lead to one entry.
-  pub behind_whole : (new : Answerer) (request : List ℕ) → request ≡ drop 1 turn.round.body → IsAnswerer new (responder_for w f.kept) (history_behind (responder_for w f.kept) (with_large (Some fetched.id) whole f.kept.responder) turn.round.tag (record_body request) answer given.Whole)
+  pub behind_whole : (new : JudgedResponder) (request : List ℕ) → request ≡ drop 1 turn.round.body → IsAnswerer new (responder_for w f.kept) (history_behind (responder_for w f.kept) (with_large (Some fetched.id) whole f.kept.responder) turn.round.tag (record_body request) answer given.Whole)
       → IsAnswerer new (responder_for w f.kept) (entry ∷ with_large (Some fetched.id) whole f.kept.responder)
   behind_whole new request is stands =
       subst (IsAnswerer new r) (shown_behind r g round.tag round.body answer read.record_is read.read.taken read.sealed)
       (subst (λ (b : List ℕ). IsAnswerer new r (history_shown r g round.tag b answer)) (own_body request is) stands)
 
-  pub behind_last : (new : Answerer) (request : List ℕ) → request ≡ drop 1 turn.round.body → IsAnswerer new (responder_for w f.kept) (history_behind (responder_for w f.kept) (with_large (Some fetched.id) whole f.kept.responder) turn.round.tag (record_body request) answer given.Last)
+  pub behind_last : (new : JudgedResponder) (request : List ℕ) → request ≡ drop 1 turn.round.body → IsAnswerer new (responder_for w f.kept) (history_behind (responder_for w f.kept) (with_large (Some fetched.id) whole f.kept.responder) turn.round.tag (record_body request) answer given.Last)
       → IsAnswerer new (responder_for w f.kept) (entry ∷ with_large (Some fetched.id) whole f.kept.responder)
   behind_last new request is stands =
       subst (IsAnswerer new r) (ap (after g) (last_adds w q older rows f route answer byte limits own turn party fetched message whole read))

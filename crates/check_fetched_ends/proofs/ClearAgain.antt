@@ -7,7 +7,7 @@ use Rattle.std.proofs.lemmas.Bool.{false≢true, not-false}
 use Rattle.check_ends.proofs.InTurn.{AnswersInTurn}
 use Rattle.check_laws.proofs.KnownFetches.{kept_asks_none}
 use Rattle.check_responder.proofs.LargeReplies.{turn_tells}
-use Rattle.check_responder.specs.Answerer.{shows_large}
+use Rattle.check_responder.specs.JudgedResponder.{shows_large}
 use Rattle.check_requester.specs.HeardKept.{asks_upon}
 use Rattle.check_laws.proofs.KeptAnswers.{kept_is_restored}
 use Rattle.check_laws.specs.AnswersShown.{values_shown_by}

@@ -8,8 +8,8 @@ use Rattle.check_ends.specs.Conversation as conversations
 use Rattle.check_ends.specs.Conversation.{IsAnswer}
 use Rattle.check_ends.specs.PartyReplies.{IsPartOfLarge, IsReplied}
 use Rattle.check_ends.specs.declared.conversation.Conversation.{Conversation}
-use Rattle.check_ends.specs.declared.onward.Onward.{Onward}
-use Rattle.check_ends.specs.declared.onward.Onward.TheVariants as onward
+use Rattle.check_ends.specs.declared.continuation.Continuation.{Continuation}
+use Rattle.check_ends.specs.declared.continuation.Continuation.TheVariants as onward
 use Rattle.check_ends.specs.declared.party.Party.{Party}
 use Rattle.check_laws.proofs.KeptAnswers.{kept_is_restored}
 use Rattle.check_laws.specs.AnswersShown.{values_shown_by}
@@ -138,7 +138,7 @@ module _ (w : Configuration) (q : ReqSetup) (older : List (List ℕ)) (k : Kept)
     asked_rest why is = told_on w q older rows packet route answer is_answer k keeps (Ok (onward.Asked why)) new table is
 
     -- Whatever it is.
-    pub told_rest : (IsPartOfLarge w k route.tag answer → ⊥) → (result : Result Onward declared.Why) → IsReplied w q older rows k route answer result new table
+    pub told_rest : (IsPartOfLarge w k route.tag answer → ⊥) → (result : Result Continuation declared.Why) → IsReplied w q older rows k route answer result new table
         → IsJudgedAnswer w q older rows packet route answer result (record { talk = record talk { party = new }; fetched = o }) table
     told_rest none_left (Ok onward.Kept) is = kept_rest is
     told_rest none_left (Ok onward.Large) is = none_left is
@@ -146,7 +146,7 @@ module _ (w : Configuration) (q : ReqSetup) (older : List (List ℕ)) (k : Kept)
     told_rest none_left (Err why) is = told_on w q older rows packet route answer is_answer k keeps (Err why) new table is
 
     -- Of an answer to a record, where a part that is left is no LargeResponse.
-    pub told_in : ((round : Round) → k.round ≡ Some round → (slice_index round.body 0 == 5) ≡ false) → (result : Result Onward declared.Why) → IsReplied w q older rows k route answer result new table → IsLeftOther w k route.tag answer result
+    pub told_in : ((round : Round) → k.round ≡ Some round → (slice_index round.body 0 == 5) ≡ false) → (result : Result Continuation declared.Why) → IsReplied w q older rows k route answer result new table → IsLeftOther w k route.tag answer result
         → IsJudgedAnswer w q older rows packet route answer result (record { talk = record talk { party = new }; fetched = o }) table
     told_in sealed (Ok onward.Kept) is other = kept_rest is
     told_in sealed (Ok onward.Large) is other = session_part sealed other is
@@ -154,7 +154,7 @@ module _ (w : Configuration) (q : ReqSetup) (older : List (List ℕ)) (k : Kept)
     told_in sealed (Err why) is other = told_on w q older rows packet route answer is_answer k keeps (Err why) new table is
 
     -- The same of a call that may want memory.
-    pub all_rest : (IsPartOfLarge w k route.tag answer → ⊥) → (result : Result (Result Onward declared.Why) OutOfMemory) → IfOk result (λ told. IsReplied w q older rows k route answer told new table)
+    pub all_rest : (IsPartOfLarge w k route.tag answer → ⊥) → (result : Result (Result Continuation declared.Why) OutOfMemory) → IfOk result (λ told. IsReplied w q older rows k route answer told new table)
         → IfOk result (λ told. IsJudgedAnswer w q older rows packet route answer told (record { talk = record talk { party = new }; fetched = o }) table)
     all_rest none_left (Ok told) is = told_rest none_left told is
     all_rest none_left (Err fault) is = is
@@ -167,7 +167,7 @@ module _ (w : Configuration) (q : ReqSetup) (older : List (List ℕ)) (rows : Li
   sent_by party (Some large) is stands k keeps = sending_is_alone w q older stands.0 k stands.1.sending keeps
 
   -- No part of a large response comes then, and the requester asks for no chunk.
-  pub sent_rest : (party : Party) (large : Option LargeRequest) → is_some large ≡ true → conversations.StandsAs party large w q older rows → (result : Result (Result Onward declared.Why) OutOfMemory)
+  pub sent_rest : (party : Party) (large : Option LargeRequest) → is_some large ≡ true → conversations.StandsAs party large w q older rows → (result : Result (Result Continuation declared.Why) OutOfMemory)
       → IfOk result (λ told. conversations.IsJudgedAnswer w q older rows packet route answer told new.party new.large table) → IfOk result (λ told. IsJudgedAnswer w q older rows packet route answer told (record { talk = new; fetched = o }) table)
   sent_rest party large is stands (Ok (Ok onward.Kept)) c =
       subst (λ (x : Option Fetch). StandsBehind (record { talk = new; fetched = x }) table w q older rows packet) (sym rest)

@@ -8,7 +8,7 @@ use Rattle.check_requester.proofs.CarriedBy.{keeps_carries}
 use Rattle.check_ends.proofs.PartyPrepared.{same_party}
 use Rattle.check_ends.proofs.PartyReplied.{few_messages}
 use Rattle.check_responder.specs.AnswerKeys.{IsComing}
-use Rattle.check_responder.specs.Answerer.{IsAnswerer}
+use Rattle.check_responder.specs.JudgedResponder.{IsAnswerer}
 use Rattle.check_ends.specs.Conversation as conversations
 use Rattle.check_ends.specs.Party.{IsParty}
 use Rattle.check_ends.specs.declared.party.Party.{Party}

@@ -11,8 +11,8 @@ use Rattle.spdm_basis.specs.declared.OutOfMemory.{OutOfMemory}
 use Rattle.check_ends.specs.Conversation as conversations
 use Rattle.check_ends.specs.Conversation.{IsAnswer}
 use Rattle.check_ends.specs.declared.conversation.Conversation.{Conversation}
-use Rattle.check_ends.specs.declared.onward.Onward.{Onward}
-use Rattle.check_ends.specs.declared.onward.Onward.TheVariants as onward
+use Rattle.check_ends.specs.declared.continuation.Continuation.{Continuation}
+use Rattle.check_ends.specs.declared.continuation.Continuation.TheVariants as onward
 use Rattle.check_laws.proofs.KeptAnswers.{kept_is_restored}
 use Rattle.check_laws.specs.Judged.{why_of}
 use Rattle.check_laws.specs.Keeping.{Keeps, Kept, restored}

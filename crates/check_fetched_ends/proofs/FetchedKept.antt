@@ -1,9 +1,9 @@
 -- What is kept of a large response that is fetched in a session depends on the set-up and the responder's history
 -- alone, so a request leaves it.
 use Rattle.std.proofs.Common.{◌≡◌, List, sym, ap, ◌∙◌, subst, false, true, Some}
-use Rattle.check_responder.specs.Answerer.{IsAnswerer}
+use Rattle.check_responder.specs.JudgedResponder.{IsAnswerer}
 use Rattle.check_ends.specs.Party.{IsBeside}
-use Rattle.check_responder.specs.declared.answerer.Answerer.{Answerer}
+use Rattle.check_responder.specs.declared.judged_responder.JudgedResponder.{JudgedResponder}
 use Rattle.check_ends.specs.declared.party.Party.{Party}
 use Rattle.check_laws.specs.Keeping.{Kept}
 use Rattle.check_laws.specs.RepliesShown.{responder_for}
@@ -47,7 +47,7 @@ fetched_with party new fetched w q f next rows behind is answerer setup responde
       found = subst (λ (s : ReqSetup). is_missing fetched.op (inventory_of (towards w.responder (known_of s))) ≡ false) at_setup is.found;
       whole = is.whole;
       stands = subst (λ (h : History). MayStand (record f { kept = record f.kept { responder = h } }) is.whole) same is.stands;
-      judges = subst (λ (a : Answerer). IsAnswerer a (responder_for w next) (with_large (Some fetched.id) is.whole next.responder)) (sym answerer)
+      judges = subst (λ (a : JudgedResponder). IsAnswerer a (responder_for w next) (with_large (Some fetched.id) is.whole next.responder)) (sym answerer)
           (subst (λ (s : ReqSetup). IsAnswerer party.answerer (towards w.responder (known_of s)) (with_large (Some fetched.id) is.whole next.responder)) at_setup
           (subst (λ (h : History). IsAnswerer party.answerer (responder_for w f.kept) (with_large (Some fetched.id) is.whole h)) same is.judges));
       pending = ap (λ (h : History). has_pending (session_place (session_with fetched.id h is.whole))) responder ∙ is.pending;
@@ -58,7 +58,7 @@ fetched_with party new fetched w q f next rows behind is answerer setup responde
     }
 
 -- The room in which the answerer writes counts for nothing.
-pub fetched_in : (party : Party) (answerer : Answerer) (fetched : InSession) (w : Configuration) (q : ReqSetup) (f : Fetching) (rows : List Row) → IsFetchedIn party fetched w q f rows → answerer.connection ≡ party.answerer.connection
+pub fetched_in : (party : Party) (answerer : JudgedResponder) (fetched : InSession) (w : Configuration) (q : ReqSetup) (f : Fetching) (rows : List Row) → IsFetchedIn party fetched w q f rows → answerer.connection ≡ party.answerer.connection
     → IsFetchedIn (record party { answerer = answerer }) fetched w q f rows
 fetched_in party answerer fetched w q f rows is same = record {
   beside = record { asker = is.beside.asker; keys = is.beside.keys; number = is.beside.number; places = is.beside.places };

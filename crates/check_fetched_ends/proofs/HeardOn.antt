@@ -1,7 +1,7 @@
 -- What a requester hears, whether a large response is fetched or not: what is kept after it, and whether it asks for a
 -- chunk.
 use Rattle.std.proofs.Common.{◌≡◌, ℕ, List, refl, sym, ap, ◌∙◌, subst, false, Option, Some, None}
-use Rattle.check_requester.specs.Asker.{Carries}
+use Rattle.check_requester.specs.JudgedRequester.{Carries}
 use Rattle.check_requester.specs.HeardKept.{asks_upon, heard_kept}
 use Rattle.check_laws.proofs.Connecting.{some_allowed, some_values}
 use Rattle.check_laws.proofs.FetchShown.{fetch_same}

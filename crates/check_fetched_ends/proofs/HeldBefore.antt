@@ -4,9 +4,9 @@ use Rattle.std.specs.Prelude.{slice_index}
 use Rattle.mctp_framing.specs.Cutting.{RouteFields}
 use Rattle.check_ends.proofs.InTurn.{AnswersInTurn}
 use Rattle.check_responder.specs.AnswerKeys as answer_keys
-use Rattle.check_requester.specs.Asker.{Carries}
+use Rattle.check_requester.specs.JudgedRequester.{Carries}
 use Rattle.check_responder.specs.declared.answer_keys.AnswerKeys.{AnswerKeys}
-use Rattle.check_responder.specs.declared.answerer.Answerer.{Answerer}
+use Rattle.check_responder.specs.declared.judged_responder.JudgedResponder.{JudgedResponder}
 use Rattle.check_laws.specs.Changes.{views_in}
 use Rattle.check_laws.specs.Keeping.{Kept}
 use Rattle.check_laws.specs.LargeShown.{IsShownLarge}
@@ -38,7 +38,7 @@ module _ (w : Configuration) (q : ReqSetup) (older : List (List ℕ)) (k : Kept)
   abbrev pub Left : (left : History) → Type 0
   Left left = IsLeftBy (Clear turn.round.tag left_turn no_draw) k.responder left
 
-  pub stands_begun : (seen : Answerer) (seen_keys : AnswerKeys) (held : Held) (left : History) → held.tag ≡ turn.round.tag → held.late ≡ None → Left left
+  pub stands_begun : (seen : JudgedResponder) (seen_keys : AnswerKeys) (held : Held) (left : History) → held.tag ≡ turn.round.tag → held.late ≡ None → Left left
       → connected.StandsFor seen.connection (responder_for w k) left → answer_keys.StandFor seen_keys (responder_for w k) left
       → here.turned.message ≡ held.request → here.turned.reply ≡ held.reply → held.newest ≡ kept_of (behind w q older k route answer byte limits carries turn type large)
       → StandsBefore seen seen_keys held (responder_for w k) (behind w q older k route answer byte limits carries turn type large)

@@ -6,7 +6,7 @@ use Rattle.mctp_framing.specs.Cutting.{RouteFields}
 use Rattle.negotiate.specs.declared.shared.Common.{Common}
 use Rattle.check_ends.proofs.InTurn.{AnswersInTurn}
 use Rattle.check_responder.specs.AnswerKeys as answer_keys
-use Rattle.check_requester.specs.Asker.{Carries, IsAsker}
+use Rattle.check_requester.specs.JudgedRequester.{Carries, IsAsker}
 use Rattle.check_responder.specs.declared.answer_keys.AnswerKeys.{AnswerKeys}
 use Rattle.check_ends.specs.declared.party.Party.{Party}
 use Rattle.check_laws.specs.ChangeLaws.{AnswerAccepts, LargeAnswerChanges}

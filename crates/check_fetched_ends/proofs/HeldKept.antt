@@ -2,7 +2,7 @@
 use Rattle.std.proofs.Common.{◌≡◌, ◌∙◌, ℕ, List, sym, ap, subst}
 use Rattle.check_ends.specs.Party.{IsBeside}
 use Rattle.check_responder.specs.declared.answer_keys.AnswerKeys.{AnswerKeys}
-use Rattle.check_responder.specs.declared.answerer.Answerer.{Answerer}
+use Rattle.check_responder.specs.declared.judged_responder.JudgedResponder.{JudgedResponder}
 use Rattle.check_ends.specs.declared.party.Party.{Party}
 use Rattle.check_laws.specs.Keeping.{Kept}
 use Rattle.check_fetched_ends.specs.GetsHeld.{GiveAll}
@@ -24,7 +24,7 @@ held_with party new held w q f next rows behind kept answerer keys setup same be
   before =
       subst (λ (s : ReqSetup). StandsBefore new.answerer new.keys held (towards w.responder (known_of s)) next.responder) (sym setup)
       (subst (λ (h : History). StandsBefore new.answerer new.keys held (towards w.responder (known_of f.kept.setup)) h) (sym same)
-      (subst (λ (a : Answerer). StandsBefore a new.keys held (towards w.responder (known_of f.kept.setup)) f.kept.responder) (sym answerer)
+      (subst (λ (a : JudgedResponder). StandsBefore a new.keys held (towards w.responder (known_of f.kept.setup)) f.kept.responder) (sym answerer)
       (subst (λ (l : AnswerKeys). StandsBefore party.answerer l held (towards w.responder (known_of f.kept.setup)) f.kept.responder) (sym keys) kept.before)));
   answer = record {
     size = kept.answer.size ∙ sym (ap (size_told f.at) same);

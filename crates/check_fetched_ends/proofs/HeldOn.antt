@@ -1,7 +1,7 @@
 -- An answer with which a large one is fetched on in the clear: what the calls leave.
 use Rattle.std.proofs.Common.{◌≡◌, ◌<◌, ◌-◌, ◌^◌, ℕ, List, Some, sym, length, arith}
 use Rattle.check_requester.proofs.FewMessages.{kept_messages}
-use Rattle.check_requester.specs.Asker.{Carries}
+use Rattle.check_requester.specs.JudgedRequester.{Carries}
 use Rattle.check_ends.specs.declared.party.Party.{Party}
 use Rattle.check_laws.specs.Changes.{views_in}
 use Rattle.check_laws.specs.RepliesShown.{responder_for}

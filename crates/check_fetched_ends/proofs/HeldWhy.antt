@@ -6,7 +6,7 @@ use Rattle.std.proofs.lemmas.Bool.{false≢true}
 use Rattle.mctp_framing.specs.Cutting.{RouteFields}
 use Rattle.mctp_framing.specs.Gathering.Gathered.{Whole}
 use Rattle.check_ends.proofs.InTurn.{AnswersInTurn}
-use Rattle.check_responder.specs.declared.answerer.Answerer.{Answerer}
+use Rattle.check_responder.specs.declared.judged_responder.JudgedResponder.{JudgedResponder}
 use Rattle.check_responder.specs.declared.answer_keys.AnswerKeys.{AnswerKeys}
 use Rattle.check_laws.specs.Judged.{why_of}
 use Rattle.check_laws.specs.Keeping.{Kept, restored}
@@ -42,7 +42,7 @@ left_messages (Queued bytes) before left is = absurd is
 left_messages (Ticked seconds) before left is = absurd is
 left_messages (Dropped id) before left is = absurd is
 
-module _ (seen : Answerer) (keys : AnswerKeys) (held : Held) (r : RspSetup) (h : History) (stands : StandsBefore seen keys held r h) where
+module _ (seen : JudgedResponder) (keys : AnswerKeys) (held : Held) (r : RspSetup) (h : History) (stands : StandsBefore seen keys held r h) where
   abbrev e : Entry
   e = Clear held.tag stands.turn no_draw
 

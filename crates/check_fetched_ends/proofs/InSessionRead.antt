@@ -6,7 +6,7 @@ use Rattle.mctp_framing.specs.Cutting.{RouteFields}
 use Rattle.check_requester.proofs.FewMessages.{kept_messages}
 use Rattle.check_ends.proofs.InTurn.{AnswersInTurn}
 use Rattle.check_responder.specs.AnswerKeys.{StandFor}
-use Rattle.check_responder.specs.declared.answerer.Answerer.{Answerer}
+use Rattle.check_responder.specs.declared.judged_responder.JudgedResponder.{JudgedResponder}
 use Rattle.check_ends.specs.declared.party.Party.{Party}
 use Rattle.check_laws.specs.RepliesShown.{responder_for}
 use Rattle.responder_core.specs.declared.connected.Connection.{Connection}
@@ -99,7 +99,7 @@ module _ (w : Configuration) (q : ReqSetup) (older : List (List ℕ)) (rows : Li
           (measured w q older f route answer byte limits own turn fetched.id kept.at type kept.whole whole kept.stands stand_there whole stand_there pending_there)
           (long w q older f route answer byte limits own turn fetched.id kept.at type kept.whole whole kept.stands stand_there (kept.sizes left)) kept.judges
 
-      pub read_there : (answerer : Answerer) → JudgesFor answerer.connection (responder_for w f.kept) f.kept.responder (Some fetched.id) whole
+      pub read_there : (answerer : JudgedResponder) → JudgesFor answerer.connection (responder_for w f.kept) f.kept.responder (Some fetched.id) whole
           → IsReadIn (record party { answerer = answerer }) fetched w q f rows turn.round.body answer message whole
       read_there answerer judges = record {
         kept = record {

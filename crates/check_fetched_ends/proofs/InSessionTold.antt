@@ -6,8 +6,8 @@ use Rattle.mctp_framing.specs.Cutting.{RouteFields}
 use Rattle.check_requester.proofs.FewMessages.{kept_messages}
 use Rattle.check_ends.proofs.InTurn.{AnswersInTurn}
 use Rattle.check_responder.specs.AnswerKeys.{StandFor, will_take}
-use Rattle.check_responder.specs.Answerer.{IsAnswerer}
-use Rattle.check_requester.specs.Asker.{Carries, IsAsker}
+use Rattle.check_responder.specs.JudgedResponder.{IsAnswerer}
+use Rattle.check_requester.specs.JudgedRequester.{Carries, IsAsker}
 use Rattle.check_requester.specs.HeardKept.{asks_upon}
 use Rattle.check_ends.specs.declared.party.Party.{Party}
 use Rattle.check_laws.specs.DropsShown.{IsShownAnswer}

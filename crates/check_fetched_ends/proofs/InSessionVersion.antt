@@ -9,10 +9,10 @@ use Rattle.mctp_framing.specs.Gathering.Gathered.{Whole}
 use Rattle.check_requester.proofs.FewMessages.{after_more}
 use Rattle.check_ends.proofs.InTurn.{AnswersInTurn}
 use Rattle.check_responder.specs.AnswerKeys.{IsComingKey, StandFor, is_taken_in, will_take}
-use Rattle.check_responder.specs.Answerer.{IsAnswerer, history_shown}
-use Rattle.check_requester.specs.Asker.{IsAsker}
+use Rattle.check_responder.specs.JudgedResponder.{IsAnswerer, history_shown}
+use Rattle.check_requester.specs.JudgedRequester.{IsAsker}
 use Rattle.check_requester.specs.HeardKept.{heard_kept}
-use Rattle.check_responder.specs.declared.answerer.Answerer.{Answerer}
+use Rattle.check_responder.specs.declared.judged_responder.JudgedResponder.{JudgedResponder}
 use Rattle.check_ends.specs.declared.party.Party.{Party}
 use Rattle.check_laws.proofs.OneWalk.{walks_alike}
 use Rattle.check_laws.specs.ChangeLaws.{AnswerAccepts, WholeAnswerChanges}
@@ -191,7 +191,7 @@ module _ (w : Configuration) (q : ReqSetup) (older : List (List ℕ)) (rows : Li
       ∙ ap (λ (b : List ℕ). after h (on_body r h round.tag b given_values no_draw)) is_version ∙ ap (after h) ((version_is_given r h round.tag (Adds one) own_anew).1 refl).3
 
   -- A connection that stands for the history with some bytes stands for the one without.
-  pub stands_behind : (new : Answerer) → IsAnswerer new (responder_for w f.kept) (version_entry turn.round.tag ∷ with_large (Some id) x f.kept.responder) → IsAnswerer new (responder_for w f.kept) (version_entry turn.round.tag ∷ f.kept.responder)
+  pub stands_behind : (new : JudgedResponder) → IsAnswerer new (responder_for w f.kept) (version_entry turn.round.tag ∷ with_large (Some id) x f.kept.responder) → IsAnswerer new (responder_for w f.kept) (version_entry turn.round.tag ∷ f.kept.responder)
   stands_behind new stands =
       version_ends_all new.connection r round.tag (with_large (Some id) x h) h (session_queue id x h) (ap (λ l. larges_of l % 256) (session_turns id x h)) stands
 

@@ -4,7 +4,7 @@ use Rattle.std.proofs.Common.{◌≡◌, ◌≢◌, ◌⊎◌, ◌==◌, ◌&&�
 use Rattle.std.specs.Prelude.{MatchBool, nat_lt, not, slice_index}
 use Rattle.std.proofs.lemmas.Bool.{false≢true}
 use Rattle.check_responder.proofs.LargeReplies.{turn_tells}
-use Rattle.check_responder.specs.Answerer.{shows_large}
+use Rattle.check_responder.specs.JudgedResponder.{shows_large}
 use Rattle.check_laws.specs.DropsShown.{response_of}
 use Rattle.check_laws.specs.Order.{is_answer, is_request}
 use Rattle.check_laws.specs.Walks.{StepsBy, StepsTo, Walks}

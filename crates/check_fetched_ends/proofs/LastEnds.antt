@@ -6,11 +6,11 @@ use Rattle.mctp_framing.specs.Cutting.{RouteFields}
 use Rattle.mctp_framing.specs.Gathering.Gathered.{Whole}
 use Rattle.check_ends.proofs.InTurn.{AnswersInTurn}
 use Rattle.check_responder.specs.AnswerKeys.{StandFor}
-use Rattle.check_responder.specs.Answerer.{IsAnswerer}
-use Rattle.check_requester.specs.Asker.{Carries, IsAsker}
+use Rattle.check_responder.specs.JudgedResponder.{IsAnswerer}
+use Rattle.check_requester.specs.JudgedRequester.{Carries, IsAsker}
 use Rattle.check_requester.specs.HeardKept.{asks_upon, heard_kept}
 use Rattle.check_responder.specs.declared.answer_keys.AnswerKeys.{AnswerKeys}
-use Rattle.check_responder.specs.declared.answerer.Answerer.{Answerer}
+use Rattle.check_responder.specs.declared.judged_responder.JudgedResponder.{JudgedResponder}
 use Rattle.check_ends.specs.declared.party.Party.{Party}
 use Rattle.check_laws.proofs.AnswerSteps.{taken_same}
 use Rattle.check_laws.proofs.StepsOfWalks.{replies_moved, walks_held}
@@ -68,7 +68,7 @@ use Rattle.world_machine.specs.Setup.{Configuration}
 
 -- ---- Nothing hangs on the room that the responder has to answer in.
 
-abbrev pub moved_before : (old new : Answerer) (keys : AnswerKeys) (held : Held) (r : RspSetup) (h : History) → new.connection ≡ old.connection → StandsBefore old keys held r h → StandsBefore new keys held r h
+abbrev pub moved_before : (old new : JudgedResponder) (keys : AnswerKeys) (held : Held) (r : RspSetup) (h : History) → new.connection ≡ old.connection → StandsBefore old keys held r h → StandsBefore new keys held r h
 moved_before old new keys held r h same b = record {
   gets = b.gets;
   turn = b.turn;

@@ -2,7 +2,7 @@
 use Rattle.std.proofs.Common.{◌≡◌, ◌∙◌, ℕ, List, [], refl, sym, ap, subst, Bool, true, Option, None, is_some}
 use Rattle.check_responder.proofs.ClearJudged.{adds_at}
 use Rattle.check_responder.specs.declared.answer_keys.AnswerKeys.{AnswerKeys}
-use Rattle.check_responder.specs.declared.answerer.Answerer.{Answerer}
+use Rattle.check_responder.specs.declared.judged_responder.JudgedResponder.{JudgedResponder}
 use Rattle.check_fetched_ends.proofs.HeldTurns.{IsLargeTurn, large_turn}
 use Rattle.check_fetched_laws.proofs.LastBefore.{left_like}
 use Rattle.check_fetched_ends.proofs.LastWhole.{adds_anew}
@@ -32,7 +32,7 @@ same_entry tag t e same = cc
 same_turn : (tag : ℕ) (t u : Turn) → Clear tag t no_draw ≡ Clear tag u no_draw → t ≡ u
 same_turn tag t u same = cc
 
-pub exchange_held : (seen : Answerer) (keys : AnswerKeys) (held : Held) (r : RspSetup) (h : History) (b : StandsBefore seen keys held r h) (exchange : Bool)
+pub exchange_held : (seen : JudgedResponder) (keys : AnswerKeys) (held : Held) (r : RspSetup) (h : History) (b : StandsBefore seen keys held r h) (exchange : Bool)
     → IsExchangeBy r (clear_turns b.left) b.turn.message (chunk_at (clear_turns b.left) b.turn.message) exchange → exchange ≡ takes PSK_EXCHANGE b.turn
 exchange_held seen keys held r h b exchange is =
     let m : List ℕ = b.turn.message in

@@ -6,7 +6,7 @@ use Rattle.std.proofs.lemmas.Bool.{false≢true}
 use Rattle.std.proofs.lemmas.Slice.Eq.{bytes_eq-Decides}
 use Rattle.check_responder.specs.WholeAnswers.{IsLargeAt, clear_shown}
 use Rattle.check_responder.specs.declared.answer_keys.AnswerKeys.{AnswerKeys}
-use Rattle.check_responder.specs.declared.answerer.Answerer.{Answerer}
+use Rattle.check_responder.specs.declared.judged_responder.JudgedResponder.{JudgedResponder}
 use Rattle.chunking.specs.Cutting.{chunk_count, unit_of}
 use Rattle.responder_core.specs.Connected as connected
 use Rattle.responder_core.specs.declared.connected.Connection.{Connection}
@@ -50,7 +50,7 @@ same_bytes xs ys is = (bytes_eq-Decides xs ys).1 is
 apart_long : (size : ℕ) (one other : List ℕ) → is_apart size one other ≡ true → length one ≡ length other
 apart_long size one other is = eqb-true (length one) (length other) (and_first (length one == length other) (not (bytes_eq one other)) (and_first (length one == length other && not (bytes_eq one other)) _ is))
 
-module _ (seen_as : Answerer) (keys : AnswerKeys) (held : Held) (r : RspSetup) (h : History) (b : StandsBefore seen_as keys held r h) (byte : r.beat < 256) (tag handle : ℕ) (whole : List ℕ)
+module _ (seen_as : JudgedResponder) (keys : AnswerKeys) (held : Held) (r : RspSetup) (h : History) (b : StandsBefore seen_as keys held r h) (byte : r.beat < 256) (tag handle : ℕ) (whole : List ℕ)
     (at : IsLastOf held r b.before b.left (Clear held.tag b.turn no_draw) tag handle whole) where
   abbrev asked : Entry
   asked = Clear held.tag b.turn no_draw

@@ -5,7 +5,7 @@ use Rattle.std.proofs.lemmas.Bool.{false≢true}
 use Rattle.std.proofs.lemmas.Option.{same_Some}
 use Rattle.std.proofs.lemmas.Slice.Eq.{bytes_eq-Decides}
 use Rattle.check_ends.proofs.InTurn.{AnswersInTurn}
-use Rattle.check_responder.specs.Answerer.{shows_large}
+use Rattle.check_responder.specs.JudgedResponder.{shows_large}
 use Rattle.check_requester.specs.HeardKept.{asks_upon}
 use Rattle.check_laws.specs.DropsShown.{IsShownAnswer}
 use Rattle.check_laws.specs.Keeping.{Keeps, Kept, restored}

@@ -4,7 +4,7 @@ use Rattle.std.specs.Prelude.{MatchBool, not}
 use Rattle.mctp_framing.specs.Cutting.{RouteFields}
 use Rattle.mctp_framing.specs.Gathering.Gathered.{Whole}
 use Rattle.check_ends.proofs.InTurn.{AnswersInTurn}
-use Rattle.check_responder.specs.Answerer.{history_shown}
+use Rattle.check_responder.specs.JudgedResponder.{history_shown}
 use Rattle.check_requester.specs.HeardKept.{asks_upon, heard_kept}
 use Rattle.check_ends.specs.declared.party.Party.{Party}
 use Rattle.check_laws.proofs.PlainShown.{plain_is_shown}

@@ -7,7 +7,7 @@ use Rattle.mctp_framing.specs.Cutting.{RouteFields}
 use Rattle.spdm_basis.proofs.Bools.{and_first, and_second}
 use Rattle.check_ends.proofs.InTurn.{AnswersInTurn}
 use Rattle.check_responder.proofs.KeysKept.{dropped_session}
-use Rattle.check_responder.specs.Answerer.{history_shown}
+use Rattle.check_responder.specs.JudgedResponder.{history_shown}
 use Rattle.check_ends.specs.declared.party.Party.{Party}
 use Rattle.check_laws.proofs.PlainShown.{shown_back}
 use Rattle.check_laws.specs.ChangeLaws.{answered_by}

@@ -5,8 +5,8 @@ use Rattle.std.proofs.lemmas.Bool.{false≢true}
 use Rattle.mctp_framing.specs.Cutting.{RouteFields}
 use Rattle.spdm_basis.proofs.Bools.{and_first}
 use Rattle.check_ends.proofs.InTurn.{AnswersInTurn}
-use Rattle.check_responder.specs.Answerer.{IsAnswerer, history_shown}
-use Rattle.check_responder.specs.declared.answerer.Answerer.{Answerer}
+use Rattle.check_responder.specs.JudgedResponder.{IsAnswerer, history_shown}
+use Rattle.check_responder.specs.declared.judged_responder.JudgedResponder.{JudgedResponder}
 use Rattle.check_ends.specs.declared.party.Party.{Party}
 use Rattle.check_laws.specs.ChangeLaws.{answered_by}
 use Rattle.check_laws.specs.DropsShown.{IsShownAnswer}
@@ -98,7 +98,7 @@ module _ (w : Configuration) (q : ReqSetup) (older : List (List ℕ)) (rows : Li
   pending_is = left_is w q older rows f route answer byte limits own turn party fetched kept refuses other shown view viewed taken takes_it ∙ sym left_as
 
   -- What judges with these bytes.
-  pub judges_then : (answerer : Answerer) → IsAnswerer answerer (responder_for w f.kept) (history_shown (responder_for w f.kept) (with_large (Some fetched.id) kept.whole f.kept.responder) turn.round.tag turn.round.body answer)
+  pub judges_then : (answerer : JudgedResponder) → IsAnswerer answerer (responder_for w f.kept) (history_shown (responder_for w f.kept) (with_large (Some fetched.id) kept.whole f.kept.responder) turn.round.tag turn.round.body answer)
       → JudgesFor answerer.connection (responder_for w f.kept) then (Some fetched.id) kept.whole
   judges_then answerer is = subst (IsAnswerer answerer r) (sym large_is) is
 

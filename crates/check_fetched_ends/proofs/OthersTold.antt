@@ -10,12 +10,12 @@ use Rattle.check_requester.proofs.FewMessages.{after_more, dropped_same}
 use Rattle.check_ends.proofs.InTurn.{AnswersInTurn}
 use Rattle.check_ends.proofs.KeptTyped.{kept_body}
 use Rattle.check_responder.specs.AnswerKeys.{StandFor}
-use Rattle.check_responder.specs.Answerer.{IsAnswerer, history_shown}
-use Rattle.check_requester.specs.Asker.{Carries, IsAsker}
+use Rattle.check_responder.specs.JudgedResponder.{IsAnswerer, history_shown}
+use Rattle.check_requester.specs.JudgedRequester.{Carries, IsAsker}
 use Rattle.check_responder.specs.ClearAnswers.{EndsLarge}
 use Rattle.check_requester.specs.HeardKept.{asks_upon}
 use Rattle.check_responder.specs.RecordAnswers.{IsGivenTo, history_behind}
-use Rattle.check_responder.specs.declared.answerer.Answerer.{Answerer}
+use Rattle.check_responder.specs.declared.judged_responder.JudgedResponder.{JudgedResponder}
 use Rattle.check_responder.specs.declared.given.Given.{Given}
 use Rattle.check_responder.specs.declared.given.Given.TheVariants as given
 use Rattle.check_ends.specs.declared.party.Party.{Party}
@@ -125,12 +125,12 @@ module _ (w : Configuration) (q : ReqSetup) (older : List (List ℕ)) (rows : Li
       → IsGivenTo (responder_for w f.kept) (with_large (Some fetched.id) kept.whole f.kept.responder) turn.round.tag turn.round.body answer result
   given_is request result is told = subst (λ (b : List ℕ). IsGivenTo r g round.tag b answer result) (own_body request is) told
 
-  pub behind_given : (new : Answerer) (request : List ℕ) → request ≡ drop 1 turn.round.body → IsAnswerer new (responder_for w f.kept) (history_behind (responder_for w f.kept) (with_large (Some fetched.id) kept.whole f.kept.responder) turn.round.tag (record_body request) answer given.Whole)
+  pub behind_given : (new : JudgedResponder) (request : List ℕ) → request ≡ drop 1 turn.round.body → IsAnswerer new (responder_for w f.kept) (history_behind (responder_for w f.kept) (with_large (Some fetched.id) kept.whole f.kept.responder) turn.round.tag (record_body request) answer given.Whole)
       → IsAnswerer new (responder_for w f.kept) (history_shown (responder_for w f.kept) (with_large (Some fetched.id) kept.whole f.kept.responder) turn.round.tag turn.round.body answer)
   behind_given new request is stands = subst (λ (b : List ℕ). IsAnswerer new r (history_shown r g round.tag b answer)) (own_body request is) stands
 
   -- After LargeResponse.
-  pub behind_large : (new : Answerer) (request : List ℕ) → request ≡ drop 1 turn.round.body → IsAnswerer new (responder_for w f.kept) (history_behind (responder_for w f.kept) (with_large (Some fetched.id) kept.whole f.kept.responder) turn.round.tag (record_body request) answer given.Large)
+  pub behind_large : (new : JudgedResponder) (request : List ℕ) → request ≡ drop 1 turn.round.body → IsAnswerer new (responder_for w f.kept) (history_behind (responder_for w f.kept) (with_large (Some fetched.id) kept.whole f.kept.responder) turn.round.tag (record_body request) answer given.Large)
       → IsAnswerer new (responder_for w f.kept) (history_behind (responder_for w f.kept) (with_large (Some fetched.id) kept.whole f.kept.responder) turn.round.tag turn.round.body answer given.Large)
   behind_large new request is stands = subst (λ (b : List ℕ). IsAnswerer new r (history_behind r g round.tag b answer given.Large)) (own_body request is) stands
 

@@ -7,10 +7,10 @@ use Rattle.std.proofs.lemmas.Option.{none-some}
 use Rattle.mctp_framing.specs.Cutting.{RouteFields}
 use Rattle.check_ends.proofs.InTurn.{AnswersInTurn}
 use Rattle.check_responder.specs.AnswerKeys.{StandFor}
-use Rattle.check_responder.specs.Answerer.{IsAnswerer}
-use Rattle.check_requester.specs.Asker.{IsAsker}
+use Rattle.check_responder.specs.JudgedResponder.{IsAnswerer}
+use Rattle.check_requester.specs.JudgedRequester.{IsAsker}
 use Rattle.check_requester.specs.HeardKept.{asks_upon}
-use Rattle.check_responder.specs.declared.answerer.Answerer.{Answerer}
+use Rattle.check_responder.specs.declared.judged_responder.JudgedResponder.{JudgedResponder}
 use Rattle.check_ends.specs.declared.party.Party.{Party}
 use Rattle.check_laws.specs.DropsShown.{IsShownAnswer}
 use Rattle.check_laws.specs.Keeping.{restored}
@@ -166,7 +166,7 @@ module _ (w : Configuration) (q : ReqSetup) (older : List (List ℕ)) (rows : Li
       (given_is (flipped whole) stands_too other_pending ∙ sym (given_is whole stand pending)) (sym (common_same w q older f route answer byte limits own turn fetched.id at read.record_is whole (flipped whole) stand stands_too)) e own_in gets_it
       ∙ sym (ap (λ (g : History). has_pending (session_place (session_of fetched.id g))) (behind whole)) ∙ more_pending)
 
-  pub judges_then : (answerer : Answerer) → IsAnswerer answerer r (e ∷ with_large (Some fetched.id) whole h) → JudgesFor answerer.connection r (e ∷ h) (Some fetched.id) whole
+  pub judges_then : (answerer : JudgedResponder) → IsAnswerer answerer r (e ∷ with_large (Some fetched.id) whole h) → JudgesFor answerer.connection r (e ∷ h) (Some fetched.id) whole
   judges_then answerer is = subst (IsAnswerer answerer r) (sym (behind whole)) is
 
   -- ---- Nothing is fetched behind it.

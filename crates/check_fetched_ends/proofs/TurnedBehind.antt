@@ -5,12 +5,12 @@ use Rattle.mctp_framing.specs.Cutting.{RouteFields}
 use Rattle.mctp_framing.specs.Gathering.Gathered.{Whole}
 use Rattle.check_ends.proofs.InTurn.{AnswersInTurn}
 use Rattle.check_responder.specs.AnswerKeys.{StandFor, will_take}
-use Rattle.check_responder.specs.Answerer.{IsAnswerer}
-use Rattle.check_requester.specs.Asker.{Carries}
+use Rattle.check_responder.specs.JudgedResponder.{IsAnswerer}
+use Rattle.check_requester.specs.JudgedRequester.{Carries}
 use Rattle.check_requester.specs.HeardKept.{asks_upon, heard_kept}
 use Rattle.check_responder.specs.RecordAnswers.{history_behind}
 use Rattle.check_responder.specs.declared.answer_keys.AnswerKeys.{AnswerKeys}
-use Rattle.check_responder.specs.declared.answerer.Answerer.{Answerer}
+use Rattle.check_responder.specs.declared.judged_responder.JudgedResponder.{JudgedResponder}
 use Rattle.check_responder.specs.declared.given.Given.TheVariants as given
 use Rattle.check_ends.specs.declared.party.Party.{Party}
 use Rattle.check_laws.proofs.LargeShown.{large_is_shown}
@@ -204,7 +204,7 @@ module _ (w : Configuration) (q : ReqSetup) (older : List (List ℕ)) (rows : Li
   no_drops : drops_before g round.body ≡ []
   no_drops = ap (λ (b : Bool). cond (b && held_of g == 4) (first_dropped g (1 ∷ 2 ∷ 3 ∷ 4 ∷ [])) []) type
 
-  pub both_behind : (new : Answerer) → IsAnswerer new (responder_for w f.kept) (history_behind (responder_for w f.kept) (with_large (Some fetched.id) kept.whole f.kept.responder) turn.round.tag turn.round.body answer given.Large)
+  pub both_behind : (new : JudgedResponder) → IsAnswerer new (responder_for w f.kept) (history_behind (responder_for w f.kept) (with_large (Some fetched.id) kept.whole f.kept.responder) turn.round.tag turn.round.body answer given.Large)
       → IsAnswerer new (responder_for w f.kept) (turned ∷ with_large (Some fetched.id) kept.whole f.kept.responder)
   both_behind new is =
       subst (λ (o : Outcome). IsAnswerer new r (after g o)) (shown_is r g round.tag round.body answer type will large op asks)

@@ -10,8 +10,8 @@ use Rattle.check_requester.proofs.FewMessages.{after_more}
 use Rattle.check_ends.proofs.InTurn.{AnswersInTurn}
 use Rattle.check_ends.proofs.KeptTyped.{kept_body}
 use Rattle.check_responder.specs.AnswerKeys.{StandFor, will_take}
-use Rattle.check_responder.specs.Answerer.{IsAnswerer}
-use Rattle.check_requester.specs.Asker.{IsAsker}
+use Rattle.check_responder.specs.JudgedResponder.{IsAnswerer}
+use Rattle.check_requester.specs.JudgedRequester.{IsAsker}
 use Rattle.check_requester.specs.HeardKept.{asks_upon}
 use Rattle.check_ends.specs.declared.party.Party.{Party}
 use Rattle.check_laws.specs.ChangeLaws.{AnswerAccepts, LargeAnswerChanges}

@@ -3,7 +3,7 @@ use Rattle.std.proofs.Common.{◌≡◌, ◌∙◌, ◌==◌, ℕ, List, [], ◌
 use Rattle.std.specs.Prelude.{slice_index}
 use Rattle.std.proofs.lemmas.Bool.{false≢true, false_from_ne_true}
 use Rattle.std.proofs.lemmas.Option.{same_Some}
-use Rattle.check_requester.specs.Asker.{Carries}
+use Rattle.check_requester.specs.JudgedRequester.{Carries}
 use Rattle.check_requester.specs.HeardKept.{asks_upon}
 use Rattle.check_laws.specs.ChangeLaws.{accepted_by}
 use Rattle.check_laws.specs.KeptChanges.{accepted_from}

@@ -3,7 +3,7 @@
 use Rattle.std.specs.Prelude.{◌≡◌, ◌<◌, ◌==◌, ◌&&◌, ℕ, List, drop, slice_index, Bool, true, false, Option, Some, None}
 use Rattle.check_fetched_ends.specs.InSession.{AreLengths}
 use Rattle.check_fetched_ends.specs.declared.session_fetch.in_session.InSession.{InSession}
-use Rattle.check_fetched_ends.specs.declared.session_fetch.session_again.Again.{Again}
+use Rattle.check_fetched_ends.specs.declared.session_fetch.session_again.LateResponse.{LateResponse}
 use Rattle.check_late_laws.specs.Fetching.{Fetching, number_of}
 use Rattle.check_late_laws.specs.LargeAnswers.{StandsFor}
 use Rattle.measurements.specs.Records.{is_missing}
@@ -59,7 +59,7 @@ last_message r h request = drop 1 (last_opened r.psk (session_of (id_in_record r
 
 -- It is so, and this is kept where its large response is fetched from now on; or it is not, or the record asks for
 -- none.
-abbrev pub IsPreparedAgain : RspSetup → History → (request answer : List ℕ) → Option Again → Type 0
+abbrev pub IsPreparedAgain : RspSetup → History → (request answer : List ℕ) → Option LateResponse → Type 0
 IsPreparedAgain r h request answer None =
     (op handle : ℕ) → IsLargeAgain r h request answer handle
     → IsAskedIn r (session_of (id_in_record request) h) (last_message r h request) op → ⊥

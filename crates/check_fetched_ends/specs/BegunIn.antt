@@ -6,8 +6,8 @@ use Rattle.mctp_framing.specs.Gathering.Gathered.{Whole}
 use Rattle.requester_machine.specs.Setup.{ReqSetup}
 use Rattle.check_ends.specs.Party.{IsParty}
 use Rattle.check_ends.specs.PartyReplies.{IsReplied}
-use Rattle.check_ends.specs.declared.onward.Onward.{Onward}
-use Rattle.check_ends.specs.declared.onward.Onward.TheVariants as onward
+use Rattle.check_ends.specs.declared.continuation.Continuation.{Continuation}
+use Rattle.check_ends.specs.declared.continuation.Continuation.TheVariants as onward
 use Rattle.check_ends.specs.declared.party.Party.{Party}
 use Rattle.check_laws.specs.Keeping.{Kept}
 use Rattle.check_laws.specs.LargeShown.{IsShownLarge}
@@ -33,7 +33,7 @@ IsLargeInRecord w k tag answer =
     × IsShownLarge (responder_for w k) k.responder round.tag round.body answer
 
 -- Where a part of a large response is left, it is no such answer.
-abbrev pub IsLeftOther : Configuration → Kept → ℕ → (answer : List ℕ) → Result Onward declared.Why → Type 0
+abbrev pub IsLeftOther : Configuration → Kept → ℕ → (answer : List ℕ) → Result Continuation declared.Why → Type 0
 IsLeftOther w k tag answer (Ok onward.Large) = IsLargeInRecord w k tag answer → ⊥
 IsLeftOther w k tag answer other = Unit {0}
 

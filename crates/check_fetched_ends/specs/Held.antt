@@ -2,10 +2,10 @@
 -- request, and what came since is held beside it. This project's own.
 use Rattle.std.specs.Prelude.{◌≡◌, ◌≢◌, ◌≤◌, ◌<◌, ◌+◌, ◌++◌, ◌∷◌, ℕ, List, Option, Some, None, drop, length, slice_index, Bool, true, false, if◌then◌else◌, nat_lt}
 use Rattle.check_responder.specs.AnswerKeys as answer_keys
-use Rattle.check_requester.specs.Asker.{IsAsker}
+use Rattle.check_requester.specs.JudgedRequester.{IsAsker}
 use Rattle.check_ends.specs.Party.{IsBeside}
 use Rattle.check_responder.specs.declared.answer_keys.AnswerKeys.{AnswerKeys}
-use Rattle.check_responder.specs.declared.answerer.Answerer.{Answerer}
+use Rattle.check_responder.specs.declared.judged_responder.JudgedResponder.{JudgedResponder}
 use Rattle.check_ends.specs.declared.party.Party.{Party}
 use Rattle.check_laws.specs.Changes.{answered_in, views_in}
 use Rattle.check_laws.specs.Keeping.{restored}
@@ -75,7 +75,7 @@ HasGets (Some marks) tag turn gets before h = IsLate marks tag turn before × (h
 
 -- The history is that. Where the fetch began late, the request is as if it came last, under the tag that is held. The
 -- connection and the keys stand for what the request left of the sessions before it.
-pub record StandsBefore (seen : Answerer) (seen_keys : AnswerKeys) (held : Held) (r : RspSetup) (h : History) : Type 0 where
+pub record StandsBefore (seen : JudgedResponder) (seen_keys : AnswerKeys) (held : Held) (r : RspSetup) (h : History) : Type 0 where
   pub gets : List Entry
   pub turn : Turn
   pub before : History

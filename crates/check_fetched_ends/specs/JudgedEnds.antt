@@ -12,8 +12,8 @@ use Rattle.check_ends.specs.Conversation.{NoneGoesOn}
 use Rattle.check_requester.specs.HeardKept.{asks_upon}
 use Rattle.check_ends.specs.declared.conversation.Conversation.{Conversation}
 use Rattle.check_ends.specs.declared.party.Party.{Party}
-use Rattle.check_ends.specs.declared.onward.Onward.{Onward}
-use Rattle.check_ends.specs.declared.onward.Onward.TheVariants as onward
+use Rattle.check_ends.specs.declared.continuation.Continuation.{Continuation}
+use Rattle.check_ends.specs.declared.continuation.Continuation.TheVariants as onward
 use Rattle.check_laws.specs.DropsShown.{IsShownAnswer, id_begun, response_of}
 use Rattle.check_laws.specs.Judged.{why_of}
 use Rattle.check_laws.specs.Keeping.{Keeps, Kept}
@@ -101,7 +101,7 @@ IsPart w q older tag answer = (k : Kept) × Keeps w q older k × IsLeft w k tag 
 -- Of an answer: it goes on, or it is left unjudged so, and why it is refused where no walk goes on with it; or no walk
 -- does, and then why. None is a part of a large response that is left.
 abbrev pub IsJudgedAnswer : Configuration → ReqSetup → List (List ℕ) → List Row → (packet : List ℕ) → RouteFields → (answer : List ℕ)
-    → Result Onward declared.Why → (new : JudgedEnds) → (table : List Seen) → Type 0
+    → Result Continuation declared.Why → (new : JudgedEnds) → (table : List Seen) → Type 0
 IsJudgedAnswer w q older rows packet route answer (Ok onward.Kept) new table = StandsBehind new table w q older rows packet
 IsJudgedAnswer w q older rows packet route answer (Ok onward.Large) new table = ⊥
 IsJudgedAnswer w q older rows packet route answer (Ok (onward.Asked why)) new table =

@@ -1,6 +1,6 @@
 -- How a fetch begins late in the clear, by LargeResponse again, by what is reported of an answer. This project's own.
 use Rattle.std.specs.Prelude.{◌≡◌, ◌+◌, ◌==◌, ◌&&◌, ℕ, List, Bool, true, bytes_eq, drop, length, slice_index}
-use Rattle.check_responder.specs.Answerer.{shows_large}
+use Rattle.check_responder.specs.JudgedResponder.{shows_large}
 use Rattle.check_requester.specs.HeardKept.{asks_upon}
 use Rattle.check_ends.specs.Party.{StandBehind}
 use Rattle.check_ends.specs.declared.party.Party.{Party}

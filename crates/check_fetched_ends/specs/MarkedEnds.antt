@@ -3,8 +3,8 @@
 -- project's own.
 use Rattle.std.specs.Prelude.{◌≡◌, ◌≢◌, ◌<◌, ◌==◌, ◌&&◌, ◌⊎◌, ℕ, List, ◌∷◌, drop, slice_index, Bool, true, false, if◌then◌else◌, Result, Ok, Err}
 use Rattle.check_ends.specs.Conversation.{NoneGoesOn}
-use Rattle.check_ends.specs.declared.onward.Onward.{Onward}
-use Rattle.check_ends.specs.declared.onward.Onward.TheVariants as onward
+use Rattle.check_ends.specs.declared.continuation.Continuation.{Continuation}
+use Rattle.check_ends.specs.declared.continuation.Continuation.TheVariants as onward
 use Rattle.check_laws.specs.Judged.{why_of}
 use Rattle.check_laws.specs.Keeping.{Keeps, Kept}
 use Rattle.check_laws.specs.Order.{is_answer, is_request}
@@ -47,7 +47,7 @@ IsAskedOf w q older rows packet g (Err why) new table = judged.IsAskedOf w q old
 
 -- Of an answer, as it is told without asking whether a fetch begins late by it.
 abbrev pub IsMovedAnswer : Configuration → ReqSetup → List (List ℕ) → List Row → (packet : List ℕ) → RouteFields → (answer : List ℕ)
-    → Result Onward declared.Why → (new : MarkedEnds) → (table : List Seen) → Type 0
+    → Result Continuation declared.Why → (new : MarkedEnds) → (table : List Seen) → Type 0
 IsMovedAnswer w q older rows packet route answer (Ok onward.Kept) new table = StandsBehind new table w q older rows packet
 IsMovedAnswer w q older rows packet route answer told new table = judged.IsJudgedAnswer w q older rows packet route answer told new.ends table
 

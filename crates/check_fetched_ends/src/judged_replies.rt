@@ -6,7 +6,7 @@ use crate::{
     BegunHeld, BegunIn, Fetch, Held, InSession, JudgedEnds, Upon, begins_held, begins_in_session,
     replies_held, replies_in_session,
 };
-use check_ends::Onward;
+use check_ends::Continuation;
 use check_laws::{Round, SessionTable};
 use responder_core::Setup;
 use session_keys::byte_at;
@@ -55,7 +55,7 @@ impl JudgedEnds {
         setup: &Setup<'_>,
         round: &Round,
         answer: &[u8],
-    ) -> Result<Result<Onward, Why>, OutOfMemory>
+    ) -> Result<Result<Continuation, Why>, OutOfMemory>
         requires { length answer.now ≤ MAX_BODY_SIZE }
         ensures told { (w : Configuration) (q : ReqSetup) (older : List (List ℕ)) (rows : List Row)
             (packet : List ℕ) (route : RouteFields) (f : Fetching)
@@ -73,15 +73,15 @@ impl JudgedEnds {
         match replies_in_session(party, &mut fetched, table, setup, round, answer)? {
             Ok(Upon::Fetched) => {
                 self.fetched = Some(Fetch::InSession(fetched));
-                Ok(Ok(Onward::Kept))
+                Ok(Ok(Continuation::Kept))
             }
             Ok(Upon::Turned) => {
                 self.fetched = Some(Fetch::InSession(fetched));
-                Ok(Ok(Onward::Kept))
+                Ok(Ok(Continuation::Kept))
             }
             Ok(Upon::Ended) => {
                 self.fetched = None;
-                Ok(Ok(Onward::Kept))
+                Ok(Ok(Continuation::Kept))
             }
             Err(why) => Ok(Err(why)),
         }
@@ -95,7 +95,7 @@ impl JudgedEnds {
         setup: &Setup<'_>,
         round: &Round,
         answer: &[u8],
-    ) -> Result<Result<Onward, Why>, OutOfMemory>
+    ) -> Result<Result<Continuation, Why>, OutOfMemory>
         requires { length answer.now ≤ MAX_BODY_SIZE }
         ensures { (w : Configuration) (q : ReqSetup) (older : List (List ℕ)) (rows : List Row)
             (packet : List ℕ) (route : RouteFields) (f : Fetching)
@@ -112,15 +112,15 @@ impl JudgedEnds {
         match replies_held(party, &mut held, table, setup, round, answer)? {
             Ok(Upon::Fetched) => {
                 self.fetched = Some(Fetch::InClear(held));
-                Ok(Ok(Onward::Kept))
+                Ok(Ok(Continuation::Kept))
             }
             Ok(Upon::Turned) => {
                 self.fetched = Some(Fetch::InClear(held));
-                Ok(Ok(Onward::Kept))
+                Ok(Ok(Continuation::Kept))
             }
             Ok(Upon::Ended) => {
                 self.fetched = None;
-                Ok(Ok(Onward::Kept))
+                Ok(Ok(Continuation::Kept))
             }
             Err(why) => Ok(Err(why)),
         }
@@ -133,7 +133,7 @@ impl JudgedEnds {
         setup: &Setup<'_>,
         round: &Round,
         answer: &[u8],
-    ) -> Result<Result<Onward, Why>, OutOfMemory>
+    ) -> Result<Result<Continuation, Why>, OutOfMemory>
         requires { length answer.now ≤ MAX_BODY_SIZE }
         ensures told { (w : Configuration) (q : ReqSetup) (older : List (List ℕ)) (rows : List Row)
             (packet : List ℕ) (route : RouteFields) (k : Kept)
@@ -152,10 +152,10 @@ impl JudgedEnds {
     {
         match begins_held(&mut self.talk.party, table, setup, round, answer)? {
             BegunHeld::Not => self.talk.party.replies(table, setup, round, answer),
-            BegunHeld::Passed => Ok(Ok(Onward::Kept)),
+            BegunHeld::Passed => Ok(Ok(Continuation::Kept)),
             BegunHeld::Fetching(held) => {
                 self.fetched = Some(Fetch::InClear(held));
-                Ok(Ok(Onward::Kept))
+                Ok(Ok(Continuation::Kept))
             }
         }
     }
@@ -169,7 +169,7 @@ impl JudgedEnds {
         setup: &Setup<'_>,
         round: &Round,
         answer: &[u8],
-    ) -> Result<Result<Onward, Why>, OutOfMemory>
+    ) -> Result<Result<Continuation, Why>, OutOfMemory>
         requires { length answer.now ≤ MAX_BODY_SIZE }
         ensures told { (w : Configuration) (q : ReqSetup) (older : List (List ℕ)) (rows : List Row)
             (packet : List ℕ) (route : RouteFields) (k : Kept)
@@ -203,7 +203,7 @@ impl JudgedEnds {
         setup: &Setup<'_>,
         round: &Round,
         answer: &[u8],
-    ) -> Result<Result<Onward, Why>, OutOfMemory>
+    ) -> Result<Result<Continuation, Why>, OutOfMemory>
         requires { length answer.now ≤ MAX_BODY_SIZE }
         ensures told { (w : Configuration) (q : ReqSetup) (older : List (List ℕ)) (rows : List Row)
             (packet : List ℕ) (route : RouteFields) → IsAnswer w q older packet route answer.now
@@ -225,7 +225,7 @@ impl JudgedEnds {
             }
             BegunIn::Fetching(fetched) => {
                 self.fetched = Some(Fetch::InSession(fetched));
-                Ok(Ok(Onward::Kept))
+                Ok(Ok(Continuation::Kept))
             }
             BegunIn::Told(told) => Ok(told),
         }
@@ -239,7 +239,7 @@ impl JudgedEnds {
         setup: &Setup<'_>,
         round: &Round,
         answer: &[u8],
-    ) -> Result<Result<Onward, Why>, OutOfMemory>
+    ) -> Result<Result<Continuation, Why>, OutOfMemory>
         requires { length answer.now ≤ MAX_BODY_SIZE }
         ensures told { (w : Configuration) (q : ReqSetup) (older : List (List ℕ)) (rows : List Row)
             (packet : List ℕ) (route : RouteFields) → IsAnswer w q older packet route answer.now
@@ -263,15 +263,15 @@ impl JudgedEnds {
         self.begins_other(table, setup, round, answer)
     }
 
-    // The same where a large response is fetched. It stands apart, since a function clears the places of its values
-    // when it is entered, and what is fetched is large.
+    // The same while a large response is fetched. A function of its own: at entry a function clears the stack of its
+    // values, and what is fetched is large.
     fn replies_meanwhile(
         &mut self,
         table: &mut SessionTable,
         setup: &Setup<'_>,
         round: &Round,
         answer: &[u8],
-    ) -> Result<Result<Onward, Why>, OutOfMemory>
+    ) -> Result<Result<Continuation, Why>, OutOfMemory>
         requires { length answer.now ≤ MAX_BODY_SIZE }
         ensures told { (w : Configuration) (q : ReqSetup) (older : List (List ℕ)) (rows : List Row)
             (packet : List ℕ) (route : RouteFields) → IsAnswer w q older packet route answer.now
@@ -304,7 +304,7 @@ impl JudgedEnds {
         setup: &Setup<'_>,
         round: &Round,
         answer: &[u8],
-    ) -> Result<Result<Onward, Why>, OutOfMemory>
+    ) -> Result<Result<Continuation, Why>, OutOfMemory>
         requires { length answer.now ≤ MAX_BODY_SIZE }
         ensures told { (w : Configuration) (q : ReqSetup) (older : List (List ℕ)) (rows : List Row)
             (packet : List ℕ) (route : RouteFields) → IsAnswer w q older packet route answer.now

@@ -6,7 +6,7 @@ use crate::judged_replies::is_clear;
 use crate::marked_ends::{is_live_in, moves_behind, repeats_clear, repeats_record};
 use crate::marking::move_marks;
 use crate::{BegunAgain, BegunHeld, Fetch, JudgedEnds, begins_again};
-use check_ends::{Onward, Party};
+use check_ends::{Continuation, Party};
 use check_late_laws::Marks;
 use check_laws::{Round, SessionTable};
 use responder_core::{Setup, record_id};
@@ -83,7 +83,7 @@ impl MarkedEnds {
         setup: &Setup<'_>,
         round: &Round,
         answer: &[u8],
-    ) -> Result<Result<Onward, Why>, OutOfMemory>
+    ) -> Result<Result<Continuation, Why>, OutOfMemory>
         requires { length answer.now ≤ MAX_BODY_SIZE }
         ensures told { (w : Configuration) (q : ReqSetup) (older : List (List ℕ)) (rows : List Row)
             (packet : List ℕ) (route : RouteFields) → IsAnswer w q older packet route answer.now
@@ -104,13 +104,13 @@ impl MarkedEnds {
         let live = is_live_in(&self.ends, message);
         let clear = is_clear(body);
         match self.ends.replies(table, setup, round, answer)? {
-            Ok(Onward::Kept) => {
+            Ok(Continuation::Kept) => {
                 let moves = moves_behind(&self.ends, tag, body, answer, repeats, kept, live);
                 move_marks(&mut self.marks, clear, moves, record_id(message).rsp);
-                Ok(Ok(Onward::Kept))
+                Ok(Ok(Continuation::Kept))
             }
-            Ok(Onward::Large) => Ok(Ok(Onward::Large)),
-            Ok(Onward::Asked(why)) => Ok(Ok(Onward::Asked(why))),
+            Ok(Continuation::Large) => Ok(Ok(Continuation::Large)),
+            Ok(Continuation::Asked(why)) => Ok(Ok(Continuation::Asked(why))),
             Err(why) => Ok(Err(why)),
         }
     }
@@ -138,9 +138,9 @@ impl MarkedEnds {
         ensures memory { OnErr result (MayBegin self.old.ends.fetched answer.now) }
     {
         match self.replies_on(table, setup, round, answer)? {
-            Ok(Onward::Kept) => Ok(Ok(())),
-            Ok(Onward::Large) => Ok(Err(Why::BadReply)),
-            Ok(Onward::Asked(why)) => Ok(Err(why)),
+            Ok(Continuation::Kept) => Ok(Ok(())),
+            Ok(Continuation::Large) => Ok(Err(Why::BadReply)),
+            Ok(Continuation::Asked(why)) => Ok(Err(why)),
             Err(why) => Ok(Err(why)),
         }
     }

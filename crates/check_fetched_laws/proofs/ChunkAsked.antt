@@ -4,7 +4,7 @@
 use Rattle.std.proofs.Common.{◌≡◌, ◌==◌, ◌+◌, ◌∙◌, ℕ, List, refl, sym, ap, subst, drop, Bool, true, false, Option, Some, None, Result, Ok, Err, cond, eq-eqb, eqb-true}
 use Rattle.std.specs.Prelude.{not, slice_index}
 use Rattle.std.proofs.lemmas.Bool.{false≢true, not-false}
-use Rattle.check_responder.specs.Answerer.{shows_large}
+use Rattle.check_responder.specs.JudgedResponder.{shows_large}
 use Rattle.check_laws.specs.DropsShown.{response_of}
 use Rattle.check_late_laws.proofs.Late.AckBytes.{ack_bytes}
 use Rattle.check_fetched_laws.proofs.LargeAsked.{ShowsIn, answer_shows, plain_shows, sent_plain}

@@ -7,7 +7,7 @@ use Rattle.spdm_grammar.specs.declared.names.request_code.TheConstants.{CHUNK_GE
 use Rattle.spdm_machine.specs.Sessions.{id_in_exchange, is_past_handshake}
 use Rattle.responder_core.specs.Coming as coming
 use Rattle.responder_core.specs.Connected as connected
-use Rattle.responder_core.specs.Live.{IsSlotOf}
+use Rattle.responder_core.specs.LiveSession.{IsSlotOf}
 use Rattle.responder_core.specs.Sessions.{slot_of}
 use Rattle.responder_machine.specs.History.{Entry, History, clear_turns, negotiation_of, queue_of}
 use Rattle.responder_machine.specs.History.Entry.{Clear, Sealed, Queued, Ticked, Dropped}

@@ -4,7 +4,7 @@ use Rattle.chunking.specs.Cutting as cutting
 use Rattle.chunking.specs.Keeping as keeping
 use Rattle.responder_core.specs.Connected as connected
 use Rattle.responder_core.specs.LateFetch.{with_ended}
-use Rattle.responder_core.specs.Live.{IsSlotOf}
+use Rattle.responder_core.specs.LiveSession.{IsSlotOf}
 use Rattle.responder_core.specs.Negotiating.{IsUpTo}
 use Rattle.responder_core.specs.Sessions.{slot_of}
 use Rattle.responder_core.specs.declared.connected.Connection.{Connection}

@@ -3,7 +3,7 @@
 use Rattle.std.proofs.Common.{◌≡◌, ◌==◌, ◌&&◌, ◌∙◌, ℕ, List, [], ◌∷◌, refl, sym, ap, subst, drop, length, Bool, true, false, Option, Some, None, Result, Ok, Err, cond, eq-eqb, eqb-true}
 use Rattle.std.specs.Prelude.{bytes_eq, nat_lt, not, slice_index}
 use Rattle.std.proofs.lemmas.Bool.{false≢true, not-false}
-use Rattle.check_responder.specs.Answerer.{shows_large}
+use Rattle.check_responder.specs.JudgedResponder.{shows_large}
 use Rattle.check_late_laws.proofs.Late.ErrorBytes.{error_bytes}
 use Rattle.negotiate.specs.Capabilities.{common_of}
 use Rattle.negotiate.specs.Choosing.{agreed}

@@ -5,7 +5,7 @@ use Rattle.std.proofs.lemmas.Bool.{false≢true, not-true}
 use Rattle.spdm_basis.proofs.Bools.{and_first, and_second}
 use Rattle.check_responder.proofs.KeysKept.{LeadsBy, record_leads}
 use Rattle.check_responder.specs.AnswerKeys.{is_taken_in, will_take}
-use Rattle.check_responder.specs.Answerer.{history_shown}
+use Rattle.check_responder.specs.JudgedResponder.{history_shown}
 use Rattle.check_laws.specs.AnswersShown.{LeadsAt, values_shown_by}
 use Rattle.check_laws.specs.DropsShown.{clear_drops, drops_shown_by, may_be_dropped, outcome_shown, record_drops}
 use Rattle.check_laws.specs.KeptChanges.{is_kept_record, taken_shown}

@@ -6,7 +6,7 @@ use Rattle.spdm_basis.proofs.Bools.{and_first}
 use Rattle.responder_core.specs.Coming as coming
 use Rattle.responder_core.specs.Connected as connected
 use Rattle.responder_core.specs.Connected.{HasSizesAt}
-use Rattle.responder_core.specs.Live.{IsSlotOf}
+use Rattle.responder_core.specs.LiveSession.{IsSlotOf}
 use Rattle.responder_core.specs.Sessions.{slot_of}
 use Rattle.responder_core.specs.declared.connected.Connection.{Connection}
 use Rattle.responder_machine.specs.History.{Entry, History, clear_turns, negotiation_of}

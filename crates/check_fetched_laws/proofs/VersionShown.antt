@@ -1,7 +1,7 @@
 -- An answer to GET_VERSION is VERSION, by what it shows.
 use Rattle.std.proofs.Common.{◌≡◌, ◌<◌, ℕ, List, [], ◌∷◌, refl, sym, ap, ◌∙◌, subst, Bool, true, false, Some}
 use Rattle.std.proofs.lemmas.Bool.{false≢true}
-use Rattle.check_responder.specs.Answerer.{history_shown}
+use Rattle.check_responder.specs.JudgedResponder.{history_shown}
 use Rattle.check_responder.specs.ClearAnswers.{EndsLarge}
 use Rattle.check_laws.proofs.LargeShown.{large_is_shown}
 use Rattle.check_laws.proofs.PlainShown.{plain_is_shown}

@@ -16,7 +16,7 @@ pub fn put_bytes(connection: &mut Connection, id: u16, bytes: &[u8])
         → JudgesFor connection.old r h (Some id) whole
         → JudgesFor connection.new r h (Some id) bytes.now }
 {
-    connection.put_pending(id, bytes);
+    connection.set_pending_bytes(id, bytes);
 }
 
 /// A connection judges while MEASUREMENTS are fetched in the session with this RspSessionID: they were never seen

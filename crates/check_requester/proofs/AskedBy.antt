@@ -9,22 +9,22 @@ use Rattle.requester_machine.specs.Message.Command.{Connect}
 use Rattle.requester_machine.specs.Setup.{ReqSetup}
 use Rattle.spdm_basis.proofs.Options.{none_out}
 use Rattle.check_requester.specs.Asked.{IsAskedBy}
-use Rattle.check_requester.specs.Asker.{IsAsker, IsGoneOn, IsKeptSetup, gone_on}
+use Rattle.check_requester.specs.JudgedRequester.{IsAsker, IsGoneOn, IsKeptSetup, gone_on}
 use Rattle.check_requester.specs.Commanded.{IsSentByCommand}
 use Rattle.check_laws.specs.Keeping.{GoesOnKept, Kept, owing}
 use Rattle.check_requester.specs.SealedTold.{IsSentBy}
-use Rattle.check_requester.specs.declared.asker.Asker.{Asker}
-use Rattle.check_requester.specs.declared.asker_setup.AskerSetup.{AskerSetup}
+use Rattle.check_requester.specs.declared.judged_requester.JudgedRequester.{JudgedRequester}
+use Rattle.check_requester.specs.declared.judged_setup.JudgedSetup.{JudgedSetup}
 use Rattle.capture_machine.specs.CapturedRequests.{Tells}
 
 -- The message that is owed came.
-pub owed_asks : (q : ReqSetup) (k : Kept) (body : List ℕ) (new : Asker) → IsGoneOn q k body true new → IsAskedBy q k body true new
+pub owed_asks : (q : ReqSetup) (k : Kept) (body : List ℕ) (new : JudgedRequester) → IsGoneOn q k body true new → IsAskedBy q k body true new
 owed_asks q k body new goes = (goes.0, inr (inr goes.1), goes.2)
 
-module _ (q : ReqSetup) (k : Kept) (body : List ℕ) (old new : Asker) (asker : IsAsker old q k) (same : new.setup ≡ old.setup) (rests : new.owes ≡ false) (not : (after : History) → GoesOnKept k body after → ⊥) where
+module _ (q : ReqSetup) (k : Kept) (body : List ℕ) (old new : JudgedRequester) (asker : IsAsker old q k) (same : new.setup ≡ old.setup) (rests : new.owes ≡ false) (not : (after : History) → GoesOnKept k body after → ⊥) where
   keeps : (after : History) → StandsFor new.asking q after → IsAsker new q (gone_on k after)
   keeps after stands = record {
-    kept = subst (λ (x : AskerSetup). IsKeptSetup x q) (sym same) asker.kept;
+    kept = subst (λ (x : JudgedSetup). IsKeptSetup x q) (sym same) asker.kept;
     setup = asker.setup;
     stands = stands;
     owes = rests;
@@ -60,10 +60,10 @@ module _ (q : ReqSetup) (k : Kept) (body : List ℕ) (old new : Asker) (asker : 
 
 -- ---- Whether a message is owed or outstanding.
 
-pub none_kept : (q : ReqSetup) (k : Kept) (seen : Asker) → IsAsker seen q k → seen.owes ≡ false → k.owed ≡ None
+pub none_kept : (q : ReqSetup) (k : Kept) (seen : JudgedRequester) → IsAsker seen q k → seen.owes ≡ false → k.owed ≡ None
 none_kept q k seen asker is = none_out k.owed (sym asker.owes ∙ is)
 
-pub bare_kept : (q : ReqSetup) (k : Kept) (seen : Asker) → IsAsker seen q k → seen.owes ≡ false → StandsFor seen.asking q k.requester
+pub bare_kept : (q : ReqSetup) (k : Kept) (seen : JudgedRequester) → IsAsker seen q k → seen.owes ≡ false → StandsFor seen.asking q k.requester
 bare_kept q k seen asker is = subst (λ (o : Option Sent). StandsFor seen.asking q (owing o k.requester)) (none_kept q k seen asker is) asker.stands
 
 pub waits_busy : (k : Kept) → is_some (outstanding k.requester) ≡ true → k.owed ≡ None → outstanding k.requester ≡ None → ⊥

@@ -4,7 +4,7 @@ use Rattle.std.specs.Prelude.{slice_index}
 use Rattle.std.specs.Result.{result_ok}
 use Rattle.std.proofs.lemmas.Bool.{false≢true, not-false}
 use Rattle.std.proofs.lemmas.Option.{none-some, same_Some}
-use Rattle.requester_core.specs.declared.joined.Asking.{Asking}
+use Rattle.requester_core.specs.declared.joined.RequesterCore.{RequesterCore}
 use Rattle.requester_machine.proofs.Entries.{asked, test_is_false}
 use Rattle.requester_machine.specs.Asking.{asks}
 use Rattle.requester_machine.specs.Asking.Outcome.{Adds}
@@ -55,7 +55,7 @@ no_padding q h f fits = record {
 -- A command that sends the message, with the request that is read of it.
 pub record IsReadFrom (q : ReqSetup) (h : History) (m : List ℕ) (a : RequestMessage) : Type 0 where
   pub reads : request_in 0 m ≡ Some a
-  pub none : (new : Asking) → IsSentFor q h a (clear_body m) false new → ⊥
+  pub none : (new : RequesterCore) → IsSentFor q h a (clear_body m) false new → ⊥
 
 module _ (q : ReqSetup) (h : History) (m : List ℕ) (bytes : AreBytes m) where
   by_kind : (c : Command) (f : Free) (s : Sent) (kind : Kind) → IsAllowed q h f → kind_of q h f c ≡ kind → asks false q h c f no_draw ≡ Adds (Told c s no_draw) → IsSent q h f kind s → begins_large s.aim ≡ false → body_of s.content ≡ clear_body m
@@ -106,13 +106,13 @@ module _ (q : ReqSetup) (h : History) (m : List ℕ) (bytes : AreBytes m) where
       (told.0, by_command c f one.0 one.1.1 one.1.2 one.2 one.3 told.0 told.1 told.3)
 
   -- Nothing that is no request is sent.
-  pub none_read : request_in 0 m ≡ None → (new : Asking) → IsSentByCommand q h (clear_body m) false new
+  pub none_read : request_in 0 m ≡ None → (new : RequesterCore) → IsSentByCommand q h (clear_body m) false new
   none_read none new = λ c next one. let read = read_from c next one in none-some read.0 (sym none ∙ read.1.reads)
 
-  some_told : (c : Command) (new : Asking) → IsToldSome q h c (clear_body m) true new → IsSentByCommand q h (clear_body m) true new
+  some_told : (c : Command) (new : RequesterCore) → IsToldSome q h c (clear_body m) true new → IsSentByCommand q h (clear_body m) true new
   some_told c new told = (c, Told c told.2.0 no_draw ∷ h, (told.2.0, (told.0, told.1, told.2.1), told.2.2, told.2.3, refl), told.2.4)
 
-  sent_for : (a : RequestMessage) (new : Asking) → IsSentFor q h a (clear_body m) true new → IsSentByCommand q h (clear_body m) true new
+  sent_for : (a : RequestMessage) (new : RequesterCore) → IsSentFor q h a (clear_body m) true new → IsSentByCommand q h (clear_body m) true new
   sent_for GetVersion new told = some_told Connect new told
   sent_for (GetMeasurements op) new told = some_told (Measure None op) new told
   sent_for (PskExchange x) new told = some_told (Open x.summary) new (values_in x, told.0, told.1)
@@ -126,7 +126,7 @@ module _ (q : ReqSetup) (h : History) (m : List ℕ) (bytes : AreBytes m) where
   sent_for (ChunkGet handle number) new told = absurd (false≢true (sym told))
 
   -- What is read is sent by the command that asks it, or by none.
-  pub some_read : (a : RequestMessage) (b : Bool) (new : Asking) → request_in 0 m ≡ Some a → IsSentFor q h a (clear_body m) b new → IsSentByCommand q h (clear_body m) b new
+  pub some_read : (a : RequestMessage) (b : Bool) (new : RequesterCore) → request_in 0 m ≡ Some a → IsSentFor q h a (clear_body m) b new → IsSentByCommand q h (clear_body m) b new
   some_read a true new reads told = sent_for a new told
   some_read a false new reads told = λ c next one.
       let read = read_from c next one in
@@ -134,6 +134,6 @@ module _ (q : ReqSetup) (h : History) (m : List ℕ) (bytes : AreBytes m) where
       read.1.none new (subst (λ (x : RequestMessage). IsSentFor q h x (clear_body m) false new) (sym same) told)
 
 -- The same of the values in the fields of PSK_EXCHANGE.
-pub opened_as : (q : ReqSetup) (h : History) (x : ExchangeMessage) (body : List ℕ) (b : Bool) (new : Asking) → IsAllowed q h (values_in x) → IsToldAs q h (Open x.summary) (values_in x) body b new → IsOpenedAs q h x body b new
+pub opened_as : (q : ReqSetup) (h : History) (x : ExchangeMessage) (body : List ℕ) (b : Bool) (new : RequesterCore) → IsAllowed q h (values_in x) → IsToldAs q h (Open x.summary) (values_in x) body b new → IsOpenedAs q h x body b new
 opened_as q h x body true new allowed told = (allowed, told)
 opened_as q h x body false new allowed told = λ fits. told

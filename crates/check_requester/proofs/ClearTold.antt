@@ -7,7 +7,7 @@ use Rattle.std.proofs.lemmas.Bool.{false≢true}
 use Rattle.std.proofs.lemmas.Option.{none-some, same_Some}
 use Rattle.requester_core.specs.Joined.{IsCommanded, IsDone, StandsFor}
 use Rattle.requester_core.specs.Slot.{shown_of}
-use Rattle.requester_core.specs.declared.joined.Asking.{Asking}
+use Rattle.requester_core.specs.declared.joined.RequesterCore.{RequesterCore}
 use Rattle.negotiate.specs.declared.shared.Common.{Common}
 use Rattle.requester_machine.proofs.Entries.{asked, test_is_false}
 use Rattle.requester_machine.specs.Asking.{Outcome, asks, asks_by, done}
@@ -27,7 +27,7 @@ use Rattle.spdm_grammar.specs.Message.RequestMessage.{GetMeasurements}
 use Rattle.spdm_grammar.specs.Requests.{canonical_request}
 use Rattle.spdm_grammar.specs.declared.told.command_fault.CommandFault.{CommandFault}
 use Rattle.spdm_machine.specs.Bodies.{clear_body}
-use Rattle.check_requester.specs.Asker.{is_first_chunk}
+use Rattle.check_requester.specs.JudgedRequester.{is_first_chunk}
 use Rattle.check_requester.specs.Commanded.{IsToldAs, is_in_clear}
 use Rattle.capture_machine.proofs.AskTells.{same_sent}
 use Rattle.capture_machine.specs.Rounds.{no_draw}
@@ -70,12 +70,12 @@ shows_by q h Retry f s clear is = absurd (false≢true clear)
 -- ---- Whether it sends a body.
 
 -- By what came of it and by the body that it sends.
-pub record ToldBy (q : ReqSetup) (h : History) (c : Command) (f : Free) (body : List ℕ) (r : Result ℕ CommandFault) (out : List ℕ) (new : Asking) : Type 0 where
+pub record ToldBy (q : ReqSetup) (h : History) (c : Command) (f : Free) (body : List ℕ) (r : Result ℕ CommandFault) (out : List ℕ) (new : RequesterCore) : Type 0 where
   pub fails : is_err r ≡ true → IsToldAs q h c f body false new
   pub first : is_err r ≡ false → is_first_chunk out ≡ true → IsToldAs q h c f body false new
   pub whole : is_err r ≡ false → is_first_chunk out ≡ false → (b : Bool) → Decides b (out ≡ body) → IsToldAs q h c f body b new
 
-module _ (q : ReqSetup) (h : History) (c : Command) (f : Free) (body : List ℕ) (clear : is_in_clear c ≡ true) (tag : ℕ) (out : List ℕ) (new : Asking) (did : IsDone q h (asks false q h c f no_draw) tag out new) where
+module _ (q : ReqSetup) (h : History) (c : Command) (f : Free) (body : List ℕ) (clear : is_in_clear c ≡ true) (tag : ℕ) (out : List ℕ) (new : RequesterCore) (did : IsDone q h (asks false q h c f no_draw) tag out new) where
   one : (s : Sent) × (asks false q h c f no_draw ≡ Adds (Told c s no_draw))
   one = adds q h c f clear did.fault
 
@@ -95,10 +95,10 @@ module _ (q : ReqSetup) (h : History) (c : Command) (f : Free) (body : List ℕ)
   whole_told small true same = (one.0, one.1, sym first_is ∙ small, sym out_is ∙ same.0 refl, subst (λ (o : Outcome). StandsFor new q (after h o)) one.1 did.stands)
   whole_told small false same = λ s is few its. false≢true (same.1 (out_is ∙ ap (λ (x : Sent). body_of x.content) (it_is s is) ∙ its))
 
-fails_told : (q : ReqSetup) (h : History) (c : Command) (f : Free) (body : List ℕ) (why : CommandFault) (new : Asking) → asks false q h c f no_draw ≡ Fails why → IsToldAs q h c f body false new
+fails_told : (q : ReqSetup) (h : History) (c : Command) (f : Free) (body : List ℕ) (why : CommandFault) (new : RequesterCore) → asks false q h c f no_draw ≡ Fails why → IsToldAs q h c f body false new
 fails_told q h c f body why new fails = λ s is small same. let e : Fails why ≡ Adds (Told c s no_draw) = sym fails ∙ is in cc
 
-pub told_by : (q : ReqSetup) (h : History) (c : Command) (f : Free) (body : List ℕ) (r : Result ℕ CommandFault) (out : List ℕ) (new : Asking) → is_in_clear c ≡ true → IsCommanded q h (asks false q h c f no_draw) r out new → ToldBy q h c f body r out new
+pub told_by : (q : ReqSetup) (h : History) (c : Command) (f : Free) (body : List ℕ) (r : Result ℕ CommandFault) (out : List ℕ) (new : RequesterCore) → is_in_clear c ≡ true → IsCommanded q h (asks false q h c f no_draw) r out new → ToldBy q h c f body r out new
 told_by q h c f body (Ok tag) out new clear did = record {
   fails = λ is. absurd (false≢true is);
   first = λ not first. first_told q h c f body clear tag out new did first;
@@ -125,6 +125,6 @@ taken_id q h f shown allowed = by_count (live_count h == 4) refl
     by_count false is = absurd (false≢true (sym (allowed.unused (not_four (live_count h) is)) ∙ shown_live (session_of f.id h) shown))
 
 -- And then Open sends nothing.
-pub full_told : (q : ReqSetup) (h : History) (f : Free) (summary : ℕ) (body : List ℕ) (new : Asking) → live_count h ≡ 4 → IsToldAs q h (Open summary) f body false new
+pub full_told : (q : ReqSetup) (h : History) (f : Free) (summary : ℕ) (body : List ℕ) (new : RequesterCore) → live_count h ≡ 4 → IsToldAs q h (Open summary) f body false new
 full_told q h f summary body new full = λ s is small same.
     not_four (live_count h) (test_is_false false q h (Open summary) f (asked false q h (Open summary) f no_draw (Told (Open summary) s no_draw) is).0 4) full

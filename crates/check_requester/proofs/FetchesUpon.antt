@@ -7,7 +7,7 @@ use Rattle.requester_core.specs.Joined.{StandsFor}
 use Rattle.requester_core.specs.Owed.{TookFor}
 use Rattle.requester_core.specs.OwnRecords.{session_aimed, session_awaited}
 use Rattle.requester_core.specs.Slot.{shown_of}
-use Rattle.requester_core.specs.declared.joined.Asking.{Asking}
+use Rattle.requester_core.specs.declared.joined.RequesterCore.{RequesterCore}
 use Rattle.requester_core.proofs.OwedClear.{out_last}
 use Rattle.requester_machine.specs.Asking.{Outcome}
 use Rattle.requester_machine.specs.Asking.Outcome.{Fails, Ignores, Warns, Resends, Adds}
@@ -31,9 +31,9 @@ use Rattle.check_requester.proofs.ChunkAsked.{heard_shows}
 use Rattle.check_requester.proofs.FinishApart.{aimed_at, its_stage, shown_none}
 use Rattle.check_requester.proofs.HearsKept.{after_long, deaf, none_in, waits_for}
 use Rattle.check_requester.proofs.OwedTook.{IsAimed, IsNewest, IsSentUpon, heard_newest, kept_short}
-use Rattle.check_requester.specs.Asker.{Carries, IsAsker, IsKeptSetup}
+use Rattle.check_requester.specs.JudgedRequester.{Carries, IsAsker, IsKeptSetup}
 use Rattle.check_requester.specs.HeardKept.{IsHeardAs, ShowsChunk, asks_upon}
-use Rattle.check_requester.specs.declared.asker.Asker.{Asker}
+use Rattle.check_requester.specs.declared.judged_requester.JudgedRequester.{JudgedRequester}
 use Rattle.capture_machine.specs.LargeAnswers.{asks_chunk, is_fetching, is_for_chunk}
 use Rattle.capture_machine.specs.Rounds.{Round, no_draw}
 use Rattle.world_machine.specs.Setup.{Configuration}
@@ -46,7 +46,7 @@ clear_test (ByChunks asked handle number) body none shows = shows
 clear_test (ForChunk asked handle number before) body none shows = shows
 clear_test (InSession id ask) body none shows = absurd (none-some id (sym none))
 
-module _ (x : Asking) (q : ReqSetup) (bare : History) (sent : Sent) (took : TookFor bare sent.aim) (shows : ShowsChunk sent.aim (body_of sent.content)) (stands : StandsFor x q (with_next (Some sent) bare)) where
+module _ (x : RequesterCore) (q : ReqSetup) (bare : History) (sent : Sent) (took : TookFor bare sent.aim) (shows : ShowsChunk sent.aim (body_of sent.content)) (stands : StandsFor x q (with_next (Some sent) bare)) where
   pub in_clear : None ≡ session_awaited (outstanding (with_next (Some sent) bare)) → (slice_index (body_of sent.content) 2 == CHUNK_GET) ≡ is_for_chunk sent.aim
   in_clear is = clear_test sent.aim (body_of sent.content) (sym (is ∙ ap session_awaited (out_last bare sent.aim sent took))) shows
 
@@ -125,16 +125,16 @@ module _ (w : Configuration) (q : ReqSetup) (older : List (List ℕ)) (k : Kept)
     none_upon (Resends sent) told none = absurd (false≢true told)
 
     -- Where it sends nothing in response to it.
-    pub silent_asks : (seen : Asking) (out : List ℕ) → IsHeardAs k.setup h tag answer false seen out → (awaits && is_some (outstanding (after h o))) ≡ asks_upon k tag answer
+    pub silent_asks : (seen : RequesterCore) (out : List ℕ) → IsHeardAs k.setup h tag answer false seen out → (awaits && is_some (outstanding (after h o))) ≡ asks_upon k tag answer
     unfolding heard_from
     silent_asks seen out heard = none_upon o heard.told (sym heard.sent)
 
   -- And where it sends something.
-  abbrev Tells : Asking → List ℕ → Bool → Type 0
+  abbrev Tells : RequesterCore → List ℕ → Bool → Type 0
   Tells seen out result = (bare : History) (sent : Sent) → TookFor bare sent.aim → ShowsChunk sent.aim (body_of sent.content) → out ≡ body_of sent.content → length bare < 2 ^ 64 - 1
       → StandsFor seen k.setup (with_next (Some sent) bare) → result ≡ is_for_chunk sent.aim
 
-  some_upon : (seen : Asking) (out : List ℕ) (result : Bool) (x : Outcome) → o ≡ x → length h + 1 < 2 ^ 64 - 1 → is_some (event_of x) ≡ true → is_some (sent_by x) ≡ true
+  some_upon : (seen : RequesterCore) (out : List ℕ) (result : Bool) (x : Outcome) → o ≡ x → length h + 1 < 2 ^ 64 - 1 → is_some (event_of x) ≡ true → is_some (sent_by x) ≡ true
       → ((sent : Sent) → sent_by x ≡ Some sent → out ≡ body_of sent.content) → StandsFor seen k.setup (after h x) → Tells seen out result → result ≡ is_fetching (outstanding (after h x))
   some_upon seen out result (Adds e) adds few told some room stands tells = by_sent (sent_in e) refl
     where
@@ -151,17 +151,17 @@ module _ (w : Configuration) (q : ReqSetup) (older : List (List ℕ)) (k : Kept)
   some_upon seen out result (Fails fault) adds few told some room stands tells = absurd (false≢true told)
   some_upon seen out result (Resends sent) adds few told some room stands tells = absurd (false≢true told)
 
-  pub sends_asks : (seen : Asking) (out : List ℕ) (result : Bool) → length h + 1 < 2 ^ 64 - 1 → IsHeardAs k.setup h tag answer true seen out → Tells seen out result → result ≡ asks_upon k tag answer
+  pub sends_asks : (seen : RequesterCore) (out : List ℕ) (result : Bool) → length h + 1 < 2 ^ 64 - 1 → IsHeardAs k.setup h tag answer true seen out → Tells seen out result → result ≡ asks_upon k tag answer
   unfolding heard_from
   sends_asks seen out result few heard tells = some_upon seen out result o refl few heard.told (sym heard.sent) heard.room heard.stands tells
 
 -- ---- What the program tells.
 
-module _ (w : Configuration) (q : ReqSetup) (older : List (List ℕ)) (k : Kept) (round : Round) (tag : ℕ) (answer : List ℕ) (keeps : Carries w q older k) (is : k.round ≡ Some round) (one : round.tag ≡ tag) (old : Asker) (asker : IsAsker old q k) where
+module _ (w : Configuration) (q : ReqSetup) (older : List (List ℕ)) (k : Kept) (round : Round) (tag : ℕ) (answer : List ℕ) (keeps : Carries w q older k) (is : k.round ≡ Some round) (one : round.tag ≡ tag) (old : JudgedRequester) (asker : IsAsker old q k) where
   pub owing_fetches : (awaits : Bool) → awaits ≡ is_fetching (outstanding (restored k).requester) → old.owes ≡ true → awaits ≡ asks_upon k tag answer
   owing_fetches awaits waits owing = deaf_asks w q older k k.responder round tag answer keeps is one awaits waits (sym asker.owes ∙ owing)
 
-  module _ (rests : old.owes ≡ false) (few : length older < 2 ^ 64 - 2) (sends : Bool) (new : Asking) (out : List ℕ) (heard : (p : ReqSetup) (h : History) → IsKeptSetup old.setup p → length h < 2 ^ 64 - 1 → StandsFor old.asking p h → IsHeardAs p h tag answer sends new out) where
+  module _ (rests : old.owes ≡ false) (few : length older < 2 ^ 64 - 2) (sends : Bool) (new : RequesterCore) (out : List ℕ) (heard : (p : ReqSetup) (h : History) → IsKeptSetup old.setup p → length h < 2 ^ 64 - 1 → StandsFor old.asking p h → IsHeardAs p h tag answer sends new out) where
     short : length k.requester < 2 ^ 64 - 2
     short = (let s = kept_short w q older k keeps in omega (arith, s, few))
 

@@ -15,7 +15,7 @@ use Rattle.responder_machine.specs.Setup.{RspSetup, towards}
 use Rattle.spdm_basis.specs.declared.PacketFault.{PacketFault}
 use Rattle.spdm_machine.specs.Packets.{gathered_from}
 use Rattle.check_laws.specs.Keeping.{Kept, restored}
-use Rattle.check_requester.specs.Asker.{Carries}
+use Rattle.check_requester.specs.JudgedRequester.{Carries}
 use Rattle.check_laws.specs.Order.{is_answer, is_request}
 use Rattle.check_laws.specs.Walks.{StepsBy, StepsTo, Walks}
 use Rattle.capture_machine.specs.Capture.{AsksBy, Begins, Copies, RepliesBy}

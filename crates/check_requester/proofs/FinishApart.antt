@@ -9,7 +9,7 @@ use Rattle.requester_core.specs.Joined.{StandsFor}
 use Rattle.requester_core.specs.Owed.{TookFor, TookLast}
 use Rattle.requester_core.specs.OwnRecords.{OpensNamed, opens_own, session_aimed, session_awaited}
 use Rattle.requester_core.specs.Slot.{shown_of}
-use Rattle.requester_core.specs.declared.joined.Asking.{Asking}
+use Rattle.requester_core.specs.declared.joined.RequesterCore.{RequesterCore}
 use Rattle.psk_session.specs.Course.{with_asked}
 use Rattle.psk_session.specs.OwnRecords.{own_fault, own_inner}
 use Rattle.requester_machine.specs.History.{History, outstanding}
@@ -144,7 +144,7 @@ not_two true false c d is = refl
 
 -- ---- The session of what is owed.
 
-module _ (x : Asking) (q : ReqSetup) (bare : History) (sent : Sent) (took : TookFor bare sent.aim) (stands : StandsFor x q (with_next (Some sent) bare)) where
+module _ (x : RequesterCore) (q : ReqSetup) (bare : History) (sent : Sent) (took : TookFor bare sent.aim) (stands : StandsFor x q (with_next (Some sent) bare)) where
   awaited : session_awaited (outstanding (with_next (Some sent) bare)) ≡ session_aimed sent.aim
   awaited = ap session_awaited (out_last bare sent.aim sent took)
 
@@ -159,7 +159,7 @@ module _ (x : Asking) (q : ReqSetup) (bare : History) (sent : Sent) (took : Took
     its_last = took_last bare sent.aim id ask aims took
 
     pub owed : IsOwed q bare (upon bare) id ask sent
-    owed = is_owed q bare (upon bare) id ask sent (upon_last bare id ask its_last) aims stands.talk.holds
+    owed = is_owed q bare (upon bare) id ask sent (upon_last bare id ask its_last) aims stands.clear_state.holds
 
     ordered : IsOrdered (with_asked q.psk (session_of id bare) ask owed.inner owed.pad)
     ordered = subst IsOrdered owed.steps (stands.sessions.orders id).ordered

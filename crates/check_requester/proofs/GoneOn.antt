@@ -9,10 +9,10 @@ use Rattle.requester_machine.specs.History.{History}
 use Rattle.requester_machine.specs.Message.{Sent}
 use Rattle.requester_machine.specs.Setup.{ReqSetup}
 use Rattle.check_requester.proofs.OwedTook.{kept_short, owed_took}
-use Rattle.check_requester.specs.Asker.{Carries, IsAsker, IsGoneOn, IsKeptSetup, IsSentOwed, SendsOwed}
+use Rattle.check_requester.specs.JudgedRequester.{Carries, IsAsker, IsGoneOn, IsKeptSetup, IsSentOwed, SendsOwed}
 use Rattle.check_laws.specs.Keeping.{GoesOnKept, Kept, owing}
-use Rattle.check_requester.specs.declared.asker.Asker.{Asker}
-use Rattle.check_requester.specs.declared.asker_setup.AskerSetup.{AskerSetup}
+use Rattle.check_requester.specs.declared.judged_requester.JudgedRequester.{JudgedRequester}
+use Rattle.check_requester.specs.declared.judged_setup.JudgedSetup.{JudgedSetup}
 use Rattle.requester_machine.specs.Owed.{with_next}
 use Rattle.world_machine.specs.Setup.{Configuration}
 
@@ -32,12 +32,12 @@ module _ (q : ReqSetup) (k : Kept) (sent : Sent) (body : List ℕ) (setup : k.se
       subst (λ (x : ReqSetup). SendsOwed x k.requester sent body after) setup
       (subst (λ (x : Sent). SendsOwed k.setup k.requester x body after) same (g.1, g.3, g.4, g.5, g.6))
 
-  gone_by : (old new : Asker) (b : Bool) → IsAsker old q k → new.setup ≡ old.setup → new.owes ≡ not b → IsSentOwed q k.requester sent body b new.asking → IsGoneOn q k body b new
+  gone_by : (old new : JudgedRequester) (b : Bool) → IsAsker old q k → new.setup ≡ old.setup → new.owes ≡ not b → IsSentOwed q k.requester sent body b new.asking → IsGoneOn q k body b new
   gone_by old new true asker same owes s = (
     s.0,
     as_kept s.0 s.1,
     record {
-      kept = subst (λ (x : AskerSetup). IsKeptSetup x q) (sym same) asker.kept;
+      kept = subst (λ (x : JudgedSetup). IsKeptSetup x q) (sym same) asker.kept;
       setup = asker.setup;
       stands = s.2;
       owes = owes;
@@ -46,7 +46,7 @@ module _ (q : ReqSetup) (k : Kept) (sent : Sent) (body : List ℕ) (setup : k.se
   gone_by old new false asker same owes s = (
     λ after g. s.0 after (from_kept after g),
     record {
-      kept = subst (λ (x : AskerSetup). IsKeptSetup x q) (sym same) asker.kept;
+      kept = subst (λ (x : JudgedSetup). IsKeptSetup x q) (sym same) asker.kept;
       setup = asker.setup;
       stands = subst (λ (o : Option Sent). StandsFor new.asking q (owing o k.requester)) (sym owed) s.1;
       owes = owes ∙ ap is_some (sym owed);
@@ -54,7 +54,7 @@ module _ (q : ReqSetup) (k : Kept) (sent : Sent) (body : List ℕ) (setup : k.se
   )
 
 -- Whether a body is the message that is owed, as its sending tells.
-pub gone_on_by : (w : Configuration) (q : ReqSetup) (older : List (List ℕ)) (k : Kept) (body : List ℕ) (old new : Asker) (b : Bool) → Carries w q older k → length older < 2 ^ 64 - 1 → length body ≤ 4161 → IsAsker old q k → old.owes ≡ true
+pub gone_on_by : (w : Configuration) (q : ReqSetup) (older : List (List ℕ)) (k : Kept) (body : List ℕ) (old new : JudgedRequester) (b : Bool) → Carries w q older k → length older < 2 ^ 64 - 1 → length body ≤ 4161 → IsAsker old q k → old.owes ≡ true
     → new.setup ≡ old.setup → new.owes ≡ not b
     → ((p : ReqSetup) (bare : History) (sent : Sent) → IsKeptSetup old.setup p → TookFor bare sent.aim → length bare < 2 ^ 64 - 1 → length body ≤ 4161 → StandsFor old.asking p (with_next (Some sent) bare) → IsSentOwed p bare sent body b new.asking)
     → IsGoneOn q k body b new

@@ -4,7 +4,7 @@ use Rattle.std.proofs.lemmas.Bool.{false≢true, not-true}
 use Rattle.std.proofs.lemmas.Option.{none-some, same_Some}
 use Rattle.requester_core.specs.Joined.{IsAnswered, IsSentAs, StandsFor}
 use Rattle.requester_core.specs.OwnRecords.{session_awaited}
-use Rattle.requester_core.specs.declared.joined.Asking.{Asking}
+use Rattle.requester_core.specs.declared.joined.RequesterCore.{RequesterCore}
 use Rattle.requester_core.specs.declared.reaction.Reaction.{Reaction}
 use Rattle.requester_machine.specs.Asking.{Outcome}
 use Rattle.requester_machine.specs.Asking.Outcome.{Fails, Ignores, Warns, Resends, Adds}
@@ -22,14 +22,14 @@ use Rattle.check_requester.proofs.AcceptedBy.{accepted_shown, accepts, accepts_n
 use Rattle.check_laws.proofs.KeptParts.{Owes, it_owes, kept_is, next_twice}
 use Rattle.check_laws.proofs.OneWalk.{walks_alike}
 use Rattle.check_laws.proofs.Repadding.{agree_self, heard_with}
-use Rattle.check_requester.specs.Asker.{Carries, IsAsker, IsKeptSetup}
+use Rattle.check_requester.specs.JudgedRequester.{Carries, IsAsker, IsKeptSetup}
 use Rattle.check_requester.specs.HeardKept.{IsHeardAs, heard_kept}
 use Rattle.check_laws.specs.KeptChanges.{accepted_from}
 use Rattle.check_laws.specs.Keeping.{Kept, kept_of, owing, restored}
 use Rattle.check_laws.specs.Padding.{next_with, session_asked}
 use Rattle.check_laws.specs.RepliesShown.{answered, heard_from, no_values}
-use Rattle.check_requester.specs.declared.asker.Asker.{Asker}
-use Rattle.check_requester.specs.declared.asker_setup.AskerSetup.{AskerSetup}
+use Rattle.check_requester.specs.declared.judged_requester.JudgedRequester.{JudgedRequester}
+use Rattle.check_requester.specs.declared.judged_setup.JudgedSetup.{JudgedSetup}
 use Rattle.capture_machine.proofs.Agrees.{HaveIds}
 use Rattle.capture_machine.proofs.AskersAlike.{AskersAlike}
 use Rattle.capture_machine.proofs.AskersAlike.AskersAlike.{Settled, Owing, Shown, Due}
@@ -181,7 +181,7 @@ module _ (w : Configuration) (q : ReqSetup) (older : List (List ℕ)) (k : Kept)
     follows (Fails fault) adds told = absurd (false≢true told)
     follows (Resends sent) adds told = absurd (false≢true told)
 
-    pub heard_stands : (seen : Asking) (sends : Bool) (out : List ℕ) → IsHeardAs k.setup h tag answer sends seen out
+    pub heard_stands : (seen : RequesterCore) (sends : Bool) (out : List ℕ) → IsHeardAs k.setup h tag answer sends seen out
         → StandsFor seen k.setup (owing (heard_kept k behind tag round answer).owed (heard_kept k behind tag round answer).requester) × (sends ≡ is_some (heard_kept k behind tag round answer).owed)
     unfolding heard_from
     heard_stands seen sends out heard =
@@ -205,7 +205,7 @@ body_as None sent tag body by is = absurd (none-some sent by)
 body_as (Some s) sent None body by is = absurd is
 body_as (Some s) sent (Some tag) body by is = is.1 ∙ ap (λ (x : Sent). body_of x.content) (same_Some s sent by)
 
-pub heard_as : (q : ReqSetup) (h : History) (tag : ℕ) (body out : List ℕ) (reaction : Reaction) (sends : Bool) (new : Asking) → IsAnswered q h (hears q h false tag body no_values no_draw) reaction out new → sends ≡ is_some reaction.tag
+pub heard_as : (q : ReqSetup) (h : History) (tag : ℕ) (body out : List ℕ) (reaction : Reaction) (sends : Bool) (new : RequesterCore) → IsAnswered q h (hears q h false tag body no_values no_draw) reaction out new → sends ≡ is_some reaction.tag
     → IsHeardAs q h tag body sends new out
 heard_as q h tag body out reaction sends new is told = record {
   stands = is.stands;
@@ -222,7 +222,7 @@ after_long h (Fails fault) = omega arith
 after_long h (Resends sent) = omega arith
 
 -- No message was sent in response to it, and then what stands for the history was changed to another that does.
-pub heard_still : (q : ReqSetup) (h : History) (tag : ℕ) (body out other : List ℕ) (sends : Bool) (new still : Asking) → IsHeardAs q h tag body sends new out → sends ≡ false → length h < 2 ^ 64 - 2
+pub heard_still : (q : ReqSetup) (h : History) (tag : ℕ) (body out other : List ℕ) (sends : Bool) (new still : RequesterCore) → IsHeardAs q h tag body sends new out → sends ≡ false → length h < 2 ^ 64 - 2
     → ((l : History) → length l < 2 ^ 64 - 1 → StandsFor new q l → StandsFor still q l) → IsHeardAs q h tag body sends still other
 heard_still q h tag body out other sends new still heard none few same = record {
   stands = same (after h (hears q h false tag body no_values no_draw)) (let l = after_long h (hears q h false tag body no_values no_draw) in omega (arith, l, few)) heard.stands;
@@ -233,13 +233,13 @@ heard_still q h tag body out other sends new still heard none few same = record 
 
 module _ (w : Configuration) (q : ReqSetup) (older : List (List ℕ)) (k : Kept) (behind : responder_history.History) (round : Round) (tag : ℕ) (answer : List ℕ) (keeps : Carries w q older k) (is : k.round ≡ Some round) (one : round.tag ≡ tag) where
   -- It hears nothing while it owes a message,
-  pub deaf_asker : (old : Asker) → IsAsker old q k → old.owes ≡ true → IsAsker old q (heard_kept k behind tag round answer)
+  pub deaf_asker : (old : JudgedRequester) → IsAsker old q k → old.owes ≡ true → IsAsker old q (heard_kept k behind tag round answer)
   deaf_asker old asker owing =
       subst (IsAsker old q) (sym (deaf_kept w q older k behind round tag answer keeps is one (sym asker.owes ∙ owing)))
       (record { kept = asker.kept; setup = asker.setup; stands = asker.stands; owes = asker.owes })
 
   -- and else what it is told.
-  pub heard_asker : (old new : Asker) → IsAsker old q k → old.owes ≡ false → new.setup ≡ old.setup → length k.requester < 2 ^ 64 - 2
+  pub heard_asker : (old new : JudgedRequester) → IsAsker old q k → old.owes ≡ false → new.setup ≡ old.setup → length k.requester < 2 ^ 64 - 2
       → ((p : ReqSetup) (h : History) → IsKeptSetup old.setup p → length h < 2 ^ 64 - 2 → StandsFor old.asking p h → IsHeardAs p h tag answer new.owes new.asking new.room)
       → IsAsker new q (heard_kept k behind tag round answer)
   heard_asker old new asker rests same few heard =
@@ -250,18 +250,18 @@ module _ (w : Configuration) (q : ReqSetup) (older : List (List ℕ)) (k : Kept)
       let here : IsHeardAs k.setup (restored k).requester tag answer new.owes new.asking new.room = subst (λ (h : History). IsHeardAs k.setup h tag answer new.owes new.asking new.room) (sym bare) (heard k.setup k.requester limits few own) in
       let stands = heard_stands w q older k behind round tag answer keeps is one none new.asking new.owes new.room here in
       record {
-        kept = subst (λ (x : AskerSetup). IsKeptSetup x q) (sym same) asker.kept;
+        kept = subst (λ (x : JudgedSetup). IsKeptSetup x q) (sym same) asker.kept;
         setup = asker.setup;
         stands = subst (λ (x : ReqSetup). StandsFor new.asking x (owing (heard_kept k behind tag round answer).owed (heard_kept k behind tag round answer).requester)) asker.setup stands.0;
         owes = stands.1;
       }
 
   -- What it accepts: nothing while it owes a message,
-  pub deaf_accepted : (old : Asker) → IsAsker old q k → old.owes ≡ true → None ≡ accepted_from k tag answer
+  pub deaf_accepted : (old : JudgedRequester) → IsAsker old q k → old.owes ≡ true → None ≡ accepted_from k tag answer
   deaf_accepted old asker owing = sym (deaf_accepts w q older k behind round tag answer keeps is one (sym asker.owes ∙ owing))
 
   -- and else what it awaits after, where it awaited no record before.
-  pub heard_accepted : (old new : Asker) (before : Bool) (result : Option ℕ) → IsAsker old q k → old.owes ≡ false → length k.requester < 2 ^ 64 - 1
+  pub heard_accepted : (old new : JudgedRequester) (before : Bool) (result : Option ℕ) → IsAsker old q k → old.owes ≡ false → length k.requester < 2 ^ 64 - 1
       → ((p : ReqSetup) (h : History) → IsKeptSetup old.setup p → length h < 2 ^ 64 - 1 → StandsFor old.asking p h → IsHeardAs p h tag answer new.owes new.asking new.room)
       → ((p : ReqSetup) (h : History) → StandsFor old.asking p h → before ≡ is_some (session_awaited (outstanding h)))
       → ((p : ReqSetup) (h : History) → StandsFor new.asking p h → result ≡ cond before None (session_awaited (outstanding h)))

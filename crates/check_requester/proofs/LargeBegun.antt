@@ -7,7 +7,7 @@ use Rattle.std.proofs.lemmas.Option.{none-some, same_Some}
 use Rattle.requester_core.proofs.TakenBack.{any_took, without}
 use Rattle.requester_core.specs.Joined.{IsCommanded, StandsFor}
 use Rattle.requester_core.specs.Owed.{TookFor}
-use Rattle.requester_core.specs.declared.joined.Asking.{Asking}
+use Rattle.requester_core.specs.declared.joined.RequesterCore.{RequesterCore}
 use Rattle.requester_machine.specs.Asking.{asks, asks_by}
 use Rattle.requester_machine.specs.Asking.Outcome.{Fails}
 use Rattle.requester_machine.specs.Commands.{Free, command_fault, is_long, is_negotiated, lacks, live_count}
@@ -27,10 +27,10 @@ use Rattle.spdm_grammar.specs.declared.told.command_fault.CommandFault.{CommandF
 use Rattle.spdm_grammar.specs.declared.told.command_fault.CommandFault.TheVariants as fault
 use Rattle.check_requester.proofs.OwedSent.{Goes}
 use Rattle.check_requester.proofs.OwedSent.Goes.{AsRecord, InClear}
-use Rattle.check_requester.specs.Asker.{IsAsker, IsKeptSetup, is_first_chunk}
+use Rattle.check_requester.specs.JudgedRequester.{IsAsker, IsKeptSetup, is_first_chunk}
 use Rattle.check_requester.specs.LargeAsked.{HasRoom, IsBegun, is_least_short, is_refused_late, least_length}
-use Rattle.check_requester.specs.declared.asker.Asker.{Asker}
-use Rattle.check_requester.specs.declared.asker_setup.AskerSetup.{AskerSetup}
+use Rattle.check_requester.specs.declared.judged_requester.JudgedRequester.{JudgedRequester}
+use Rattle.check_requester.specs.declared.judged_setup.JudgedSetup.{JudgedSetup}
 use Rattle.check_laws.specs.Keeping.{Keeps, Kept, owing}
 use Rattle.check_laws.proofs.Large.CommandsShown.{open_is_shown}
 use Rattle.check_laws.proofs.Large.Meanwhile.{owed_may_begin}
@@ -80,10 +80,10 @@ module _ (q : ReqSetup) (h : History) (f : Free) where
   late_by room = open_fault.late (ap is_some room.free) (ap not room.connected) room.room
 
   -- It is never done.
-  pub never_open : (tag : ℕ) (out : List ℕ) (new : Asking) → IsCommanded q h (asks false q h (Open 2) f no_draw) (Ok tag) out new → ⊥
+  pub never_open : (tag : ℕ) (out : List ℕ) (new : RequesterCore) → IsCommanded q h (asks false q h (Open 2) f no_draw) (Ok tag) out new → ⊥
   never_open tag out new did = none-some open_fault.is (sym (sym (ap fault_of open_fails) ∙ did.fault))
 
-  pub refused_open : (x : CommandFault) (out : List ℕ) (new : Asking) (b : Bool) → b ≡ is_refused_late x → IsCommanded q h (asks false q h (Open 2) f no_draw) (Err x) out new → (b ≡ true → HasRoom h) × (HasRoom h → b ≡ true) × StandsFor new q h
+  pub refused_open : (x : CommandFault) (out : List ℕ) (new : RequesterCore) (b : Bool) → b ≡ is_refused_late x → IsCommanded q h (asks false q h (Open 2) f no_draw) (Err x) out new → (b ≡ true → HasRoom h) × (HasRoom h → b ≡ true) × StandsFor new q h
   refused_open x out new b is did =
       let same : open_fault.is ≡ x = fails_same open_fault.is x (sym open_fails ∙ did.0) in (
         λ late. room_of (ap is_refused_late same ∙ sym is ∙ late),
@@ -148,18 +148,18 @@ module _ (q : ReqSetup) (k : Kept) (setup : k.setup ≡ q) (set_up : IsSetUp q) 
   begun_open room short None c = λ b whole may large is. c whole large is
 
 -- What is kept of the requester, where none is owed.
-pub asker_as : (q : ReqSetup) (k : Kept) (old new : Asker) → IsAsker old q k → k.owed ≡ None → new.setup ≡ old.setup → new.owes ≡ old.owes → StandsFor new.asking q k.requester → IsAsker new q k
+pub asker_as : (q : ReqSetup) (k : Kept) (old new : JudgedRequester) → IsAsker old q k → k.owed ≡ None → new.setup ≡ old.setup → new.owes ≡ old.owes → StandsFor new.asking q k.requester → IsAsker new q k
 asker_as q k old new asker none setup owes stands = record {
-  kept = subst (λ (x : AskerSetup). IsKeptSetup x q) (sym setup) asker.kept;
+  kept = subst (λ (x : JudgedSetup). IsKeptSetup x q) (sym setup) asker.kept;
   setup = asker.setup;
   stands = subst (λ (o : Option Sent). StandsFor new.asking q (owing o k.requester)) (sym none) stands;
   owes = owes ∙ asker.owes;
 }
 
 -- Or whatever is owed.
-pub asker_still : (q : ReqSetup) (k : Kept) (old new : Asker) → IsAsker old q k → new.setup ≡ old.setup → new.owes ≡ old.owes → StandsFor new.asking q (owing k.owed k.requester) → IsAsker new q k
+pub asker_still : (q : ReqSetup) (k : Kept) (old new : JudgedRequester) → IsAsker old q k → new.setup ≡ old.setup → new.owes ≡ old.owes → StandsFor new.asking q (owing k.owed k.requester) → IsAsker new q k
 asker_still q k old new asker setup owes stands = record {
-  kept = subst (λ (x : AskerSetup). IsKeptSetup x q) (sym setup) asker.kept;
+  kept = subst (λ (x : JudgedSetup). IsKeptSetup x q) (sym setup) asker.kept;
   setup = asker.setup;
   stands = stands;
   owes = owes ∙ asker.owes;

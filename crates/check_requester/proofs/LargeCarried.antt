@@ -5,7 +5,7 @@ use Rattle.std.proofs.lemmas.Bool.{false≢true}
 use Rattle.std.proofs.lemmas.List.{length-take, take_all}
 use Rattle.requester_core.specs.Joined.{StandsFor}
 use Rattle.requester_core.specs.LargeRequests.{IsAcknowledged, next_piece, piece_behind, piece_behind_sent}
-use Rattle.requester_core.specs.declared.joined.Asking.{Asking}
+use Rattle.requester_core.specs.declared.joined.RequesterCore.{RequesterCore}
 use Rattle.chunking.proofs.ChunkSteps.{ends}
 use Rattle.chunking.specs.Cutting.{chunk_count, chunk_end, chunk_start, nth_chunk, unit_of}
 use Rattle.requester_machine.specs.History.{History, connection_terms, outstanding}
@@ -116,10 +116,10 @@ module _ (q : ReqSetup) (h : History) (asked : RequestMessage) (handle : ℕ) wh
   H acks = behind asked request handle acks h
 
   -- Whatever was taken for the acknowledgements, so many of them.
-  abbrev pub Stands : ℕ → Asking → Type 0
+  abbrev pub Stands : ℕ → RequesterCore → Type 0
   Stands n asking = (acks : List Ack) → number_in acks ≡ n → StandsFor asking q (H acks)
 
-  pub stands_first : (asking : Asking) → StandsFor asking q h → Stands 0 asking
+  pub stands_first : (asking : RequesterCore) → StandsFor asking q h → Stands 0 asking
   stands_first asking stands [] is = stands
   stands_first asking stands (ack ∷ acks) is = absurd (omega (arith, is))
 
@@ -134,7 +134,7 @@ module _ (q : ReqSetup) (h : History) (asked : RequestMessage) (handle : ℕ) wh
     terms acks = behind_terms asked request handle acks h
 
     -- What the program's call tells, for each history.
-    module _ (n : ℕ) (old new : Asking) (result : Option ℕ) (room : List ℕ) (sizes : HasSizes q) (stands : Stands n old) (tells : (p : ReqSetup) (l : History) → HasSizes p → StandsFor old p l → IsAcknowledged p l (next_piece l) result room new) where
+    module _ (n : ℕ) (old new : RequesterCore) (result : Option ℕ) (room : List ℕ) (sizes : HasSizes q) (stands : Stands n old) (tells : (p : ReqSetup) (l : History) → HasSizes p → StandsFor old p l → IsAcknowledged p l (next_piece l) result room new) where
       told : (acks : List Ack) → number_in acks ≡ n → IsAcknowledged q (H acks) (next_piece (H acks)) result room new
       told acks is = tells q (H acks) sizes (stands acks is)
 
@@ -206,11 +206,11 @@ first_bytes h m =
 -- ---- The loop.
 
 -- Up to the chunk of this number its bytes are those of `whole`.
-pub record Carried (asking : Asking) (q : ReqSetup) (h : History) (asked : RequestMessage) (handle : ℕ) (whole : List ℕ) (number at : ℕ) : Type 0 where
+pub record Carried (asking : RequesterCore) (q : ReqSetup) (h : History) (asked : RequestMessage) (handle : ℕ) (whole : List ℕ) (number at : ℕ) : Type 0 where
   pub held : IsHeldTo h (canonical_request asked) whole number at
   pub stands : (acks : List Ack) → number_in acks ≡ number → StandsFor asking q (behind asked (canonical_request asked) handle acks h)
 
-pub carried_all : (asking : Asking) (q : ReqSetup) (h : History) (asked : RequestMessage) (handle : ℕ) (whole : List ℕ) (count at : ℕ) → 12 < (common_of h).to_responder.transfer → length whole ≡ length (canonical_request asked)
+pub carried_all : (asking : RequesterCore) (q : ReqSetup) (h : History) (asked : RequestMessage) (handle : ℕ) (whole : List ℕ) (count at : ℕ) → 12 < (common_of h).to_responder.transfer → length whole ≡ length (canonical_request asked)
     → count + 1 ≡ chunk_count (common_of h).to_responder.transfer whole → Carried asking q h asked handle whole count at → IsCarried q h asked handle whole count true asking
 carried_all asking q h asked handle whole count at wide long last c =
     let is = all_bytes h (canonical_request asked) whole count at wide long last c.held in

@@ -7,7 +7,7 @@ use Rattle.std.proofs.lemmas.Bool.Decides.{nat_tests}
 use Rattle.std.proofs.lemmas.Grind.{common_steps}
 use Rattle.std.proofs.lemmas.Option.{none-some, same_Some}
 use Rattle.requester_core.specs.Joined.{IsCommanded, IsDone, StandsFor}
-use Rattle.requester_core.specs.declared.joined.Asking.{Asking}
+use Rattle.requester_core.specs.declared.joined.RequesterCore.{RequesterCore}
 use Rattle.chunking.specs.Cutting.{chunk_count}
 use Rattle.requester_machine.proofs.Entries.{asked, test_is_false}
 use Rattle.requester_machine.specs.Asking.{Outcome, asks, done}
@@ -30,9 +30,9 @@ use Rattle.spdm_grammar.specs.Requests.{request_in}
 use Rattle.check_laws.proofs.Shown.{open_free}
 use Rattle.check_requester.proofs.ClearRead.{no_padding}
 use Rattle.check_requester.proofs.ClearTold.{adds, shows_by}
-use Rattle.check_requester.specs.Asker.{IsAsker, IsKeptSetup, is_first_chunk}
-use Rattle.check_requester.specs.declared.asker.Asker.{Asker}
-use Rattle.check_requester.specs.declared.asker_setup.AskerSetup.{AskerSetup}
+use Rattle.check_requester.specs.JudgedRequester.{IsAsker, IsKeptSetup, is_first_chunk}
+use Rattle.check_requester.specs.declared.judged_requester.JudgedRequester.{JudgedRequester}
+use Rattle.check_requester.specs.declared.judged_setup.JudgedSetup.{JudgedSetup}
 use Rattle.check_laws.specs.Keeping.{Kept}
 use Rattle.check_laws.proofs.Large.Onward.{some_size}
 use Rattle.check_laws.specs.Large.Sending.{Ack, Beginning, IsSendingOf, MayBegin, MaySend, MayStand, Sending, asked_of, begun_with, behind, count_of, handle_of, is_last, number_in, number_of, requester_of, transfer_of}
@@ -50,20 +50,20 @@ use Rattle.capture_machine.specs.Rounds.{no_draw}
 -- ---- Open.
 
 -- Beside four sessions it is refused.
-pub full_opens : (q : ReqSetup) (h : History) (x : ExchangeMessage) (new : Asking) (room : List ℕ) → live_count h ≡ 4 → IsOpenedLarge q h x false new room
+pub full_opens : (q : ReqSetup) (h : History) (x : ExchangeMessage) (new : RequesterCore) (room : List ℕ) → live_count h ≡ 4 → IsOpenedLarge q h x false new room
 full_opens q h x new room full = λ allowed is.
     not_four (live_count h) (test_is_false false q h (Open x.summary) (values_in x) (asked false q h (Open x.summary) (values_in x) no_draw (Told (Open x.summary) _ no_draw) is).0 4) full
 
 -- What is not allowed is not told.
-pub not_opens : (q : ReqSetup) (h : History) (x : ExchangeMessage) (new : Asking) (room : List ℕ) → (IsAllowed q h (values_in x) → live_count h ≡ 4) → IsOpenedLarge q h x false new room
+pub not_opens : (q : ReqSetup) (h : History) (x : ExchangeMessage) (new : RequesterCore) (room : List ℕ) → (IsAllowed q h (values_in x) → live_count h ≡ 4) → IsOpenedLarge q h x false new room
 not_opens q h x new room full = λ allowed is. full_opens q h x new room (full allowed) allowed is
 
-pub fails_opens : (q : ReqSetup) (h : History) (x : ExchangeMessage) (r : Result ℕ CommandFault) (out room : List ℕ) (new other : Asking) → is_err r ≡ true → IsCommanded q h (asks false q h (Open x.summary) (values_in x) no_draw) r out new → IsOpenedLarge q h x false other room
+pub fails_opens : (q : ReqSetup) (h : History) (x : ExchangeMessage) (r : Result ℕ CommandFault) (out room : List ℕ) (new other : RequesterCore) → is_err r ≡ true → IsCommanded q h (asks false q h (Open x.summary) (values_in x) no_draw) r out new → IsOpenedLarge q h x false other room
 fails_opens q h x (Ok tag) out room new other is did = absurd (false≢true is)
 fails_opens q h x (Err why) out room new other is did = λ allowed adds_it.
     let e : Fails why ≡ Adds (Told (Open x.summary) (piece_sent (common_of h) h (PskExchange x) (next_handle h) 0) no_draw) = sym did.0 ∙ adds_it in absurd (cc)
 
-module _ (q : ReqSetup) (h : History) (x : ExchangeMessage) (allowed : IsAllowed q h (values_in x)) (tag : ℕ) (out : List ℕ) (new : Asking) (did : IsDone q h (asks false q h (Open x.summary) (values_in x) no_draw) tag out new) where
+module _ (q : ReqSetup) (h : History) (x : ExchangeMessage) (allowed : IsAllowed q h (values_in x)) (tag : ℕ) (out : List ℕ) (new : RequesterCore) (did : IsDone q h (asks false q h (Open x.summary) (values_in x) no_draw) tag out new) where
   abbrev own : RequestMessage
   own = exchange_for q (values_in x) x.summary
 
@@ -98,7 +98,7 @@ module _ (q : ReqSetup) (h : History) (x : ExchangeMessage) (allowed : IsAllowed
   done_opens false first = λ fits is.
       false≢true (sym first ∙ first_is ∙ ap (λ (s : Sent). begins_large s.aim) (same_sent c one.0 _ no_draw (sym one.1 ∙ is)))
 
-pub tells_opens : (q : ReqSetup) (h : History) (x : ExchangeMessage) (r : Result ℕ CommandFault) (out : List ℕ) (new : Asking) (b : Bool) → IsAllowed q h (values_in x) → is_err r ≡ false → IsCommanded q h (asks false q h (Open x.summary) (values_in x) no_draw) r out new → is_first_chunk out ≡ b
+pub tells_opens : (q : ReqSetup) (h : History) (x : ExchangeMessage) (r : Result ℕ CommandFault) (out : List ℕ) (new : RequesterCore) (b : Bool) → IsAllowed q h (values_in x) → is_err r ≡ false → IsCommanded q h (asks false q h (Open x.summary) (values_in x) no_draw) r out new → is_first_chunk out ≡ b
     → IsOpenedLarge q h x b new out
 tells_opens q h x (Ok tag) out new b allowed is did first = done_opens q h x allowed tag out new did b first
 tells_opens q h x (Err why) out new b allowed is did first = absurd (false≢true (sym is))
@@ -161,7 +161,7 @@ all_acks : (s : Sending) (o : Option Ack) → is_some o ≡ true → (acks : Lis
 all_acks s None due = absurd (false≢true due)
 all_acks s (Some ack) due = (ack ∷ s.acks, refl, λ b whole. refl)
 
-module _ (w : Configuration) (q : ReqSetup) (older : List (List ℕ)) (s : Sending) (own : IsSendingOf w q older s) (whole : List ℕ) (stand : MayStand s whole) (last : is_last s (number_of s + 1) ≡ true) (due : is_some s.due ≡ true) (seen : Asker) (asker : IsAsker seen q s.before) where
+module _ (w : Configuration) (q : ReqSetup) (older : List (List ℕ)) (s : Sending) (own : IsSendingOf w q older s) (whole : List ℕ) (stand : MayStand s whole) (last : is_last s (number_of s + 1) ≡ true) (due : is_some s.due ≡ true) (seen : JudgedRequester) (asker : IsAsker seen q s.before) where
   abbrev k : Kept
   k = s.before
 
@@ -172,11 +172,11 @@ module _ (w : Configuration) (q : ReqSetup) (older : List (List ℕ)) (s : Sendi
   counted count number is more = ap (λ (n : ℕ). n + 1) (more ∙ ap (λ (n : ℕ). n + 1) is) ∙ eqb-true (number_of s + 1 + 1) (count_of (transfer_of s) s.size) last ∙ ap (count_of (transfer_of s)) (sym stand.0)
 
   -- The requester after so many acknowledgements.
-  pub behind_all : (new : Asker) (b : Beginning) → new.setup ≡ seen.setup → new.owes ≡ false → ((acks : List Ack) → number_in acks ≡ number_of s + 1 → StandsFor new.asking q (behind (asked_of b) whole (handle_of s) acks (begun_with k b whole)))
+  pub behind_all : (new : JudgedRequester) (b : Beginning) → new.setup ≡ seen.setup → new.owes ≡ false → ((acks : List Ack) → number_in acks ≡ number_of s + 1 → StandsFor new.asking q (behind (asked_of b) whole (handle_of s) acks (begun_with k b whole)))
       → IsAsker new q (record k { requester = requester_of s b whole; owed = None })
   behind_all new b setup owes stands =
       let all = all_acks s s.due due in record {
-        kept = subst (λ (x : AskerSetup). IsKeptSetup x q) (sym setup) asker.kept;
+        kept = subst (λ (x : JudgedSetup). IsKeptSetup x q) (sym setup) asker.kept;
         setup = asker.setup;
         stands = subst (StandsFor new.asking q) (sym (all.2 b whole)) (stands all.0 all.1);
         owes = owes;
@@ -192,7 +192,7 @@ module _ (w : Configuration) (q : ReqSetup) (older : List (List ℕ)) (s : Sendi
         let own_sends : P q = subst P asker.setup sends in
         by_command q k.requester wide whole own_sends.0 own_sends.1 a is c own_sends.2 (large_kind q k.requester own_sends.0 c (first_piece k.requester a whole) a own_sends.2 refl)
 
-    pub no_exchange : (new : Asker) → exchange_shown (request_in 0 whole) ≡ None → IsEnded q s whole false new
+    pub no_exchange : (new : JudgedRequester) → exchange_shown (request_in 0 whole) ≡ None → IsEnded q s whole false new
     no_exchange new not b may is sends =
         let e = as_exchange b may is sends in
         none-some e.exchange (sym not ∙ ap exchange_shown e.reads)
@@ -204,12 +204,12 @@ module _ (w : Configuration) (q : ReqSetup) (older : List (List ℕ)) (s : Sendi
       it_is : (b : Beginning) → MayBegin k b → whole ≡ canonical_request (asked_of b) → MaySend k b whole → (e : IsExchange q k.requester whole) × (e.exchange ≡ x)
       it_is b may is sends = let e = as_exchange b may is sends in (e, same e)
 
-      pub not_ended : (new : Asker) (other : Asking) (room : List ℕ) → IsOpenedLarge q k.requester x false other room → IsEnded q s whole false new
+      pub not_ended : (new : JudgedRequester) (other : RequesterCore) (room : List ℕ) → IsOpenedLarge q k.requester x false other room → IsEnded q s whole false new
       not_ended new other room not b may is sends =
           let e = it_is b may is sends in
           subst (λ (y : ExchangeMessage). IsOpenedLarge q k.requester y false other room) (sym e.1) not e.0.allowed e.0.sends
 
-      module _ (asking : Asking) (room : List ℕ) (opened : IsOpenedLarge q k.requester x true asking room) where
+      module _ (asking : RequesterCore) (room : List ℕ) (opened : IsOpenedLarge q k.requester x true asking room) where
         abbrev pub asked_own : RequestMessage
         asked_own = exchange_for q (values_in x) x.summary
 
@@ -228,7 +228,7 @@ module _ (w : Configuration) (q : ReqSetup) (older : List (List ℕ)) (s : Sendi
           stands = opened.2;
         }
 
-        pub ended_by : (b : Bool) (new : Asker) → new.setup ≡ seen.setup → new.owes ≡ false → IsCarried q h asked_own (next_handle k.requester) whole (number_of s + 1) b new.asking → IsEnded q s whole b new
+        pub ended_by : (b : Bool) (new : JudgedRequester) → new.setup ≡ seen.setup → new.owes ≡ false → IsCarried q h asked_own (next_handle k.requester) whole (number_of s + 1) b new.asking → IsEnded q s whole b new
         ended_by false new setup owes c = λ b may is sends.
             let e = it_is b may is sends in
             c (e.0.spells ∙ ap canonical_request (sym e.0.own ∙ ap (λ (y : ExchangeMessage). exchange_for q (values_in y) y.summary) e.1))

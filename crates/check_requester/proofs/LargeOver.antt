@@ -4,7 +4,7 @@ use Rattle.std.proofs.lemmas.Bool.{false≢true}
 use Rattle.requester_core.specs.Joined.{IsDone, StandsFor}
 use Rattle.requester_core.specs.LargeRequests.{IsBrokenOff, IsSentOn}
 use Rattle.requester_core.specs.Owed.{TookAny}
-use Rattle.requester_core.specs.declared.joined.Asking.{Asking}
+use Rattle.requester_core.specs.declared.joined.RequesterCore.{RequesterCore}
 use Rattle.requester_machine.specs.Answers.{goes_on}
 use Rattle.requester_machine.specs.Asking.{Outcome, asks}
 use Rattle.requester_machine.specs.Commands.{Free}
@@ -25,10 +25,10 @@ use Rattle.spdm_machine.specs.Bodies.{clear_body}
 use Rattle.spdm_machine.specs.Keys.{Draw}
 use Rattle.check_laws.proofs.Connecting.{connects, some_values, version_told}
 use Rattle.check_laws.specs.Keeping.{owing}
-use Rattle.check_requester.specs.Asker.{IsAsker, IsKeptSetup}
+use Rattle.check_requester.specs.JudgedRequester.{IsAsker, IsKeptSetup}
 use Rattle.check_requester.specs.LargeAsked.{IsConnectedOver}
-use Rattle.check_requester.specs.declared.asker.Asker.{Asker}
-use Rattle.check_requester.specs.declared.asker_setup.AskerSetup.{AskerSetup}
+use Rattle.check_requester.specs.declared.judged_requester.JudgedRequester.{JudgedRequester}
+use Rattle.check_requester.specs.declared.judged_setup.JudgedSetup.{JudgedSetup}
 use Rattle.check_laws.proofs.Large.Histories.{later}
 use Rattle.check_laws.proofs.Large.SendingReasons.{none_before}
 use Rattle.check_laws.specs.Large.Sending.{Ack, Beginning, MayBegin, MayStand, Sending, asked_of, begun_with, behind, handle_of, is_upon_clear, number_in, number_of, shown_by}
@@ -75,13 +75,13 @@ upon_any (TookRecord tag id sealed inner led d ∷ h) is none = absurd (false≢
 -- ---- GET_VERSION.
 
 -- What the program's call tells of it.
-pub record TellsOver (old new : Asking) (number tag : ℕ) (out : List ℕ) : Type 0 where
+pub record TellsOver (old new : RequesterCore) (number tag : ℕ) (out : List ℕ) : Type 0 where
   pub told : (q : ReqSetup) (h over : History) (command : message.Command) (first : Sent) (begun : Draw) (f : Free) (d : Draw) → outstanding h ≡ None → StandsFor old q h → begins_large first.aim ≡ true
       → IsBrokenOff (Told command first begun ∷ h) number over → IsDone q over (asks false q over Connect f d) tag out new
   pub owed : (q : ReqSetup) (bare over : History) (sent first : Sent) (f : Free) (d : Draw) → TookAny bare → StandsFor old q (with_next (Some sent) bare) → begins_large first.aim ≡ true
       → IsBrokenOff (with_next (Some first) bare) number over → IsDone q over (asks false q over Connect f d) tag out new
 
-module _ (q : ReqSetup) (s : Sending) (b : Beginning) (whole : List ℕ) (may : MayBegin s.before b) (stand : MayStand s whole) (seen : Asker) (asker : IsAsker seen q s.before) (number : ℕ) (is : number ≡ number_of s) (new : Asking) (tag : ℕ) (out : List ℕ)
+module _ (q : ReqSetup) (s : Sending) (b : Beginning) (whole : List ℕ) (may : MayBegin s.before b) (stand : MayStand s whole) (seen : JudgedRequester) (asker : IsAsker seen q s.before) (number : ℕ) (is : number ≡ number_of s) (new : RequesterCore) (tag : ℕ) (out : List ℕ)
     (tells : TellsOver seen.asking new number tag out) where
   abbrev over : History
   over = without_due s b whole
@@ -100,7 +100,7 @@ module _ (q : ReqSetup) (s : Sending) (b : Beginning) (whole : List ℕ) (may : 
   done : IsDone q over (asks false q over Connect f no_draw) tag out new
   done = done_by b may (subst (λ (n : ℕ). IsBrokenOff (begun_with s.before b whole) n over) (sym is) (broken_off s b whole))
 
-  pub connected_over : (after_all : Asker) → after_all.setup ≡ seen.setup → after_all.asking ≡ new → after_all.owes ≡ false → IsConnectedOver q s after_all
+  pub connected_over : (after_all : JudgedRequester) → after_all.setup ≡ seen.setup → after_all.asking ≡ new → after_all.owes ≡ false → IsConnectedOver q s after_all
   connected_over after_all same now rests =
       let next : History = Told Connect (plain_sent over GetVersion) no_draw ∷ over in
       let stands : StandsFor new q next = subst (λ (o : Outcome). StandsFor new q (after over o)) (connects q over f) done.stands in record {
@@ -111,9 +111,9 @@ module _ (q : ReqSetup) (s : Sending) (b : Beginning) (whole : List ℕ) (may : 
         stands = stand;
         tells = subst (λ (x : ReqSetup). Tells x over Connect (clear_body (canonical_request GetVersion)) next) (sym asker.setup) (version_told q over asker.kept.limits);
         asker = record {
-          kept = subst (λ (x : AskerSetup). IsKeptSetup x q) (sym same) asker.kept;
+          kept = subst (λ (x : JudgedSetup). IsKeptSetup x q) (sym same) asker.kept;
           setup = asker.setup;
-          stands = subst (λ (x : Asking). StandsFor x q next) (sym now) stands;
+          stands = subst (λ (x : RequesterCore). StandsFor x q next) (sym now) stands;
           owes = rests;
         };
       }

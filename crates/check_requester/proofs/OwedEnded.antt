@@ -5,7 +5,7 @@ use Rattle.std.proofs.lemmas.Bool.{false≢true}
 use Rattle.std.proofs.lemmas.Option.{none-some, same_Some}
 use Rattle.requester_core.specs.Joined.{StandsFor}
 use Rattle.requester_core.specs.Owed.{TookFor}
-use Rattle.requester_core.specs.declared.joined.Asking.{Asking}
+use Rattle.requester_core.specs.declared.joined.RequesterCore.{RequesterCore}
 use Rattle.chunking.specs.Cutting.{chunk_count}
 use Rattle.requester_machine.specs.History.{History, begins_large, connection_terms, next_handle, next_tag}
 use Rattle.requester_machine.specs.Holds.{Waits}
@@ -23,9 +23,9 @@ use Rattle.spdm_machine.specs.Terms.{Terms}
 use Rattle.check_requester.proofs.LargeEnded.{behind_all, counted}
 use Rattle.check_requester.proofs.OwedPieces.{HasHandle, owed_at}
 use Rattle.check_requester.proofs.OwedSent.{chunks_short, out_owed}
-use Rattle.check_requester.specs.Asker.{IsAsker}
+use Rattle.check_requester.specs.JudgedRequester.{IsAsker}
 use Rattle.check_requester.specs.LargeAsked.{IsCarried, IsEnded, IsFirstOut, cut_body}
-use Rattle.check_requester.specs.declared.asker.Asker.{Asker}
+use Rattle.check_requester.specs.declared.judged_requester.JudgedRequester.{JudgedRequester}
 use Rattle.check_laws.specs.Keeping.{Keeps, Kept, owing}
 use Rattle.check_laws.proofs.Large.Histories.{next_terms}
 use Rattle.check_laws.proofs.Large.Meanwhile.{owed_may_begin}
@@ -61,7 +61,7 @@ same_parts : (x y : Sent) → x.tag ≡ y.tag → x.content ≡ y.content → x.
 same_parts x y tag content aim = ap (λ (n : ℕ). record x { tag = n }) tag ∙ ap (λ (c : Content). record x { tag = y.tag; content = c }) content ∙ ap (λ (a : Aim). record x { tag = y.tag; content = y.content; aim = a }) aim
 
 module _ (w : Configuration) (q : ReqSetup) (older earlier : List (List ℕ)) (s : Sending) (own : IsSendingOf w q older s) (keeps : Keeps w q earlier s.before) (whole : List ℕ) (stand : MayStand s whole) (last : is_last s (number_of s + 1) ≡ true) (due : is_some s.due ≡ true)
-    (seen : Asker) (asker : IsAsker seen q s.before) (sent : Sent) (owed : s.before.owed ≡ Some sent) (took : TookFor s.before.requester sent.aim) where
+    (seen : JudgedRequester) (asker : IsAsker seen q s.before) (sent : Sent) (owed : s.before.owed ≡ Some sent) (took : TookFor s.before.requester sent.aim) where
   abbrev k : Kept
   k = s.before
 
@@ -97,10 +97,10 @@ module _ (w : Configuration) (q : ReqSetup) (older earlier : List (List ℕ)) (s
   out_by aim is out =
       let o : IsOutstanding q H sent.content (ByChunks a first.handle 0) = subst (IsOutstanding q H sent.content) is out in
       let piece = o.1 asker.kept.sizes in
-      record { content_is = piece.is; short = chunks_short q H a first.handle 0 sent.content asker.kept.sizes stands.talk.holds o.0 piece }
+      record { content_is = piece.is; short = chunks_short q H a first.handle 0 sent.content asker.kept.sizes stands.clear_state.holds o.0 piece }
 
   piece_is : IsPieceOf H sent.content a first.handle
-  piece_is = out_by sent.aim first.aim (subst (Waits q H) (out_owed k.requester sent took) stands.talk.holds.waits)
+  piece_is = out_by sent.aim first.aim (subst (Waits q H) (out_owed k.requester sent took) stands.clear_state.holds.waits)
 
   -- It is the one of the definitions, with these bytes.
   same_piece : sent ≡ first_piece k.requester a (canonical_request a)
@@ -114,7 +114,7 @@ module _ (w : Configuration) (q : ReqSetup) (older earlier : List (List ℕ)) (s
       let own_wide = some_size (transfer_of s) (number_of s) own.stands.0 (subst (λ (n : ℕ). number_of s + 1 < count_of (transfer_of s) n) (sym own.stands.1.0) own.more) in
       subst (λ (t : Terms). 12 < t.common.to_responder.transfer) (sym terms) own_wide
 
-  pub owed_out : (asking : Asking) (room : List ℕ) → StandsFor asking q H → room ≡ body_of sent.content → IsFirstOut asking room q H a (next_handle k.requester)
+  pub owed_out : (asking : RequesterCore) (room : List ℕ) → StandsFor asking q H → room ≡ body_of sent.content → IsFirstOut asking room q H a (next_handle k.requester)
   owed_out asking room now is = record {
     sizes = asker.kept.sizes;
     wide = wide;
@@ -136,7 +136,7 @@ module _ (w : Configuration) (q : ReqSetup) (older earlier : List (List ℕ)) (s
   one_asked (ByCommand c x) m = absurd (none-some sent (sym m.0 ∙ owed))
   one_asked (ByItself x) m = same_Some x a (sym m.5 ∙ ap (λ (y : Sent). asked_in y.aim) (same_Some m.0 sent (sym m.1 ∙ owed)) ∙ ap asked_in first.aim)
 
-  pub owed_ended : (b : Bool) (new : Asker) → new.setup ≡ seen.setup → new.owes ≡ false → IsCarried q H a (next_handle k.requester) whole (number_of s + 1) b new.asking → IsEnded q s whole b new
+  pub owed_ended : (b : Bool) (new : JudgedRequester) → new.setup ≡ seen.setup → new.owes ≡ false → IsCarried q H a (next_handle k.requester) whole (number_of s + 1) b new.asking → IsEnded q s whole b new
   owed_ended false new setup owes c = λ b m is sends. c (is ∙ ap canonical_request (one_asked b m))
   owed_ended true new setup owes c =
       let piece : sent ≡ first_piece k.requester a whole = same_piece ∙ ap (first_piece k.requester a) (sym c.0) in (

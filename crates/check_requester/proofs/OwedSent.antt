@@ -12,7 +12,7 @@ use Rattle.requester_core.proofs.OwedClear.{out_last}
 use Rattle.requester_core.specs.Joined.{IsCommanded, StandsFor}
 use Rattle.requester_core.specs.Negotiating.{IsUpToAsked, IsUpToSent}
 use Rattle.requester_core.specs.Owed.{IsRepadded, TookFor, TookLast, owed_with}
-use Rattle.requester_core.specs.declared.joined.Asking.{Asking}
+use Rattle.requester_core.specs.declared.joined.RequesterCore.{RequesterCore}
 use Rattle.chunking.proofs.ChunkSteps.{reaches}
 use Rattle.chunking.specs.Cutting.{chunk_count}
 use Rattle.requester_machine.proofs.Choosing.{free_id-free, free_id-in_range}
@@ -41,7 +41,7 @@ use Rattle.spdm_grammar.specs.declared.told.command_fault.CommandFault.{CommandF
 use Rattle.spdm_grammar.specs.declared.told.command_fault.CommandFault.TheVariants as fault
 use Rattle.spdm_machine.specs.Bodies.{clear_body, record_body}
 use Rattle.spdm_machine.specs.Keys.{Draw}
-use Rattle.check_requester.specs.Asker.{IsSentOwed, is_first_chunk}
+use Rattle.check_requester.specs.JudgedRequester.{IsSentOwed, is_first_chunk}
 use Rattle.check_laws.specs.Padding.{session_asked}
 use Rattle.requester_machine.specs.Owed.{content_with, sent_with}
 use Rattle.requester_machine.specs.Owed.{with_next}
@@ -63,11 +63,11 @@ after_resent : (h : History) (o : Option Sent) → after h (resent o) ≡ h
 after_resent h None = refl
 after_resent h (Some sent) = refl
 
-pub retry_stands : (q : ReqSetup) (h : History) (f : Free) (d : Draw) (r : Result ℕ CommandFault) (out : List ℕ) (new : Asking) → IsCommanded q h (asks false q h Retry f d) r out new → StandsFor new q h
+pub retry_stands : (q : ReqSetup) (h : History) (f : Free) (d : Draw) (r : Result ℕ CommandFault) (out : List ℕ) (new : RequesterCore) → IsCommanded q h (asks false q h Retry f d) r out new → StandsFor new q h
 retry_stands q h f d (Ok tag) out new did = subst (StandsFor new q) (ap (after h) (retry_is q h f d) ∙ after_resent h (outstanding h)) did.stands
 retry_stands q h f d (Err why) out new did = did.1
 
-pub retry_out : (q : ReqSetup) (h : History) (f : Free) (d : Draw) (sent : Sent) (r : Result ℕ CommandFault) (out : List ℕ) (new : Asking) → outstanding h ≡ Some sent → IsCommanded q h (asks false q h Retry f d) r out new → out ≡ body_of sent.content
+pub retry_out : (q : ReqSetup) (h : History) (f : Free) (d : Draw) (sent : Sent) (r : Result ℕ CommandFault) (out : List ℕ) (new : RequesterCore) → outstanding h ≡ Some sent → IsCommanded q h (asks false q h Retry f d) r out new → out ≡ body_of sent.content
 retry_out q h f d sent (Ok tag) out new waits did =
     let it : did.sent ≡ sent = same_Some did.sent sent (sym did.sends ∙ ap sent_by (retry_is q h f d ∙ ap resent waits)) in
     did.body_is ∙ ap (λ (x : Sent). body_of x.content) it
@@ -81,7 +81,7 @@ fails_rests : (o : Option Sent) (why : CommandFault) → resent o ≡ Fails why 
 fails_rests None why is = refl
 fails_rests (Some x) why is = absurd (cc)
 
-pub retry_waits : (q : ReqSetup) (h : History) (f : Free) (d : Draw) (r : Result ℕ CommandFault) (out : List ℕ) (new : Asking) → IsCommanded q h (asks false q h Retry f d) r out new → is_ok r ≡ is_some (outstanding h)
+pub retry_waits : (q : ReqSetup) (h : History) (f : Free) (d : Draw) (r : Result ℕ CommandFault) (out : List ℕ) (new : RequesterCore) → IsCommanded q h (asks false q h Retry f d) r out new → is_ok r ≡ is_some (outstanding h)
 retry_waits q h f d (Ok tag) out new did = sent_waits (outstanding h) did.sent (ap sent_by (sym (retry_is q h f d)) ∙ did.sends)
 retry_waits q h f d (Err why) out new did = fails_rests (outstanding h) why (sym (retry_is q h f d) ∙ did.0)
 
@@ -158,19 +158,19 @@ goes_by q h bare sent (ForChunk asked handle number before) sizes holds up aims 
 goes_by q h bare sent (InSession id ask) sizes holds up aims took out =
     let s = out.0 in AsRecord id ask s.sealed s.inner s.pad aims took s.content_is
 
-pub goes : (q : ReqSetup) (bare : History) (sent : Sent) (seen : Asking) → HasSizes q → TookFor bare sent.aim → StandsFor seen q (with_next (Some sent) bare) → Goes bare sent
+pub goes : (q : ReqSetup) (bare : History) (sent : Sent) (seen : RequesterCore) → HasSizes q → TookFor bare sent.aim → StandsFor seen q (with_next (Some sent) bare) → Goes bare sent
 goes q bare sent seen sizes took stands =
     let h : History = with_next (Some sent) bare in
     let waits = out_owed bare sent took in
-    goes_by q h bare sent sent.aim sizes stands.talk.holds (subst (λ (o : Option Sent). IsUpToSent o (negotiation_of h)) waits stands.talk.shows.up_to) refl took
-    (subst (Waits q h) waits stands.talk.holds.waits)
+    goes_by q h bare sent sent.aim sizes stands.clear_state.holds (subst (λ (o : Option Sent). IsUpToSent o (negotiation_of h)) waits stands.clear_state.shows.up_to) refl took
+    (subst (Waits q h) waits stands.clear_state.holds.waits)
 
 -- ---- In the clear.
 
 clear_with : (psk : List ℕ) (s : Steps) (pad : List ℕ) (sent : Sent) (m : List ℕ) → sent.content ≡ Clear m → sent_with psk s pad sent ≡ sent
 clear_with psk s pad sent m is = ap (λ (c : Content). record sent { content = content_with psk s pad c }) is ∙ ap (λ (c : Content). record sent { content = c }) (sym is)
 
-module _ (q : ReqSetup) (bare : History) (sent : Sent) (body m : List ℕ) (new : Asking) (is : sent.content ≡ Clear m) (shows : is_first_chunk (clear_body m) ≡ begins_large sent.aim) (stands : StandsFor new q (with_next (Some sent) bare)) where
+module _ (q : ReqSetup) (bare : History) (sent : Sent) (body m : List ℕ) (new : RequesterCore) (is : sent.content ≡ Clear m) (shows : is_first_chunk (clear_body m) ≡ begins_large sent.aim) (stands : StandsFor new q (with_next (Some sent) bare)) where
   clear_is : (pad : List ℕ) → sent_with q.psk (session_of (session_asked sent.aim) bare) pad sent ≡ sent
   clear_is pad = clear_with q.psk (session_of (session_asked sent.aim) bare) pad sent m is
 
@@ -189,7 +189,7 @@ module _ (q : ReqSetup) (bare : History) (sent : Sent) (body m : List ℕ) (new 
   )
 
 -- By the body of the message, which is no record.
-pub clear_told : (q : ReqSetup) (bare : History) (sent : Sent) (body room : List ℕ) (new : Asking) → Goes bare sent → room ≡ body_of sent.content → slice_index room 0 ≢ 6 → StandsFor new q (with_next (Some sent) bare)
+pub clear_told : (q : ReqSetup) (bare : History) (sent : Sent) (body room : List ℕ) (new : RequesterCore) → Goes bare sent → room ≡ body_of sent.content → slice_index room 0 ≢ 6 → StandsFor new q (with_next (Some sent) bare)
     → ((b : Bool) → is_first_chunk room ≡ false → Decides b (room ≡ body) → IsSentOwed q bare sent body b new) × (is_first_chunk room ≡ true → IsSentOwed q bare sent body false new)
 clear_told q bare sent body room new (AsRecord id ask sealed inner pad aims last content) is other stands =
     absurd (other (ap (λ (l : List ℕ). slice_index l 0) is ∙ ap (λ (c : Content). slice_index (body_of c) 0) content))
@@ -206,7 +206,7 @@ module _ (q : ReqSetup) (bare : History) (sent : Sent) (id : ℕ) (ask : Ask) (t
   same_owed : (pad : List ℕ) → owed_with q bare id pad sent ≡ sent_with q.psk (session_of (session_asked sent.aim) bare) pad sent
   same_owed pad = ap (λ (n : ℕ). sent_with q.psk (session_of n bare) pad sent) (sym (ap session_asked aims))
 
-  pub record_sent : (body sealed : List ℕ) (old new : Asking) (b : Bool) → body ≡ record_body sealed → length body ≤ 4161 → StandsFor old q (with_next (Some sent) bare) → IsRepadded q bare id sent sealed new b → (b ≡ false → new ≡ old) → IsSentOwed q bare sent body b new
+  pub record_sent : (body sealed : List ℕ) (old new : RequesterCore) (b : Bool) → body ≡ record_body sealed → length body ≤ 4161 → StandsFor old q (with_next (Some sent) bare) → IsRepadded q bare id sent sealed new b → (b ≡ false → new ≡ old) → IsSentOwed q bare sent body b new
   record_sent body sealed old new true is short stands r same = (
     with_next (Some (sent_with q.psk (session_of (session_asked sent.aim) bare) r.0 sent)) bare,
     (r.0, r.1, ap begins_large aims, ap (λ (x : Sent). body_of x.content) (sym (same_owed r.0)) ∙ r.2 ∙ sym is, refl),
@@ -216,17 +216,17 @@ module _ (q : ReqSetup) (bare : History) (sent : Sent) (id : ℕ) (ask : Ask) (t
     λ after s.
         let e = ap length is in
         r (omega (arith, short, e)) s.0 s.1 (ap (λ (x : Sent). body_of x.content) (same_owed s.0) ∙ s.3 ∙ is),
-    subst (λ (x : Asking). StandsFor x q (with_next (Some sent) bare)) (sym (same refl)) stands,
+    subst (λ (x : RequesterCore). StandsFor x q (with_next (Some sent) bare)) (sym (same refl)) stands,
   )
 
-  sealed_out : (seen : Asking) → StandsFor seen q (with_next (Some sent) bare) → IsSealed q (with_next (Some sent) bare) id ask sent.content
+  sealed_out : (seen : RequesterCore) → StandsFor seen q (with_next (Some sent) bare) → IsSealed q (with_next (Some sent) bare) id ask sent.content
   sealed_out seen stands =
       let h : History = with_next (Some sent) bare in
       let waits = out_owed bare sent (subst (TookFor bare) (sym aims) took) in
-      (subst (IsOutstanding q h sent.content) aims (subst (Waits q h) waits stands.talk.holds.waits)).0
+      (subst (IsOutstanding q h sent.content) aims (subst (Waits q h) waits stands.clear_state.holds.waits)).0
 
   -- No other body is a record.
-  pub no_record : (body : List ℕ) (seen : Asking) → slice_index body 0 ≢ 6 → StandsFor seen q (with_next (Some sent) bare) → IsSentOwed q bare sent body false seen
+  pub no_record : (body : List ℕ) (seen : RequesterCore) → slice_index body 0 ≢ 6 → StandsFor seen q (with_next (Some sent) bare) → IsSentOwed q bare sent body false seen
   no_record body seen other stands = (
     λ after s.
         let content = (sealed_out seen stands).content_is in

@@ -30,7 +30,7 @@ use Rattle.spdm_machine.specs.Packets.{gathered_from}
 use Rattle.check_laws.proofs.KeptParts.{none_later, none_owed, owed_is}
 use Rattle.check_laws.proofs.OneWalk.{walks_alike}
 use Rattle.check_laws.specs.Keeping.{Kept, kept_of, restored}
-use Rattle.check_requester.specs.Asker.{Carries}
+use Rattle.check_requester.specs.JudgedRequester.{Carries}
 use Rattle.check_laws.specs.Order.{is_answer, is_request}
 use Rattle.check_laws.specs.Padding.{session_asked}
 use Rattle.requester_machine.specs.Owed.{sent_with}

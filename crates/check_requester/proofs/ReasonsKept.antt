@@ -6,7 +6,7 @@ use Rattle.requester_machine.specs.History.{History, outstanding}
 use Rattle.requester_machine.specs.Message.{Sent}
 use Rattle.requester_machine.specs.Named.{session_named}
 use Rattle.requester_machine.specs.Setup.{ReqSetup}
-use Rattle.check_requester.specs.Asker.{Carries}
+use Rattle.check_requester.specs.JudgedRequester.{Carries}
 use Rattle.check_laws.proofs.KeptParts.{none_later}
 use Rattle.check_requester.proofs.OwedSent.{out_owed}
 use Rattle.check_requester.proofs.OwedTook.{owed_took}

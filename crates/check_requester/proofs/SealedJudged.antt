@@ -6,7 +6,7 @@ use Rattle.std.proofs.lemmas.Option.{none-some, same_Some}
 use Rattle.requester_core.specs.Joined.{StandsFor, command_of}
 use Rattle.requester_core.specs.OwnRecords.{OpensAs, id_named}
 use Rattle.requester_core.specs.declared.command.Command as declared
-use Rattle.requester_core.specs.declared.joined.Asking.{Asking}
+use Rattle.requester_core.specs.declared.joined.RequesterCore.{RequesterCore}
 use Rattle.requester_machine.specs.History.{History, asks_session, outstanding}
 use Rattle.requester_machine.specs.May.{IsSetUp}
 use Rattle.requester_machine.specs.Message.{Command}
@@ -52,12 +52,12 @@ number_as session n m same is few = is (subst (λ (x : ℕ). x < 256) (sym same)
 
 -- ---- What the record tells.
 
-module _ (seen : Asking) (q : ReqSetup) (h : History) (sealed : List ℕ) (stands : StandsFor seen q h) (none : outstanding h ≡ None) (short : length sealed ≤ 4160) where
+module _ (seen : RequesterCore) (q : ReqSetup) (h : History) (sealed : List ℕ) (stands : StandsFor seen q h) (none : outstanding h ≡ None) (short : length sealed ≤ 4160) where
   finds : (c : Command) (next : History) → Tells q h c (record_body sealed) next → IsFound q h sealed
   finds c next t = found seen q h sealed stands none short (to_shown q h c sealed next t)
 
   -- It does not open.
-  pub shut : (out : List ℕ) (new : Asking) → OpensAs q.psk (session_named h sealed) sealed false out → IsSentByCommand q h (record_body sealed) false new
+  pub shut : (out : List ℕ) (new : RequesterCore) → OpensAs q.psk (session_named h sealed) sealed false out → IsSentByCommand q h (record_body sealed) false new
   shut out new shuts = λ c next t. false≢true (sym shuts ∙ (finds c next t).opens)
 
   -- It opens, and this is told of it.
@@ -71,10 +71,10 @@ module _ (seen : Asking) (q : ReqSetup) (h : History) (sealed : List ℕ) (stand
     its_command : (f : IsFound q h sealed) → command_told session out ≡ Some f.command
     its_command f = ap (λ (n : ℕ). command_told n out) (its_session f) ∙ ap (command_told f.id) opens.1 ∙ f.told
 
-    pub untold : (new : Asking) → TellsCommand None (command_told session out) → IsSentByCommand q h (record_body sealed) false new
+    pub untold : (new : RequesterCore) → TellsCommand None (command_told session out) → IsSentByCommand q h (record_body sealed) false new
     untold new tells = λ c next t. let f = finds c next t in none-some f.command (sym tells ∙ its_command f)
 
-    pub told : (command : declared.Command) (b : Bool) (new : Asking) → IsSetUp q → TellsCommand (Some command) (command_told session out) → IsSentBy q h (command_of command) (record_body sealed) b new → IsSentByCommand q h (record_body sealed) b new
+    pub told : (command : declared.Command) (b : Bool) (new : RequesterCore) → IsSetUp q → TellsCommand (Some command) (command_told session out) → IsSentBy q h (command_of command) (record_body sealed) b new → IsSentByCommand q h (record_body sealed) b new
     told command true new set_up tells sent = (command_of command, sent.0, sent.1, sent.2)
     told command false new set_up tells sent = λ c next t.
         let f = finds c next t in

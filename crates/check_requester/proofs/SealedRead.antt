@@ -6,7 +6,7 @@ use Rattle.std.proofs.lemmas.Option.{none-some, same_Some}
 use Rattle.std.proofs.lemmas.Slice.Eq.{bytes_eq-Decides}
 use Rattle.requester_core.specs.Joined.{StandsFor}
 use Rattle.requester_core.specs.OwnRecords.{id_named, opens_own}
-use Rattle.requester_core.specs.declared.joined.Asking.{Asking}
+use Rattle.requester_core.specs.declared.joined.RequesterCore.{RequesterCore}
 use Rattle.psk_session.specs.OwnRecords.{own_fault, own_inner}
 use Rattle.requester_machine.proofs.Entries.{test_is_false}
 use Rattle.requester_machine.specs.Commands.{Free, command_fault, is_nowhere, session_in}
@@ -77,7 +77,7 @@ rests_accepted [] live fits = absurd (false≢true live)
 rests_accepted (x ∷ s) live fits = fits.1
 
 -- A session that is asked something while nothing is outstanding took PSK_EXCHANGE_RSP.
-asked_accepted : (seen : Asking) (q : ReqSetup) (h : History) (id : ℕ) → StandsFor seen q h → outstanding h ≡ None → is_live (session_of id h) ≡ true → is_accepted (session_of id h) ≡ true
+asked_accepted : (seen : RequesterCore) (q : ReqSetup) (h : History) (id : ℕ) → StandsFor seen q h → outstanding h ≡ None → is_live (session_of id h) ≡ true → is_accepted (session_of id h) ≡ true
 asked_accepted seen q h id stands none live =
     rests_accepted (session_of id h) live (subst (λ (w : orders.Waits). FitsWaits w (session_of id h)) (ap (waits_for id) none) (stands.sessions.orders id).fits)
 
@@ -113,7 +113,7 @@ pub record IsFound (q : ReqSetup) (h : History) (sealed : List ℕ) : Type 0 whe
   pub told : command_told id (own_inner q.psk (session_named h sealed) sealed) ≡ Some command
   pub shown : (inner : List ℕ) × (pad : List ℕ) × (inner_for h command ≡ Some (id, inner)) × (length pad ≤ 16) × (command_fault false q h command (values_shown EndSession) ≡ None) × (sealed ≡ sealed_next q.psk (session_of id h) inner pad)
 
-pub found : (seen : Asking) (q : ReqSetup) (h : History) (sealed : List ℕ) → StandsFor seen q h → outstanding h ≡ None → length sealed ≤ 4160 → IsCommandedIn q h sealed → IsFound q h sealed
+pub found : (seen : RequesterCore) (q : ReqSetup) (h : History) (sealed : List ℕ) → StandsFor seen q h → outstanding h ≡ None → length sealed ≤ 4160 → IsCommandedIn q h sealed → IsFound q h sealed
 found seen q h sealed stands none short shown =
     let command = shown.0 in
     let id = shown.1 in

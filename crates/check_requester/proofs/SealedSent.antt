@@ -5,7 +5,7 @@ use Rattle.std.proofs.lemmas.Bool.{false≢true}
 use Rattle.std.proofs.lemmas.Option.{none-some}
 use Rattle.requester_core.specs.Joined.{IsCommanded, IsDone, StandsFor}
 use Rattle.requester_core.specs.Owed.{IsRetold, owed_with}
-use Rattle.requester_core.specs.declared.joined.Asking.{Asking}
+use Rattle.requester_core.specs.declared.joined.RequesterCore.{RequesterCore}
 use Rattle.requester_machine.proofs.Entries.{asked}
 use Rattle.requester_machine.specs.Asking.{Outcome, asks, asks_by, done}
 use Rattle.requester_machine.specs.Asking.Outcome.{Adds, Fails}
@@ -86,13 +86,13 @@ module _ (q : ReqSetup) (h : History) (c : Command) (its : asks_session c ≡ tr
   small_one pad = refl
 
   -- Where it fails at some values, it fails at all.
-  fails_sent : (f : Free) (why : CommandFault) (body : List ℕ) (new : Asking) → asks false q h c f no_draw ≡ Fails why → IsSentBy q h c body false new
+  fails_sent : (f : Free) (why : CommandFault) (body : List ℕ) (new : RequesterCore) → asks false q h c f no_draw ≡ Fails why → IsSentBy q h c body false new
   fails_sent f why body new fails = λ next t.
       let none = one.faults f t.1.0 ∙ (told_is body next t).0 in
       let e : Fails why ≡ Adds (Told c (with_pad f.pad) no_draw) = sym fails ∙ asks_it f none in cc
 
   -- What it sent is with another padding the record, or no such record.
-  sealed_sent : (f : Free) (sealed : List ℕ) (new : Asking) (b : Bool) → IsSetUp q → length sealed ≤ 4160 → command_fault false q h c f ≡ None → IsRetold q h c no_draw one.id (with_pad f.pad) sealed new b → IsSentBy q h c (record_body sealed) b new
+  sealed_sent : (f : Free) (sealed : List ℕ) (new : RequesterCore) (b : Bool) → IsSetUp q → length sealed ≤ 4160 → command_fault false q h c f ≡ None → IsRetold q h c no_draw one.id (with_pad f.pad) sealed new b → IsSentBy q h c (record_body sealed) b new
   sealed_sent f sealed new true set_up short none r =
       let pad : List ℕ = r.0 in
       let k : Free = values_with q h pad in
@@ -105,18 +105,18 @@ module _ (q : ReqSetup) (h : History) (c : Command) (its : asks_session c ≡ tr
       r short t.1.0.pad t.1.1.pad (ap (λ (x : Sent). body_of x.content) (padded_as t.1.0.pad f.pad ∙ (told_is (record_body sealed) next t).1) ∙ t.3)
 
   -- By what came of it.
-  done_right : (f : Free) (tag : ℕ) (out : List ℕ) (new : Asking) → IsDone q h (asks false q h c f no_draw) tag out new → command_fault false q h c f ≡ None
+  done_right : (f : Free) (tag : ℕ) (out : List ℕ) (new : RequesterCore) → IsDone q h (asks false q h c f no_draw) tag out new → command_fault false q h c f ≡ None
   done_right f tag out new did = right_of q h c f did.fault
 
-  done_stands : (f : Free) (tag : ℕ) (out : List ℕ) (new : Asking) → IsDone q h (asks false q h c f no_draw) tag out new → StandsFor new q (Told c (with_pad f.pad) no_draw ∷ h)
+  done_stands : (f : Free) (tag : ℕ) (out : List ℕ) (new : RequesterCore) → IsDone q h (asks false q h c f no_draw) tag out new → StandsFor new q (Told c (with_pad f.pad) no_draw ∷ h)
   done_stands f tag out new did = subst (λ (o : Outcome). StandsFor new q (after h o)) (asks_it f (done_right f tag out new did)) did.stands
 
   -- By its result, and by whether the record is taken after it.
-  pub err_sent : (f : Free) (r : Result ℕ CommandFault) (out body : List ℕ) (new last : Asking) → is_err r ≡ true → IsCommanded q h (asks false q h c f no_draw) r out new → IsSentBy q h c body false last
+  pub err_sent : (f : Free) (r : Result ℕ CommandFault) (out body : List ℕ) (new last : RequesterCore) → is_err r ≡ true → IsCommanded q h (asks false q h c f no_draw) r out new → IsSentBy q h c body false last
   err_sent f (Ok tag) out body new last is did = absurd (false≢true is)
   err_sent f (Err why) out body new last is did = fails_sent f why body last did.0
 
-  pub ok_sent : (f : Free) (r : Result ℕ CommandFault) (out sealed : List ℕ) (new last : Asking) (b : Bool) → is_err r ≡ false → IsSetUp q → length sealed ≤ 4160 → IsCommanded q h (asks false q h c f no_draw) r out new
+  pub ok_sent : (f : Free) (r : Result ℕ CommandFault) (out sealed : List ℕ) (new last : RequesterCore) (b : Bool) → is_err r ≡ false → IsSetUp q → length sealed ≤ 4160 → IsCommanded q h (asks false q h c f no_draw) r out new
       → ((sent : Sent) (id : ℕ) (ask : Ask) → sent.aim ≡ InSession id ask → StandsFor new q (Told c sent no_draw ∷ h) → IsRetold q h c no_draw id sent sealed last b) → IsSentBy q h c (record_body sealed) b last
   ok_sent f (Ok tag) out sealed new last b not set_up short did takes =
       sealed_sent f sealed last b set_up short (done_right f tag out new did) (takes (with_pad f.pad) one.id one.ask (aims_at f.pad) (done_stands f tag out new did))

@@ -5,7 +5,7 @@ use Rattle.std.specs.Bool.{Decides}
 use Rattle.std.proofs.lemmas.Bool.{false≢true}
 use Rattle.std.proofs.lemmas.Option.{same_Some}
 use Rattle.requester_core.specs.Joined.{IsCommanded, IsDone, StandsFor}
-use Rattle.requester_core.specs.declared.joined.Asking.{Asking}
+use Rattle.requester_core.specs.declared.joined.RequesterCore.{RequesterCore}
 use Rattle.requester_machine.specs.Asking.{Outcome, asks}
 use Rattle.requester_machine.specs.Asking.Outcome.{Adds, Fails}
 use Rattle.requester_machine.specs.Commands.{Free}
@@ -32,7 +32,7 @@ use Rattle.capture_machine.specs.Rounds.{no_draw}
 -- ---- Connect.
 
 -- It was done, and its body is compared.
-pub connected : (q : ReqSetup) (h : History) (f : Free) (tag : ℕ) (out body : List ℕ) (new : Asking) (b : Bool) → IsSetUp q → IsDone q h (asks false q h Connect f no_draw) tag out new → Decides b (out ≡ body) → IsSentBy q h Connect body b new
+pub connected : (q : ReqSetup) (h : History) (f : Free) (tag : ℕ) (out body : List ℕ) (new : RequesterCore) (b : Bool) → IsSetUp q → IsDone q h (asks false q h Connect f no_draw) tag out new → Decides b (out ≡ body) → IsSentBy q h Connect body b new
 connected q h f tag out body new b set_up did same = by_test b same
   where
     it : did.sent ≡ plain_sent h GetVersion
@@ -53,11 +53,11 @@ fails_not : (q : ReqSetup) (h : History) (f : Free) (why : CommandFault) → ask
 fails_not q h f why fails = let e : Fails why ≡ Adds (Told Connect (plain_sent h GetVersion) no_draw) = sym fails ∙ connects q h f in cc
 
 -- By its result.
-pub connect_ok : (q : ReqSetup) (h : History) (f : Free) (r : Result ℕ CommandFault) (out body : List ℕ) (new : Asking) (b : Bool) → IsSetUp q → IsCommanded q h (asks false q h Connect f no_draw) r out new → Decides b (out ≡ body) → IsSentBy q h Connect body b new
+pub connect_ok : (q : ReqSetup) (h : History) (f : Free) (r : Result ℕ CommandFault) (out body : List ℕ) (new : RequesterCore) (b : Bool) → IsSetUp q → IsCommanded q h (asks false q h Connect f no_draw) r out new → Decides b (out ≡ body) → IsSentBy q h Connect body b new
 connect_ok q h f (Ok tag) out body new b set_up did same = connected q h f tag out body new b set_up did same
 connect_ok q h f (Err why) out body new b set_up did same = absurd (fails_not q h f why did.0)
 
-pub connect_err : {A : Type 0} (q : ReqSetup) (h : History) (f : Free) (r : Result ℕ CommandFault) (out : List ℕ) (new : Asking) → is_err r ≡ true → IsCommanded q h (asks false q h Connect f no_draw) r out new → A
+pub connect_err : {A : Type 0} (q : ReqSetup) (h : History) (f : Free) (r : Result ℕ CommandFault) (out : List ℕ) (new : RequesterCore) → is_err r ≡ true → IsCommanded q h (asks false q h Connect f no_draw) r out new → A
 connect_err q h f (Ok tag) out new is did = absurd (false≢true is)
 connect_err q h f (Err why) out new is did = absurd (fails_not q h f why did.0)
 
@@ -67,7 +67,7 @@ kind_of_body : (c : Content) → slice_index (body_of c) 0 ≢ 5 → slice_index
 kind_of_body (Clear message) clear secured = clear refl
 kind_of_body (Sealed sealed inner pad) clear secured = secured refl
 
-pub other_kind : (q : ReqSetup) (h : History) (body : List ℕ) (new : Asking) → slice_index body 0 ≢ 5 → slice_index body 0 ≢ 6 → IsSentByCommand q h body false new
+pub other_kind : (q : ReqSetup) (h : History) (body : List ℕ) (new : RequesterCore) → slice_index body 0 ≢ 5 → slice_index body 0 ≢ 6 → IsSentByCommand q h body false new
 other_kind q h body new clear secured = λ c next t.
     kind_of_body t.0.content (λ is. clear (ap (λ (l : List ℕ). slice_index l 0) (sym t.3) ∙ is)) (λ is. secured (ap (λ (l : List ℕ). slice_index l 0) (sym t.3) ∙ is))
 

@@ -3,17 +3,17 @@ use Rattle.std.specs.Prelude.{◌≡◌, ◌==◌, ℕ, List, Bool, true, false,
 use Rattle.requester_machine.specs.History.{History, outstanding}
 use Rattle.requester_machine.specs.Setup.{ReqSetup}
 use Rattle.spdm_grammar.specs.declared.told.why.Why as declared
-use Rattle.check_requester.specs.Asker.{IsAsker, gone_on}
+use Rattle.check_requester.specs.JudgedRequester.{IsAsker, gone_on}
 use Rattle.check_laws.specs.Judged.{why_of}
 use Rattle.check_laws.specs.Keeping.{Kept, SendsKept, restored}
-use Rattle.check_requester.specs.declared.asker.Asker.{Asker}
+use Rattle.check_requester.specs.declared.judged_requester.JudgedRequester.{JudgedRequester}
 use Rattle.capture_machine.specs.Difference.{Why, asks_apart, request_why}
 use Rattle.capture_machine.specs.Difference.Why.{BadVerify}
 use Rattle.capture_machine.specs.Rounds.{Dialogue}
 use Rattle.spdm_grammar.specs.declared.names.message_type.TheConstants.{SECURED}
 
 -- Whether it begins a round whole: then what is kept is that of the history after it.
-abbrev pub IsAskedBy : ReqSetup → Kept → (body : List ℕ) → Bool → (new : Asker) → Type 0
+abbrev pub IsAskedBy : ReqSetup → Kept → (body : List ℕ) → Bool → (new : JudgedRequester) → Type 0
 IsAskedBy q k body true new = (after : History) × SendsKept k body after × IsAsker new q (gone_on k after)
 IsAskedBy q k body false new = (after : History) → SendsKept k body after → ⊥
 
@@ -29,6 +29,6 @@ pub record ComesPlain (k : Kept) (body : List ℕ) : Type 0 where
   pub none : outstanding k.requester ≡ None
 
 -- One or the other.
-abbrev pub IsJudged : ReqSetup → Kept → (body : List ℕ) → Result Unit declared.Why → (new : Asker) → Type 0
+abbrev pub IsJudged : ReqSetup → Kept → (body : List ℕ) → Result Unit declared.Why → (new : JudgedRequester) → Type 0
 IsJudged q k body (Ok u) new = IsAskedBy q k body true new
 IsJudged q k body (Err why) new = IsAskedBy q k body false new × IsRefusedFor (restored k) body (why_of why)

@@ -1,7 +1,7 @@
 -- What is kept after an answer that a requester hears. This project's own.
 use Rattle.std.specs.Prelude.{◌≡◌, ◌==◌, ℕ, List, Bool, true, false, Some, is_some, slice_index}
 use Rattle.requester_core.specs.Joined.{StandsFor}
-use Rattle.requester_core.specs.declared.joined.Asking.{Asking}
+use Rattle.requester_core.specs.declared.joined.RequesterCore.{RequesterCore}
 use Rattle.requester_machine.specs.Hearing.{hears}
 use Rattle.requester_machine.specs.History as requester_history
 use Rattle.requester_machine.specs.History.{outstanding}
@@ -28,7 +28,7 @@ heard_kept k behind tag round answer = kept_of (record (restored k) {
 
 -- A requester with this history heard a body under a tag, and whether a message is sent in response to it, which has
 -- this body.
-pub record IsHeardAs (q : ReqSetup) (h : requester_history.History) (tag : ℕ) (body : List ℕ) (sends : Bool) (new : Asking) (out : List ℕ) : Type 0 where
+pub record IsHeardAs (q : ReqSetup) (h : requester_history.History) (tag : ℕ) (body : List ℕ) (sends : Bool) (new : RequesterCore) (out : List ℕ) : Type 0 where
   pub stands : StandsFor new q (after h (hears q h false tag body no_values no_draw))
   pub told : is_some (event_of (hears q h false tag body no_values no_draw)) ≡ true
   pub sent : sends ≡ is_some (sent_by (hears q h false tag body no_values no_draw))

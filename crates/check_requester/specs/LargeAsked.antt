@@ -2,7 +2,7 @@
 -- own.
 use Rattle.std.specs.Prelude.{◌≡◌, ◌≤◌, ◌<◌, ◌+◌, ◌==◌, ◌&&◌, ◌||◌, nat_le, drop, if◌then◌else◌, ℕ, List, ◌∷◌, length, take, Bool, true, false, Option, Some, None}
 use Rattle.requester_core.specs.Joined.{StandsFor}
-use Rattle.requester_core.specs.declared.joined.Asking.{Asking}
+use Rattle.requester_core.specs.declared.joined.RequesterCore.{RequesterCore}
 use Rattle.chunking.specs.Cutting.{chunk_end, nth_chunk}
 use Rattle.requester_machine.specs.Asking.{asks}
 use Rattle.requester_machine.specs.Asking.Outcome.{Adds}
@@ -26,9 +26,9 @@ use Rattle.spdm_grammar.specs.declared.names.TheConstants.{MAX_MESSAGE_SIZE, MAX
 use Rattle.spdm_machine.specs.Bodies.{clear_body}
 use Rattle.spdm_machine.specs.Packets.{body_type}
 use Rattle.spdm_machine.specs.Terms.{hash_len}
-use Rattle.check_requester.specs.Asker.{IsAsker}
+use Rattle.check_requester.specs.JudgedRequester.{IsAsker}
 use Rattle.check_requester.specs.Commanded.{values_in}
-use Rattle.check_requester.specs.declared.asker.Asker.{Asker}
+use Rattle.check_requester.specs.declared.judged_requester.JudgedRequester.{JudgedRequester}
 use Rattle.check_laws.specs.Keeping.{Kept}
 use Rattle.check_laws.specs.Large.LargeRequests as large_requests
 use Rattle.check_laws.specs.Large.Sending.{Ack, Beginning, MayBegin, MaySend, MayStand, Sending, asked_of, behind, number_in, requester_of}
@@ -81,7 +81,7 @@ abbrev pub cut_body : History → (handle : ℕ) → (whole : List ℕ) → (num
 cut_body h handle whole number = clear_body (canonical_request (ChunkSend (nth_chunk (common_of h).to_responder.transfer handle whole number)))
 
 -- The first chunk of this request is outstanding, and in `room`.
-pub record IsFirstOut (asking : Asking) (room : List ℕ) (q : ReqSetup) (h : History) (asked : RequestMessage) (handle : ℕ) : Type 0 where
+pub record IsFirstOut (asking : RequesterCore) (room : List ℕ) (q : ReqSetup) (h : History) (asked : RequestMessage) (handle : ℕ) : Type 0 where
   pub sizes : HasSizes q
   pub wide : 12 < (common_of h).to_responder.transfer
   pub short : length (canonical_request asked) ≤ MAX_MESSAGE_SIZE
@@ -99,7 +99,7 @@ IsHeldTo h request whole number at =
 
 -- The request is these bytes, and after as many acknowledgements, whatever they were, the requester has this history;
 -- or the request is none of these bytes.
-abbrev pub IsCarried : ReqSetup → History → RequestMessage → (handle : ℕ) → (whole : List ℕ) → (count : ℕ) → Bool → (new : Asking) → Type 0
+abbrev pub IsCarried : ReqSetup → History → RequestMessage → (handle : ℕ) → (whole : List ℕ) → (count : ℕ) → Bool → (new : RequesterCore) → Type 0
 IsCarried q h asked handle whole count true new =
     (whole ≡ canonical_request asked) × ((acks : List Ack) → number_in acks ≡ count → StandsFor new q (behind asked whole handle acks h))
 IsCarried q h asked handle whole count false new = whole ≡ canonical_request asked → ⊥
@@ -107,7 +107,7 @@ IsCarried q h asked handle whole count false new = whole ≡ canonical_request a
 -- ---- The end.
 
 -- Open sends in chunks at the values in these fields, which are allowed: its first chunk is outstanding, and in `room`.
-abbrev pub IsOpenedLarge : ReqSetup → History → ExchangeMessage → Bool → (new : Asking) → (room : List ℕ) → Type 0
+abbrev pub IsOpenedLarge : ReqSetup → History → ExchangeMessage → Bool → (new : RequesterCore) → (room : List ℕ) → Type 0
 IsOpenedLarge q h exchange true new room =
     let asked = exchange_for q (values_in exchange) exchange.summary in
     let sent = piece_sent (common_of h) h asked (next_handle h) 0 in
@@ -131,7 +131,7 @@ exchange_shown None = None
 exchange_shown (Some asked) = exchange_of asked
 
 -- The large request ends with these bytes, and the requester then has such a history.
-abbrev pub IsEnded : ReqSetup → Sending → (whole : List ℕ) → Bool → (new : Asker) → Type 0
+abbrev pub IsEnded : ReqSetup → Sending → (whole : List ℕ) → Bool → (new : JudgedRequester) → Type 0
 IsEnded q s whole true new =
     (b : Beginning) × MayBegin s.before b
     × (whole ≡ canonical_request (asked_of b))
@@ -141,7 +141,7 @@ IsEnded q s whole false new =
     (b : Beginning) → MayBegin s.before b → whole ≡ canonical_request (asked_of b) → MaySend s.before b whole → ⊥
 
 -- GET_VERSION ends it, and the requester then has such a history.
-pub record IsConnectedOver (q : ReqSetup) (s : Sending) (new : Asker) : Type 0 where
+pub record IsConnectedOver (q : ReqSetup) (s : Sending) (new : JudgedRequester) : Type 0 where
   pub beginning : Beginning
   pub whole : List ℕ
   pub after : History

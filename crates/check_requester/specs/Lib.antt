@@ -1,5 +1,5 @@
 pub mod Asked
-pub mod Asker
+pub mod JudgedRequester
 pub mod Commanded
 pub mod HeardKept
 pub mod LargeAsked

@@ -2,7 +2,7 @@
 use Rattle.std.specs.Prelude.{◌≡◌, ◌==◌, ℕ, List, drop, if◌then◌else◌, Bool, true, false, Option, Some, None, slice_index}
 use Rattle.requester_core.specs.Joined.{StandsFor, command_of}
 use Rattle.requester_core.specs.declared.command.Command as declared
-use Rattle.requester_core.specs.declared.joined.Asking.{Asking}
+use Rattle.requester_core.specs.declared.joined.RequesterCore.{RequesterCore}
 use Rattle.requester_machine.specs.History.{History}
 use Rattle.requester_machine.specs.Message.{Command}
 use Rattle.requester_machine.specs.Message.Command.{Beat, End, Measure, Send, Update}
@@ -12,7 +12,7 @@ use Rattle.capture_machine.specs.CapturedRequests.{Tells}
 use Rattle.spdm_grammar.specs.declared.names.message_type.TheConstants.{SPDM}
 
 -- Whether this command sends a body: then what is kept is that of the history after it.
-abbrev pub IsSentBy : ReqSetup → History → Command → (body : List ℕ) → Bool → (new : Asking) → Type 0
+abbrev pub IsSentBy : ReqSetup → History → Command → (body : List ℕ) → Bool → (new : RequesterCore) → Type 0
 IsSentBy q h command body true new = (after : History) × Tells q h command body after × StandsFor new q after
 IsSentBy q h command body false new = (after : History) → Tells q h command body after → ⊥
 

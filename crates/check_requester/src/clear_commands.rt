@@ -8,13 +8,13 @@ ghost use Rattle.requester_machine.specs.May.{IsAllowed};
 ghost use Rattle.requester_machine.specs.Setup.{ReqSetup};
 ghost use Rattle.spdm_grammar.specs.Message.{exchange_message, request_message};
 ghost use Rattle.spdm_machine.specs.Bodies.{clear_body};
-ghost use Rattle.check_requester.specs.Asker.{IsKeptSetup};
+ghost use Rattle.check_requester.specs.JudgedRequester.{IsKeptSetup};
 ghost use Rattle.check_requester.specs.Commanded.{IsOpenedAs, IsSentByCommand, IsSentFor, IsToldAs, IsToldSome, is_in_clear, values_in};
 ghost use Rattle.spdm_grammar.specs.declared.names.TheConstants.{MAX_MESSAGE_SIZE, MAX_SESSIONS};
 
-use crate::asker_setup::AskerSetup;
+use crate::judged_setup::JudgedSetup;
 use crate::owed_messages::{LONG_CONTEXT, is_first_chunk};
-use requester_core::{Asking, Body, Command, FreeValues};
+use requester_core::{Body, Command, FreeValues, RequesterCore};
 use spdm_codec::read_request;
 use spdm_grammar::names::message_type::SPDM;
 use spdm_grammar::names::{
@@ -37,8 +37,8 @@ fn is_clear_of(body: &[u8], message: &[u8]) -> bool
 
 // Whether a command sends this message in the clear at these values, whole.
 fn tells(
-    asking: &mut Asking,
-    setup: &AskerSetup,
+    asking: &mut RequesterCore,
+    setup: &JudgedSetup,
     room: &mut Body,
     command: Command<'_>,
     free: &FreeValues<'_>,
@@ -62,8 +62,8 @@ fn tells(
 
 // The same of a command on whose message no value has any bearing.
 fn tells_plainly(
-    asking: &mut Asking,
-    setup: &AskerSetup,
+    asking: &mut RequesterCore,
+    setup: &JudgedSetup,
     room: &mut Body,
     command: Command<'_>,
     message: &[u8],
@@ -81,7 +81,7 @@ fn tells_plainly(
 }
 
 // Whether PSK_EXCHANGE with this context and opaque data, and with the own hint, is short enough.
-fn is_short(setup: &AskerSetup, exchange: &Exchange<'_>) -> bool
+fn is_short(setup: &JudgedSetup, exchange: &Exchange<'_>) -> bool
     ensures { Decides result (12 + length setup.now.hint + length exchange.now.context.now + length
         exchange.now.opaque.now ≤ MAX_MESSAGE_SIZE) }
 {
@@ -93,7 +93,7 @@ fn is_short(setup: &AskerSetup, exchange: &Exchange<'_>) -> bool
 }
 
 // Whether the values in the fields of PSK_EXCHANGE are allowed, where one session more has room.
-pub(crate) fn may_open(asking: &Asking, setup: &AskerSetup, exchange: &Exchange<'_>) -> bool
+pub(crate) fn may_open(asking: &RequesterCore, setup: &JudgedSetup, exchange: &Exchange<'_>) -> bool
     ensures least { result ≡ true → 1 ≤ exchange.now.req_id }
     ensures most { result ≡ true → exchange.now.req_id ≤ 4 }
     ensures allowed { (q : ReqSetup) (h : History) → IsKeptSetup setup.now q
@@ -121,8 +121,8 @@ pub(crate) fn may_open(asking: &Asking, setup: &AskerSetup, exchange: &Exchange<
 
 // Whether Open sends this PSK_EXCHANGE at the values in its fields.
 fn opens(
-    asking: &mut Asking,
-    setup: &AskerSetup,
+    asking: &mut RequesterCore,
+    setup: &JudgedSetup,
     room: &mut Body,
     exchange: &Exchange<'_>,
     message: &[u8],
@@ -147,8 +147,8 @@ fn opens(
 
 // Whether the command that asks this request sends it by this message in the clear, whole.
 fn sends_request(
-    asking: &mut Asking,
-    setup: &AskerSetup,
+    asking: &mut RequesterCore,
+    setup: &JudgedSetup,
     room: &mut Body,
     request: &Request<'_>,
     message: &[u8],
@@ -180,8 +180,8 @@ fn sends_request(
 
 // Whether some command sends this message in the clear, where nothing is outstanding.
 pub(crate) fn sends_clear(
-    asking: &mut Asking,
-    setup: &AskerSetup,
+    asking: &mut RequesterCore,
+    setup: &JudgedSetup,
     room: &mut Body,
     message: &[u8],
 ) -> bool

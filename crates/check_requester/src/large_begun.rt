@@ -2,14 +2,14 @@ ghost use Rattle.std.specs.Prelude.{◌≡◌, ◌<◌, ◌-◌, ◌^◌, true, 
 ghost use Rattle.requester_core.specs.Joined.{StandsFor};
 ghost use Rattle.requester_machine.specs.History.{History};
 ghost use Rattle.requester_machine.specs.Setup.{ReqSetup};
-ghost use Rattle.check_requester.specs.Asker.{IsKeptSetup};
+ghost use Rattle.check_requester.specs.JudgedRequester.{IsKeptSetup};
 ghost use Rattle.check_requester.specs.LargeAsked.{HasRoom, is_least_short, is_refused_late};
 
-use crate::Asker;
-use crate::asker_setup::AskerSetup;
+use crate::JudgedRequester;
+use crate::judged_setup::JudgedSetup;
 use crate::owed_messages::{LONG_CONTEXT, is_first_chunk, write_outstanding};
 use check_laws::{LargeRequest, is_secured};
-use requester_core::{Asking, Body, Command, FreeValues};
+use requester_core::{Body, Command, FreeValues, RequesterCore};
 use spdm_grammar::CommandFault;
 use spdm_grammar::names::{MAX_MESSAGE_SIZE, PSK_EXCHANGE_FIELDS_LEN};
 
@@ -31,7 +31,7 @@ fn is_refused_late(fault: CommandFault) -> bool
 
 // Whether Open has all that it needs, but for its kind of summary and its length: it is told with a kind that there is
 // none of, and is refused for that.
-fn has_room(asking: &mut Asking, setup: &AskerSetup, room: &mut Body) -> bool
+fn has_room(asking: &mut RequesterCore, setup: &JudgedSetup, room: &mut Body) -> bool
     ensures room { (q : ReqSetup) (h : History) → IsKeptSetup setup.now q → length h < 2 ^ 64 - 1
         → StandsFor asking.old q h → result ≡ true → HasRoom h }
     ensures none { (q : ReqSetup) (h : History) → IsKeptSetup setup.now q → length h < 2 ^ 64 - 1
@@ -54,7 +54,7 @@ fn has_room(asking: &mut Asking, setup: &AskerSetup, room: &mut Body) -> bool
 }
 
 // Whether the shortest PSK_EXCHANGE is no longer than the responder takes.
-fn is_least_short(asking: &Asking, setup: &AskerSetup) -> bool
+fn is_least_short(asking: &RequesterCore, setup: &JudgedSetup) -> bool
     ensures { (q : ReqSetup) (h : History) → IsKeptSetup setup.now q → StandsFor asking.now q h
         → result ≡ is_least_short q h }
 {
@@ -65,12 +65,12 @@ fn is_least_short(asking: &Asking, setup: &AskerSetup) -> bool
 }
 
 // Where a large request begins.
-impl Asker {
+impl JudgedRequester {
     ghost use Rattle.std.specs.Prelude.{◌≡◌, ◌<◌, ◌-◌, ◌^◌, ℕ, List, Some, None, length};
     ghost use Rattle.requester_core.specs.Joined.{StandsFor};
     ghost use Rattle.requester_machine.specs.History.{connection_terms, next_handle};
     ghost use Rattle.requester_machine.specs.Setup.{ReqSetup};
-    ghost use Rattle.check_requester.specs.Asker.{IsAsker};
+    ghost use Rattle.check_requester.specs.JudgedRequester.{IsAsker};
     ghost use Rattle.check_requester.specs.LargeAsked.{IsBegun};
     ghost use Rattle.check_laws.specs.Keeping.{Keeps, Kept, owing};
     ghost use Rattle.check_laws.specs.Large.LargeRequests.{IsBegunBy};

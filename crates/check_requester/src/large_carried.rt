@@ -10,7 +10,7 @@ ghost use Rattle.check_laws.specs.Large.Pieces.{size_in};
 ghost use Rattle.capture_machine.specs.LargeRequests.{common_of};
 
 use check_laws::{byte_at, bytes_from};
-use requester_core::{Asking, Body};
+use requester_core::{Body, RequesterCore};
 
 // Where the bytes of a chunk stand in the body of CHUNK_SEND: after the length in the first one.
 const FIRST_BYTES: usize = 17;
@@ -34,7 +34,7 @@ fn stand_at(whole: &[u8], at: usize, bytes: &[u8]) -> bool
 // Goes on to so many further chunks of the large request whose first chunk is outstanding: whether their bytes are
 // those of `whole` from a place on.
 fn carries_rest(
-    asking: &mut Asking,
+    asking: &mut RequesterCore,
     room: &mut Body,
     whole: &[u8],
     first: usize,
@@ -63,7 +63,7 @@ fn carries_rest(
 
 /// Goes on to each chunk, so many after the first one, of the large request whose first chunk is outstanding, and in
 /// `room`: whether the request has these bytes.
-pub(crate) fn carries(asking: &mut Asking, room: &mut Body, whole: &[u8], count: u32) -> bool
+pub(crate) fn carries(asking: &mut RequesterCore, room: &mut Body, whole: &[u8], count: u32) -> bool
     ensures { (q : ReqSetup) (h : History) (asked : RequestMessage) (handle : ℕ)
         → IsFirstOut asking.old room.old q h asked handle
         → count + 1 ≡ chunk_count (common_of h).to_responder.transfer whole.now

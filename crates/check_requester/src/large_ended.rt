@@ -4,15 +4,15 @@ ghost use Rattle.requester_machine.specs.History.{History, outstanding};
 ghost use Rattle.requester_machine.specs.Setup.{ReqSetup};
 ghost use Rattle.spdm_grammar.specs.Message.{exchange_message, request_message};
 ghost use Rattle.spdm_grammar.specs.Requests.{request_in};
-ghost use Rattle.check_requester.specs.Asker.{IsKeptSetup};
+ghost use Rattle.check_requester.specs.JudgedRequester.{IsKeptSetup};
 ghost use Rattle.check_requester.specs.LargeAsked.{IsOpenedLarge, exchange_of, exchange_shown};
 
-use crate::Asker;
-use crate::asker_setup::AskerSetup;
+use crate::JudgedRequester;
 use crate::clear_commands::may_open;
+use crate::judged_setup::JudgedSetup;
 use crate::large_carried::carries;
 use crate::owed_messages::{is_first_chunk, write_outstanding};
-use requester_core::{Asking, Body, Command, FreeValues};
+use requester_core::{Body, Command, FreeValues, RequesterCore};
 use spdm_codec::read_request;
 use spdm_grammar::{Exchange, Request};
 
@@ -50,8 +50,8 @@ fn exchange_in(message: &[u8]) -> Option<Exchange<'_>>
 // Whether Open sends a PSK_EXCHANGE in chunks at the values in the fields of this one: its first chunk overwrites
 // `room`.
 fn opens_large(
-    asking: &mut Asking,
-    setup: &AskerSetup,
+    asking: &mut RequesterCore,
+    setup: &JudgedSetup,
     room: &mut Body,
     exchange: &Exchange<'_>,
 ) -> bool
@@ -80,10 +80,10 @@ fn opens_large(
 }
 
 // The end of a large request.
-impl Asker {
+impl JudgedRequester {
     ghost use Rattle.std.specs.Prelude.{◌≡◌, ◌<◌, ◌-◌, ◌^◌, ◌+◌, ℕ, List, length, is_some, true, false};
     ghost use Rattle.requester_machine.specs.Setup.{ReqSetup};
-    ghost use Rattle.check_requester.specs.Asker.{IsAsker};
+    ghost use Rattle.check_requester.specs.JudgedRequester.{IsAsker};
     ghost use Rattle.check_requester.specs.LargeAsked.{IsConnectedOver, IsEnded};
     ghost use Rattle.check_laws.specs.Keeping.{Keeps};
     ghost use Rattle.check_laws.specs.Large.Sending.{IsSendingOf, MayStand, Sending, is_last, number_of};

@@ -1,13 +1,13 @@
 //! What the requester of a capture may have sent, judged by the requester's own code.
 //!
-//! Read first: `IsAsker` in `specs/Asker.antt`, what is kept of a requester. The calls to begin with are
-//! `Asker::judge`, for a request, and `Asker::hears`, for an answer that it heard.
+//! Read first: `IsAsker` in `specs/JudgedRequester.antt`, what is kept of a requester. The calls to begin with are
+//! `JudgedRequester::judge`, for a request, and `JudgedRequester::hears`, for an answer that it heard.
 #![tactic(auto)]
 
-mod asker;
-mod asker_hears;
-mod asker_setup;
+mod answer_effect;
 mod clear_commands;
+mod judged_requester;
+mod judged_setup;
 mod large_begun;
 mod large_carried;
 mod large_ended;
@@ -17,6 +17,6 @@ mod requests;
 mod sealed_commands;
 mod sending;
 
-pub use asker::Asker;
-pub use asker_hears::Heard;
+pub use answer_effect::AnswerEffect;
+pub use judged_requester::JudgedRequester;
 pub use owed_messages::is_first_chunk;

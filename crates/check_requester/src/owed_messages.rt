@@ -6,14 +6,14 @@ ghost use Rattle.requester_machine.specs.Message as message;
 ghost use Rattle.requester_machine.specs.Message.{Sent, body_of};
 ghost use Rattle.requester_machine.specs.Message.Aim.{InSession};
 ghost use Rattle.requester_machine.specs.Setup.{ReqSetup};
-ghost use Rattle.check_requester.specs.Asker.{IsKeptSetup, IsSentOwed, is_first_chunk};
+ghost use Rattle.check_requester.specs.JudgedRequester.{IsKeptSetup, IsSentOwed, is_first_chunk};
 ghost use Rattle.requester_machine.specs.Owed.{with_next};
 ghost use Rattle.spdm_grammar.specs.declared.names.TheConstants.{MAX_BODY_SIZE};
 
-use crate::asker_setup::AskerSetup;
+use crate::judged_setup::JudgedSetup;
 use check_laws::byte_at;
 use psk_session::InnerPair;
-use requester_core::{Asking, Body, Command, FreeValues};
+use requester_core::{Body, Command, FreeValues, RequesterCore};
 use spdm_grammar::names::message_type::SECURED;
 use spdm_grammar::names::request_code::CHUNK_SEND;
 
@@ -28,7 +28,11 @@ pub fn is_first_chunk(body: &[u8]) -> bool
 }
 
 // Whether a message is outstanding, whose body overwrites `room`. Which values are free does not matter.
-pub(crate) fn write_outstanding(asking: &mut Asking, setup: &AskerSetup, room: &mut Body) -> bool
+pub(crate) fn write_outstanding(
+    asking: &mut RequesterCore,
+    setup: &JudgedSetup,
+    room: &mut Body,
+) -> bool
     ensures waits { (q : ReqSetup) (h : History) → IsKeptSetup setup.now q
         → length h < 2 ^ 64 - 1 → StandsFor asking.old q h → result ≡ is_some (outstanding h) }
     ensures stands { (q : ReqSetup) (h : History) → IsKeptSetup setup.now q
@@ -49,7 +53,7 @@ pub(crate) fn write_outstanding(asking: &mut Asking, setup: &AskerSetup, room: &
 }
 
 // Takes a body as the record that is owed.
-fn take_record(asking: &mut Asking, pair: &mut InnerPair, body: &[u8]) -> bool
+fn take_record(asking: &mut RequesterCore, pair: &mut InnerPair, body: &[u8]) -> bool
     ensures { (q : ReqSetup) (bare : History) (sent : Sent) (id : ℕ) (ask : message.Ask)
         → TookLast bare id → sent.aim ≡ InSession id ask → length body.now ≤ MAX_BODY_SIZE
         → StandsFor asking.old q (with_next (Some sent) bare)
@@ -64,8 +68,8 @@ fn take_record(asking: &mut Asking, pair: &mut InnerPair, body: &[u8]) -> bool
 // Takes a body of at most 4,161 bytes as the message that is owed: whether it is that, with some padding where it is a
 // record.
 pub(crate) fn sends_owed(
-    asking: &mut Asking,
-    setup: &AskerSetup,
+    asking: &mut RequesterCore,
+    setup: &JudgedSetup,
     room: &mut Body,
     pair: &mut InnerPair,
     body: &[u8],

@@ -17,7 +17,7 @@ ghost use Rattle.capture_machine.specs.Opening.{opens_asking};
 ghost use Rattle.spdm_grammar.specs.declared.names.TheConstants.{MAX_RECORDS};
 ghost use Rattle.secured_record.specs.declared.TheConstants.{MAX_RECORD_SIZE};
 
-use requester_core::Asking;
+use requester_core::RequesterCore;
 use session_keys::same_bytes;
 use spdm_basis::RecordFrame;
 use spdm_grammar::names::MAX_RECORDS;
@@ -27,7 +27,7 @@ use spdm_grammar::{SessionView, Stage};
 const MOST_AROUND: usize = 42;
 
 // The session that a record names, as it is shown.
-fn named_view(asking: &Asking, sealed: &[u8]) -> Option<SessionView>
+fn named_view(asking: &RequesterCore, sealed: &[u8]) -> Option<SessionView>
     ensures { (q : ReqSetup) (h : History) → length h < 2 ^ 64 - 1 → StandsFor asking.now q h
         → result ≡ shown_of (session_named h sealed.now) }
 {
@@ -45,8 +45,8 @@ fn has_number(next: u32) -> bool
 }
 
 // Whether a record opens as the next one of the session that it names, whose key has a number left.
-// Where it does, its inner message is in place of what `inner` held.
-pub(crate) fn opens_next(asking: &Asking, inner: &mut RecordFrame, sealed: &[u8]) -> bool
+// Where it does, its inner message overwrites `inner`.
+pub(crate) fn opens_next(asking: &RequesterCore, inner: &mut RecordFrame, sealed: &[u8]) -> bool
     ensures told { (q : ReqSetup) (h : History) → length h < 2 ^ 64 - 1
         → StandsFor asking.now q h
         → result ≡ opens_asking q (session_named h sealed.now) sealed.now }
@@ -64,7 +64,7 @@ pub(crate) fn opens_next(asking: &Asking, inner: &mut RecordFrame, sealed: &[u8]
 }
 
 // The same without the outstanding message, where that was sent by itself in response to the last message.
-pub(crate) fn opens_before(asking: &Asking, inner: &mut RecordFrame, sealed: &[u8]) -> bool
+pub(crate) fn opens_before(asking: &RequesterCore, inner: &mut RecordFrame, sealed: &[u8]) -> bool
     ensures { (q : ReqSetup) (bare : History) (sent : Sent) → TookFor bare sent.aim
         → length bare < 2 ^ 64 - 1 → StandsFor asking.now q (with_next (Some sent) bare)
         → result ≡ opens_asking q (session_named bare sealed.now) sealed.now }
@@ -111,7 +111,7 @@ fn is_handshake(stage: Stage) -> bool
 }
 
 // The session whose PSK_FINISH is outstanding, as it is shown.
-fn finish_view(asking: &Asking) -> Option<SessionView>
+fn finish_view(asking: &RequesterCore) -> Option<SessionView>
     ensures { (q : ReqSetup) (bare : History) (sent : Sent) → TookFor bare sent.aim
         → length bare < 2 ^ 64 - 1 → StandsFor asking.now q (with_next (Some sent) bare)
         → IsFinishShown (with_next (Some sent) bare) (finish_in (Some sent)) result }
@@ -130,9 +130,9 @@ fn finish_view(asking: &Asking) -> Option<SessionView>
 }
 
 // Whether a record is apart from the PSK_FINISH that is outstanding in this record, where that was sent by itself in
-// response to the last message. The inner messages of both are opened in place of what `own` and `inner` hold.
+// response to the last message. The inner messages of both overwrite `own` and `inner`.
 pub(crate) fn is_finish_apart(
-    asking: &Asking,
+    asking: &RequesterCore,
     record: &[u8],
     own: &mut RecordFrame,
     inner: &mut RecordFrame,

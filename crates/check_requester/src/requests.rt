@@ -1,7 +1,7 @@
 ghost use Rattle.spdm_grammar.specs.declared.names.TheConstants.{MAX_BODY_SIZE};
 ghost use Rattle.secured_record.specs.declared.TheConstants.{MAX_RECORD_SIZE};
 
-use crate::Asker;
+use crate::JudgedRequester;
 use crate::owed_messages::write_outstanding;
 use crate::request_reasons::{is_finish_apart, opens_before, opens_next};
 use crate::sealed_commands::sends_opened;
@@ -10,14 +10,14 @@ use check_laws::{is_clear, is_secured, rest_of};
 use spdm_grammar::Why;
 
 // The requests by which a round begins.
-impl Asker {
+impl JudgedRequester {
     ghost use Rattle.std.specs.Prelude.{◌≡◌, ◌≤◌, ◌<◌, ◌-◌, ◌^◌, ℕ, List, None, length, true};
     ghost use Rattle.requester_machine.specs.History.{outstanding};
     ghost use Rattle.requester_machine.specs.Named.{session_named};
     ghost use Rattle.requester_machine.specs.Setup.{ReqSetup};
     ghost use Rattle.spdm_machine.specs.Bodies.{record_body};
     ghost use Rattle.check_requester.specs.Asked.{ComesPlain, IsAskedBy, IsJudged, IsRefusedFor};
-    ghost use Rattle.check_requester.specs.Asker.{Carries, IsAsker};
+    ghost use Rattle.check_requester.specs.JudgedRequester.{Carries, IsAsker};
     ghost use Rattle.check_requester.specs.LargeAsked.{refused_why};
     ghost use Rattle.check_laws.specs.Judged.{why_of};
     ghost use Rattle.check_laws.specs.Keeping.{Kept, restored};

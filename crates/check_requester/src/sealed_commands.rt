@@ -5,16 +5,16 @@ ghost use Rattle.requester_machine.specs.History.{History, asks_session, outstan
 ghost use Rattle.requester_machine.specs.Named.{session_named};
 ghost use Rattle.requester_machine.specs.Setup.{ReqSetup};
 ghost use Rattle.spdm_machine.specs.Bodies.{record_body};
-ghost use Rattle.check_requester.specs.Asker.{IsKeptSetup};
+ghost use Rattle.check_requester.specs.JudgedRequester.{IsKeptSetup};
 ghost use Rattle.check_requester.specs.Commanded.{IsSentByCommand};
 ghost use Rattle.check_requester.specs.SealedTold.{IsSentBy, TellsCommand, command_told, request_told};
 ghost use Rattle.secured_record.specs.declared.TheConstants.{MAX_RECORD_SIZE};
 
-use crate::asker_setup::AskerSetup;
+use crate::judged_setup::JudgedSetup;
 use crate::owed_messages::LONG_CONTEXT;
 use check_laws::{byte_at, rest_of};
 use psk_session::InnerPair;
-use requester_core::{Asking, Body, Command, FreeValues};
+use requester_core::{Body, Command, FreeValues, RequesterCore};
 use spdm_basis::RecordFrame;
 use spdm_grammar::names::message_type::SPDM;
 use spdm_grammar::names::request_code::{END_SESSION, GET_MEASUREMENTS, HEARTBEAT, KEY_UPDATE};
@@ -74,8 +74,8 @@ fn command_in(session: u8, inner: &[u8]) -> Option<Command<'_>>
 
 // Whether a command of a session sends this record, with some padding of at most 16 bytes.
 fn seals(
-    asking: &mut Asking,
-    setup: &AskerSetup,
+    asking: &mut RequesterCore,
+    setup: &JudgedSetup,
     room: &mut Body,
     pair: &mut InnerPair,
     command: Command<'_>,
@@ -102,8 +102,8 @@ fn seals(
 
 // Whether some command sends this record, where nothing is outstanding: it opened to this inner message.
 pub(crate) fn sends_opened(
-    asking: &mut Asking,
-    setup: &AskerSetup,
+    asking: &mut RequesterCore,
+    setup: &JudgedSetup,
     room: &mut Body,
     inner: &RecordFrame,
     pair: &mut InnerPair,
@@ -124,8 +124,8 @@ pub(crate) fn sends_opened(
 
 // Whether some command sends this record, where nothing is outstanding: the inner message is opened into `inner`.
 pub(crate) fn sends_sealed(
-    asking: &mut Asking,
-    setup: &AskerSetup,
+    asking: &mut RequesterCore,
+    setup: &JudgedSetup,
     room: &mut Body,
     inner: &mut RecordFrame,
     pair: &mut InnerPair,

@@ -9,7 +9,7 @@ use Rattle.responder_machine.specs.May.{IsAllowed}
 use Rattle.responder_machine.specs.Place.{Place, held_of, is_held, place_terms}
 use Rattle.spdm_basis.proofs.Bools.{and_first, and_second}
 use Rattle.spdm_machine.specs.Terms.{hash_len}
-use Rattle.check_responder.specs.Answerer.{AreBounded, are_allowed, are_few, is_id, is_unused}
+use Rattle.check_responder.specs.JudgedResponder.{AreBounded, are_allowed, are_few, is_id, is_unused}
 
 from_test : (a b : ℕ) → nat_le a b ≡ true → a ≤ b
 from_test a b is = grind (arith, nat_tests)

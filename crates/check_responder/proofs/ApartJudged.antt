@@ -18,7 +18,7 @@ use Rattle.check_responder.proofs.ApartLengths.{apart_at, apart_small, turn_over
 use Rattle.check_responder.proofs.ClearAsked.{answers_so}
 use Rattle.check_responder.proofs.ClearJudged.{IsOne, adds_at, again_still, at, dropped_one, entry, first_one, gives_same, parts_whole, repeats_at, shown, shown_again, shown_anew, whole_parts}
 use Rattle.check_responder.proofs.ShownDrops.{large_drops, small_drops}
-use Rattle.check_responder.specs.Answerer.{shows_large}
+use Rattle.check_responder.specs.JudgedResponder.{shows_large}
 use Rattle.check_laws.specs.AnswersShown.{LeadsAt, clear_values, least_values}
 use Rattle.check_laws.specs.ApartShown.{IsApartShown}
 use Rattle.check_responder.specs.ClearAnswers.{IsApart, IsApartAt, IsJudgedAt, dropped_before, given_of}

@@ -22,7 +22,7 @@ use Rattle.spdm_grammar.specs.declared.names.response_code.TheConstants.{CHUNK_S
 use Rattle.spdm_machine.specs.Bodies.{clear_body}
 use Rattle.spdm_machine.specs.Keys.{verify_data}
 use Rattle.spdm_machine.specs.Terms.{hash_len}
-use Rattle.check_responder.specs.Answerer.{shows_large}
+use Rattle.check_responder.specs.JudgedResponder.{shows_large}
 use Rattle.check_laws.specs.DropsShown.{response_of}
 use Rattle.capture_machine.specs.Difference.{carries_exchange, is_apart}
 

@@ -16,14 +16,14 @@ use Rattle.responder_machine.specs.Setup.{RspSetup}
 use Rattle.responder_machine.specs.Turn.{Turn}
 use Rattle.spdm_machine.specs.Bodies.{clear_body, record_body}
 use Rattle.check_laws.proofs.ApartShown.{record_silent}
-use Rattle.check_responder.specs.Answerer.{IsAnswerer}
+use Rattle.check_responder.specs.JudgedResponder.{IsAnswerer}
 use Rattle.check_laws.specs.AnswersShown.{values_shown_by}
 use Rattle.check_laws.specs.ApartShown.{IsApartShown, answer_shown}
 use Rattle.check_laws.specs.DropsShown.{drops_shown_by, outcome_shown}
 use Rattle.check_laws.specs.LargeShown.{drops_before, large_shown, last_shown}
 use Rattle.check_responder.specs.Given.{IsApartInClear, IsGiven, IsGivenNever, judged_of}
 use Rattle.check_responder.specs.RecordAnswers.{IsGivenTo, history_behind}
-use Rattle.check_responder.specs.declared.answerer.Answerer.{Answerer}
+use Rattle.check_responder.specs.declared.judged_responder.JudgedResponder.{JudgedResponder}
 use Rattle.check_responder.specs.declared.given.Given.{Given}
 use Rattle.check_responder.specs.declared.given.Given.TheVariants as given
 use Rattle.check_responder.specs.declared.given.Judged.TheVariants as judged
@@ -51,7 +51,7 @@ record_not_apart r d round request answer is shown =
     let carries : carries_exchange (answer_shown r h round.tag (record_body request) answer) ≡ true = subst (λ (b : List ℕ). carries_exchange (answer_shown r h round.tag b answer) ≡ true) is shown.2 in
     false≢true (sym (record_silent r round.tag request f g) ∙ carries)
 
-given_to : (r : RspSetup) (d : Dialogue) (round : Round) (answer : List ℕ) (new : Answerer) (result : Option Given) → IsGivenTo r d.responder round.tag round.body answer result
+given_to : (r : RspSetup) (d : Dialogue) (round : Round) (answer : List ℕ) (new : JudgedResponder) (result : Option Given) → IsGivenTo r d.responder round.tag round.body answer result
     → IfSome result (λ (x : Given). IsAnswerer new r (history_behind r d.responder round.tag round.body answer x)) → (IsApartShown r d round answer → ⊥) → IsGiven r d round answer (judged_of result) new
 given_to r d round answer new None is stands apart =
     (record { whole = λ c. none-some given.Whole (is.whole.1 c); large = λ c. none-some given.Large (is.large.1 c); last = λ c. none-some given.Last (is.last.1 c) }, apart)
@@ -59,7 +59,7 @@ given_to r d round answer new (Some given.Whole) is stands apart = (is.whole.0 r
 given_to r d round answer new (Some given.Large) is stands apart = is.large.0 refl
 given_to r d round answer new (Some given.Last) is stands apart = is.last.0 refl
 
-pub judged_to_record : (r : RspSetup) (d : Dialogue) (round : Round) (body answer request : List ℕ) (result : Option Given) (new : Answerer) → round.body ≡ body → IsBody body → (slice_index body 0 == 5) ≡ false → request ≡ drop 1 body
+pub judged_to_record : (r : RspSetup) (d : Dialogue) (round : Round) (body answer request : List ℕ) (result : Option Given) (new : JudgedResponder) → round.body ≡ body → IsBody body → (slice_index body 0 == 5) ≡ false → request ≡ drop 1 body
     → IsGivenTo r d.responder round.tag (record_body request) answer result → IfSome result (λ (x : Given). IsAnswerer new r (history_behind r d.responder round.tag (record_body request) answer x))
     → IsGiven r d round answer (judged_of result) new
 judged_to_record r d round body answer request result new bodied typed record_is is_request told stands =
@@ -97,7 +97,7 @@ never_other r d round answer clear other =
       last = λ c. other (sym (ap first c.2) ∙ clear_first r h tag body (values_shown_by r h tag body answer) clear);
     }
 
-pub judged_otherwise : (r : RspSetup) (d : Dialogue) (round : Round) (body answer : List ℕ) (new : Answerer) → round.body ≡ body → slice_index body 0 ≡ 5 → (slice_index answer 0 == 5) ≡ false → IsApartInClear r d round answer
+pub judged_otherwise : (r : RspSetup) (d : Dialogue) (round : Round) (body answer : List ℕ) (new : JudgedResponder) → round.body ≡ body → slice_index body 0 ≡ 5 → (slice_index answer 0 == 5) ≡ false → IsApartInClear r d round answer
     → IsGiven r d round answer judged.Refused new
 judged_otherwise r d round body answer new bodied clear sealed apart = (never_other r d round answer (ap (λ (l : List ℕ). slice_index l 0) bodied ∙ clear) other, λ c. other (apart c))
   where

@@ -18,7 +18,7 @@ use Rattle.spdm_machine.specs.Sessions.{id_in_exchange}
 use Rattle.check_laws.proofs.DropsShown.{turn_begins}
 use Rattle.check_responder.proofs.LargeReplies.{turn_tells}
 use Rattle.check_responder.proofs.ShownDrops.{large_drops, small_drops}
-use Rattle.check_responder.specs.Answerer.{shows_large}
+use Rattle.check_responder.specs.JudgedResponder.{shows_large}
 use Rattle.check_laws.specs.AnswersShown.{clear_values, is_whole}
 use Rattle.check_responder.specs.ClearAnswers.{EndsLarge, IsGivenAt, IsGiven, dropped_before, first_of_held, given_of, history_given}
 use Rattle.check_laws.specs.DropsShown.{IsShownAnswer, clear_drops, dropped_for, drops_shown_by, id_begun, outcome_shown, response_of}

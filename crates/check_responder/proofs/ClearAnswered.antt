@@ -32,7 +32,7 @@ use Rattle.spdm_basis.proofs.Bools.{and_first, and_second}
 use Rattle.spdm_machine.specs.Bodies.{clear_body}
 use Rattle.spdm_machine.specs.Terms.{hash_len}
 use Rattle.check_responder.proofs.LargeReplies.{turn_tells}
-use Rattle.check_responder.specs.Answerer.{shows_large}
+use Rattle.check_responder.specs.JudgedResponder.{shows_large}
 use Rattle.check_responder.specs.ClearAnswers.{IsAnsweredAt, IsApartAt, IsJudgedAt, given_by, given_of, is_same, is_whole_given, judged_by, tells_get}
 use Rattle.check_laws.specs.DropsShown.{response_of}
 use Rattle.check_responder.specs.declared.given.Given.{Given}

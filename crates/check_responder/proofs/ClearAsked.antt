@@ -32,7 +32,7 @@ use Rattle.check_laws.proofs.LeastValues.{least_are}
 use Rattle.check_laws.proofs.LongAnswers.{most_hash}
 use Rattle.check_responder.proofs.ReadLengths.{exchange_read_length, measured_read_length}
 use Rattle.check_responder.proofs.ShortAnswers.{long_none, long_read, not_longer}
-use Rattle.check_responder.specs.Answerer.{free_length}
+use Rattle.check_responder.specs.JudgedResponder.{free_length}
 use Rattle.check_laws.specs.AnswersShown.{clear_values, least_values, values_in, values_in_reply}
 use Rattle.check_responder.specs.ClearAnswers.{IsAnsweredAt, IsLongWith}
 use Rattle.check_responder.specs.ShownBy.{AnswersSo}

@@ -21,7 +21,7 @@ use Rattle.spdm_grammar.specs.declared.ChunkFault.TheVariants.{WrongHandle, Wron
 use Rattle.spdm_grammar.specs.declared.messages.error_code.ErrorCode.{ErrorCode}
 use Rattle.spdm_grammar.specs.declared.names.TheConstants.{MAX_MESSAGE_SIZE}
 use Rattle.spdm_grammar.specs.declared.names.response_code.TheConstants.{CHUNK_SEND_ACK}
-use Rattle.check_responder.specs.Answerer.{AreRead}
+use Rattle.check_responder.specs.JudgedResponder.{AreRead}
 use Rattle.check_responder.specs.ShownBy.{AnswersSo, AreReadClear}
 use Rattle.capture_machine.proofs.TurnsAlike.{chunk_is}
 use Rattle.capture_machine.specs.CapturedAnswers.{answer_at}

@@ -4,10 +4,10 @@ use Rattle.std.proofs.lemmas.Option.{none-some}
 use Rattle.std.specs.Prelude.{slice_index}
 use Rattle.responder_machine.specs.Setup.{RspSetup}
 use Rattle.spdm_machine.specs.Bodies.{clear_body}
-use Rattle.check_responder.specs.Answerer.{IsAnswerer}
+use Rattle.check_responder.specs.JudgedResponder.{IsAnswerer}
 use Rattle.check_responder.specs.ClearAnswers.{IsJudged, given_in, history_given}
 use Rattle.check_responder.specs.Given.{IsGiven, IsGivenNever}
-use Rattle.check_responder.specs.declared.answerer.Answerer.{Answerer}
+use Rattle.check_responder.specs.declared.judged_responder.JudgedResponder.{JudgedResponder}
 use Rattle.check_responder.specs.declared.given.Given.{Given}
 use Rattle.check_responder.specs.declared.given.Given.TheVariants as given
 use Rattle.check_responder.specs.declared.given.Judged.{Judged}
@@ -20,7 +20,7 @@ pub clear_again : (body : List ℕ) → slice_index body 0 ≡ 5 → clear_body 
 clear_again [] is = absurd (omega (arith, is))
 clear_again (x ∷ body) is = ap (λ (n : ℕ). n ∷ body) (sym is)
 
-module _ (r : RspSetup) (d : Dialogue) (tag : ℕ) (m reply : List ℕ) (waiting : ℕ) (answered : Bool) (new : Answerer) where
+module _ (r : RspSetup) (d : Dialogue) (tag : ℕ) (m reply : List ℕ) (waiting : ℕ) (answered : Bool) (new : JudgedResponder) where
   abbrev round : Round
   round = record { tag = tag; body = clear_body m; waiting = waiting; answered = answered }
 
@@ -42,7 +42,7 @@ module _ (r : RspSetup) (d : Dialogue) (tag : ℕ) (m reply : List ℕ) (waiting
       other same = absurd (cc)
 
 -- The same of bodies.
-pub judged_in_clear : (r : RspSetup) (d : Dialogue) (round : Round) (tag : ℕ) (body answer m reply : List ℕ) (result : Judged) (new : Answerer) → round.tag ≡ tag → round.body ≡ body → slice_index body 0 ≡ 5 → slice_index answer 0 ≡ 5
+pub judged_in_clear : (r : RspSetup) (d : Dialogue) (round : Round) (tag : ℕ) (body answer m reply : List ℕ) (result : Judged) (new : JudgedResponder) → round.tag ≡ tag → round.body ≡ body → slice_index body 0 ≡ 5 → slice_index answer 0 ≡ 5
     → m ≡ drop 1 body → reply ≡ drop 1 answer → IsJudged r d.responder tag m reply result → IfSome (given_in result) (λ (x : Given). IsAnswerer new r (history_given r d.responder tag m reply x)) → IsGiven r d round answer result new
 judged_in_clear r d round tag body answer m reply result new tagged bodied clear plain is_m is_reply is stands =
     let one : IsGiven r d (record { tag = tag; body = clear_body m; waiting = round.waiting; answered = round.answered }) (clear_body reply) result new = given_as r d tag m reply round.waiting round.answered new result is stands in

@@ -11,7 +11,7 @@ use Rattle.responder_machine.specs.Setup.{RspSetup}
 use Rattle.responder_session.specs.declared.answer_key.AnswerKey.{AnswerKey}
 use Rattle.spdm_machine.specs.Bodies.{record_body}
 use Rattle.check_responder.specs.AnswerKeys.{IsComing, IsComingKey, asks_for, is_taken_in, session_named, will_take}
-use Rattle.check_responder.specs.declared.coming.Coming.{Coming}
+use Rattle.check_responder.specs.declared.prepared_request.PreparedRequest.{PreparedRequest}
 use Rattle.capture_machine.specs.Opening.{opens_answering, opens_in_session, opens_next}
 
 -- ---- A record, and a body.
@@ -33,10 +33,10 @@ as_record : (r : RspSetup) (h : History) (body : List ℕ) (o : Option AnswerKey
 as_record r h body None type none = sym (taken_alike r h body type) ∙ none
 as_record r h body (Some key) type its = (sym (taken_alike r h body type) ∙ its.0, its.1)
 
-pub body_coming : (seen : Coming) (r : RspSetup) (h : History) (body : List ℕ) → (slice_index body 0 == 5) ≡ false → IsComing seen r h (record_body (drop 1 body)) → IsComing seen r h body
+pub body_coming : (seen : PreparedRequest) (r : RspSetup) (h : History) (body : List ℕ) → (slice_index body 0 == 5) ≡ false → IsComing seen r h (record_body (drop 1 body)) → IsComing seen r h body
 body_coming seen r h body type coming = record { key = of_record r h body seen.key type coming.key; inner = coming.inner }
 
-pub record_coming : (seen : Coming) (r : RspSetup) (h : History) (body : List ℕ) → (slice_index body 0 == 5) ≡ false → IsComing seen r h body → IsComing seen r h (record_body (drop 1 body))
+pub record_coming : (seen : PreparedRequest) (r : RspSetup) (h : History) (body : List ℕ) → (slice_index body 0 == 5) ≡ false → IsComing seen r h body → IsComing seen r h (record_body (drop 1 body))
 record_coming seen r h body type coming = record { key = as_record r h body seen.key type coming.key; inner = coming.inner }
 
 -- ---- A record that is no repeat.
@@ -49,7 +49,7 @@ takes_so r h request other anew =
     ap (λ (b : Bool). not b && (not (repeats (last_of s) request) && opens_in r s request)) other ∙ ap (λ (b : Bool). not b && opens_in r s request) anew
 
 -- So what is had of it is the key of its answer, or it does not open.
-pub reply_had : (seen : Coming) (r : RspSetup) (h : History) (request : List ℕ) (key : AnswerKey) → seen.key ≡ Some key → repeats (ended_of h) request ≡ false → repeats (last_of (session_of (id_in_record request) h)) request ≡ false
+pub reply_had : (seen : PreparedRequest) (r : RspSetup) (h : History) (request : List ℕ) (key : AnswerKey) → seen.key ≡ Some key → repeats (ended_of h) request ≡ false → repeats (last_of (session_of (id_in_record request) h)) request ≡ false
     → IsComing seen r h (record_body request) → (f : Free) → IsReplyKey r (session_of (id_in_record request) h) f request seen.inner (Some key)
 reply_had seen r h request key is other anew coming f =
     let s : Events = session_of (id_in_record request) h in
@@ -57,20 +57,20 @@ reply_had seen r h request key is other anew coming f =
     let inner = subst (λ (o : Option AnswerKey). IfSome o (λ x. seen.inner ≡ opened r.psk s request)) is coming.inner in
     (sym (takes_so r h request other anew) ∙ own.0, inner, own.1 f)
 
-pub none_had : (seen : Coming) (r : RspSetup) (h : History) (request : List ℕ) → seen.key ≡ None → repeats (ended_of h) request ≡ false → repeats (last_of (session_of (id_in_record request) h)) request ≡ false
+pub none_had : (seen : PreparedRequest) (r : RspSetup) (h : History) (request : List ℕ) → seen.key ≡ None → repeats (ended_of h) request ≡ false → repeats (last_of (session_of (id_in_record request) h)) request ≡ false
     → IsComing seen r h (record_body request) → opens_in r (session_of (id_in_record request) h) request ≡ false
 none_had seen r h request is other anew coming = sym (takes_so r h request other anew) ∙ subst (IsComingKey r h (record_body request)) is coming.key
 
 -- ---- What it asks for.
 
-pub asks_had : (seen : Coming) (r : RspSetup) (h : History) (body : List ℕ) (code : ℕ) (key : AnswerKey) → seen.key ≡ Some key → IsComing seen r h body → (slice_index seen.inner 2 == code) ≡ asks_for r h body code
+pub asks_had : (seen : PreparedRequest) (r : RspSetup) (h : History) (body : List ℕ) (code : ℕ) (key : AnswerKey) → seen.key ≡ Some key → IsComing seen r h body → (slice_index seen.inner 2 == code) ≡ asks_for r h body code
 asks_had seen r h body code key is coming =
     let inner : List ℕ = opened r.psk (session_named h body) (drop 1 body) in
     let own = subst (IsComingKey r h body) is coming.key in
     let same = subst (λ (o : Option AnswerKey). IfSome o (λ x. seen.inner ≡ opened r.psk (session_named h body) (drop 1 body))) is coming.inner in
     ap (λ (l : List ℕ). slice_index l 2 == code) same ∙ sym (ap (λ (b : Bool). b && (slice_index inner 2 == code)) own.0)
 
-pub none_asks : (seen : Coming) (r : RspSetup) (h : History) (body : List ℕ) (code : ℕ) → seen.key ≡ None → IsComing seen r h body → false ≡ asks_for r h body code
+pub none_asks : (seen : PreparedRequest) (r : RspSetup) (h : History) (body : List ℕ) (code : ℕ) → seen.key ≡ None → IsComing seen r h body → false ≡ asks_for r h body code
 none_asks seen r h body code is coming =
     let inner : List ℕ = opened r.psk (session_named h body) (drop 1 body) in
     sym (ap (λ (b : Bool). b && (slice_index inner 2 == code)) (subst (IsComingKey r h body) is coming.key))

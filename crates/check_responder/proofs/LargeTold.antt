@@ -9,7 +9,7 @@ use Rattle.responder_machine.specs.Setup.{RspSetup}
 use Rattle.spdm_machine.specs.Bodies.{clear_body}
 use Rattle.check_responder.proofs.ClearAnew.{judged_anew, large_never}
 use Rattle.check_responder.proofs.ClearJudged.{again_still, large_to, never_large}
-use Rattle.check_responder.specs.Answerer.{shows_large}
+use Rattle.check_responder.specs.JudgedResponder.{shows_large}
 use Rattle.check_responder.specs.ClearAnswers.{IsGivenAt, dropped_before, first_of_held, is_large_given}
 use Rattle.check_responder.specs.declared.given.Given.{Given}
 use Rattle.check_responder.specs.declared.given.Given.TheVariants as kinds

@@ -12,7 +12,7 @@ use Rattle.spdm_grammar.specs.Message.ResponseMessage.{Version, Capabilities, Al
 use Rattle.spdm_grammar.specs.Responses.{IsSoundResponse, canonical_response}
 use Rattle.spdm_grammar.specs.declared.told.block_spec.BlockSpec.{BlockSpec}
 use Rattle.check_laws.proofs.AnswerLengths.{exchange_length, measured_length, summary_length}
-use Rattle.check_responder.specs.Answerer.{HasShortFields}
+use Rattle.check_responder.specs.JudgedResponder.{HasShortFields}
 
 -- Of a block that is missing nothing is asked.
 pub missing_none : (op : ℕ) (blocks : List BlockSpec) → is_missing op blocks ≡ true → length (record_of (asked op blocks)) ≡ 0

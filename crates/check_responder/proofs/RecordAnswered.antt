@@ -3,10 +3,10 @@ use Rattle.std.proofs.Common.{◌≡◌, ◌≤◌, ◌<◌, ◌-◌, ◌^◌, �
 use Rattle.std.proofs.lemmas.Bool.{false≢true}
 use Rattle.std.specs.Prelude.{slice_index}
 use Rattle.responder_core.specs.Connected as connected
-use Rattle.responder_core.specs.Live.{IsSlotOf}
+use Rattle.responder_core.specs.LiveSession.{IsSlotOf}
 use Rattle.responder_core.specs.Sessions.{slot_of}
 use Rattle.responder_core.specs.declared.connected.Connection.{Connection}
-use Rattle.responder_core.specs.declared.in_sessions.live.Live.{Live}
+use Rattle.responder_core.specs.declared.in_sessions.live_session.LiveSession.{LiveSession}
 use Rattle.responder_machine.specs.Answer.{Free}
 use Rattle.responder_machine.specs.BoundLaws.{messages_of}
 use Rattle.responder_machine.specs.History.{History, ended_of}
@@ -26,7 +26,7 @@ use Rattle.capture_machine.specs.Rounds.{no_draw}
 
 -- ---- The sizes of a session.
 
-slot_sized : (r : RspSetup) (s : Events) (x : Option Live) → IsSlotOf x r s → IsSized r s
+slot_sized : (r : RspSetup) (s : Events) (x : Option LiveSession) → IsSlotOf x r s → IsSized r s
 slot_sized r s None none = inl none
 slot_sized r s (Some live) stands = inr stands.sizes
 

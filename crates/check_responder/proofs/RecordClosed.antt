@@ -14,7 +14,7 @@ use Rattle.spdm_machine.specs.Bodies.{clear_body, record_body}
 use Rattle.check_responder.proofs.AnyAnswers.{IsSized, session_few}
 use Rattle.check_laws.proofs.LeastValues.{least_allowed}
 use Rattle.check_responder.proofs.RecordShown.{at_again, at_closed, at_ended, at_opened, value_closed}
-use Rattle.check_responder.specs.Answerer.{history_shown}
+use Rattle.check_responder.specs.JudgedResponder.{history_shown}
 use Rattle.check_laws.specs.AnswersShown.{LeadsAt, least_values, values_shown_by}
 use Rattle.check_laws.specs.DropsShown.{IsShownAnswer, drops_shown_by, outcome_shown}
 use Rattle.check_responder.specs.ShownBy.{HasFewBlocks, closed_drops, opens_at}

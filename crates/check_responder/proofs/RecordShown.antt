@@ -22,7 +22,7 @@ use Rattle.spdm_machine.specs.Bodies.{record_body}
 use Rattle.check_laws.proofs.SessionShown.{text_is, updates_alike}
 use Rattle.check_laws.specs.AnswersShown.{LeadsAt, answered_text, least_values, record_values, values_for, values_shown_by}
 use Rattle.check_laws.specs.DropsShown.{IsShownAnswer, drops_shown_by, may_be_dropped, outcome_shown}
-use Rattle.check_responder.specs.Answerer.{history_shown}
+use Rattle.check_responder.specs.JudgedResponder.{history_shown}
 use Rattle.check_responder.specs.ShownBy.{IsRecordAnswered, opens_at}
 use Rattle.capture_machine.specs.CapturedAnswers.{belongs_to, is_plain}
 use Rattle.capture_machine.specs.Opening.{any_free, turn_in}

@@ -35,7 +35,7 @@ use Rattle.check_responder.proofs.RecordShown.{at_opened, inner_shown}
 use Rattle.check_laws.specs.AnswersShown.{answered_text, is_whole}
 use Rattle.check_responder.specs.ClearAnswers.{given_of}
 use Rattle.check_laws.specs.DropsShown.{response_of}
-use Rattle.check_responder.specs.Answerer.{AreTooLong, shows_large}
+use Rattle.check_responder.specs.JudgedResponder.{AreTooLong, shows_large}
 use Rattle.check_laws.specs.LargeShown.{ends_large}
 use Rattle.check_responder.specs.RecordAnswers.{given_shown, has_large, has_last}
 use Rattle.check_responder.specs.ShownBy.{IsRecordGiven, IsTaken, shows_last}

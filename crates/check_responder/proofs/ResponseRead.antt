@@ -9,7 +9,7 @@ use Rattle.spdm_grammar.specs.Message.{ExchangeMessage, RequestMessage}
 use Rattle.spdm_grammar.specs.Message.RequestMessage.{GetVersion, GetCapabilities, NegotiateAlgorithms, GetMeasurements, PskExchange, PskFinish, Heartbeat, KeyUpdate, EndSession, ChunkSend, ChunkGet}
 use Rattle.spdm_grammar.specs.Responses.{canonical_response}
 use Rattle.check_responder.proofs.ReadLengths.{exchange_read_length}
-use Rattle.check_responder.specs.Answerer.{AreLonger, AreRead, AreTooLong, IsLongerContext, IsLongerOpaque, free_length}
+use Rattle.check_responder.specs.JudgedResponder.{AreLonger, AreRead, AreTooLong, IsLongerContext, IsLongerOpaque, free_length}
 use Rattle.check_laws.specs.AnswersShown.{lengthened}
 
 module _ (r : RspSetup) (p : Place) (m : List ℕ) where

@@ -21,7 +21,7 @@ use Rattle.spdm_grammar.specs.declared.messages.capabilities.Caps.{Caps}
 use Rattle.spdm_grammar.specs.declared.messages.part_faults.CapsFault.TheVariants.{SizeTooSmall, SizesCrossed, NoPsk, NoProtection}
 use Rattle.spdm_grammar.specs.declared.names.TheConstants.{MAX_MESSAGE_SIZE}
 use Rattle.spdm_machine.specs.Terms.{asked_caps, common_from, no_choice, no_common, request_value, response_value, terms_of, told_caps}
-use Rattle.check_responder.specs.Answerer.{free_length}
+use Rattle.check_responder.specs.JudgedResponder.{free_length}
 
 pub not_longer : (n : ℕ) → n ≤ 4096 → nat_lt 4096 n ≡ false
 not_longer n few = grind (arith, nat_tests)

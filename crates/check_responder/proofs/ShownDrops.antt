@@ -8,7 +8,7 @@ use Rattle.responder_machine.specs.May.{with_dropped}
 use Rattle.responder_machine.specs.Place.{held_of}
 use Rattle.spdm_grammar.specs.declared.names.response_code.TheConstants.{PSK_EXCHANGE_RSP}
 use Rattle.spdm_machine.specs.Sessions.{id_in_exchange}
-use Rattle.check_responder.specs.Answerer.{shows_large}
+use Rattle.check_responder.specs.JudgedResponder.{shows_large}
 use Rattle.check_responder.specs.ClearAnswers.{dropped_before, first_of_held}
 use Rattle.check_laws.specs.DropsShown.{dropped_for, id_begun, may_be_dropped, response_of}
 

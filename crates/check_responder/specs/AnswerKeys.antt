@@ -16,7 +16,7 @@ use Rattle.responder_session.specs.Took.{turn_in}
 use Rattle.responder_session.specs.declared.answer_key.AnswerKey.{AnswerKey}
 use Rattle.spdm_grammar.specs.declared.names.request_code.TheConstants.{END_SESSION}
 use Rattle.check_responder.specs.declared.answer_keys.AnswerKeys.{AnswerKeys}
-use Rattle.check_responder.specs.declared.coming.Coming.{Coming}
+use Rattle.check_responder.specs.declared.prepared_request.PreparedRequest.{PreparedRequest}
 use Rattle.spdm_grammar.specs.declared.names.TheConstants.{MAX_SESSIONS}
 use Rattle.spdm_grammar.specs.declared.names.message_type.TheConstants.{SPDM}
 
@@ -74,6 +74,6 @@ abbrev pub asks_for : RspSetup → History → (body : List ℕ) → (code : ℕ
 asks_for r h body code = will_take r h body && (slice_index (opened r.psk (session_named h body) (drop 1 body)) 2 == code)
 
 -- This is had of it: that key, and the inner message of a record that is taken.
-pub record IsComing (seen : Coming) (r : RspSetup) (h : History) (body : List ℕ) : Type 0 where
+pub record IsComing (seen : PreparedRequest) (r : RspSetup) (h : History) (body : List ℕ) : Type 0 where
   pub key : IsComingKey r h body seen.key
   pub inner : IfSome seen.key (λ own. seen.inner ≡ opened r.psk (session_named h body) (drop 1 body))

@@ -13,14 +13,14 @@ use Rattle.spdm_grammar.specs.declared.names.TheConstants.{MAX_MESSAGE_SIZE}
 use Rattle.spdm_grammar.specs.declared.names.request_code.TheConstants.{CHUNK_GET}
 use Rattle.spdm_machine.specs.Bodies.{clear_body}
 use Rattle.spdm_machine.specs.Terms.{hash_len}
-use Rattle.check_responder.specs.Answerer.{history_shown, shows_large}
+use Rattle.check_responder.specs.JudgedResponder.{history_shown, shows_large}
 use Rattle.check_laws.specs.AnswersShown.{LeadsAt, clear_values, values_shown_by}
 use Rattle.check_laws.specs.ApartShown.{answer_shown}
 use Rattle.check_laws.specs.DropsShown.{IsShownAnswer, dropped_for, drops_shown_by, id_begun, outcome_shown, response_of}
 use Rattle.check_laws.specs.LargeShown.{IsShownLarge, drops_before, ends_large, first_dropped, large_shown, last_shown}
 use Rattle.check_responder.specs.ShownBy.{AnswersSo}
-use Rattle.check_responder.specs.declared.asked.Asked.{Asked}
-use Rattle.check_responder.specs.declared.asked.Asked.TheVariants as bytes
+use Rattle.check_responder.specs.declared.request_source.RequestSource.{RequestSource}
+use Rattle.check_responder.specs.declared.request_source.RequestSource.TheVariants as bytes
 use Rattle.check_responder.specs.declared.given.Given.{Given}
 use Rattle.check_responder.specs.declared.given.Given.TheVariants as given
 use Rattle.check_responder.specs.declared.given.Judged.{Judged}
@@ -110,7 +110,7 @@ IsLongWith r h m asked f = nat_lt MAX_MESSAGE_SIZE (length (clear_answer r (clea
 
 -- Which bytes have that request: the message itself, or the large request that its chunk completes. Or its last chunk
 -- completes none, and is acknowledged all the same, which no responder does.
-abbrev pub IsAskedBy : RspSetup → History → (m reply whole : List ℕ) → Asked → Type 0
+abbrev pub IsAskedBy : RspSetup → History → (m reply whole : List ℕ) → RequestSource → Type 0
 IsAskedBy r h m reply whole bytes.Itself = IsLongWith r h m m (clear_values r h m reply)
 IsAskedBy r h m reply whole bytes.Carried = IsLongWith r h m whole (clear_values r h m reply)
 IsAskedBy r h m reply whole bytes.Never = (f : Free) → AnswersSo r h m reply f → ⊥

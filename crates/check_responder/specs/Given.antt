@@ -1,12 +1,12 @@
 -- What the responder gives: what is said of an answer, by what it shows. This project's own.
 use Rattle.std.specs.Prelude.{◌≡◌, ℕ, List, slice_index, Option, Some, None}
 use Rattle.responder_machine.specs.Setup.{RspSetup}
-use Rattle.check_responder.specs.Answerer.{IsAnswerer, history_shown}
+use Rattle.check_responder.specs.JudgedResponder.{IsAnswerer, history_shown}
 use Rattle.check_laws.specs.ApartShown.{IsApartShown}
 use Rattle.check_responder.specs.ClearAnswers.{EndsLarge}
 use Rattle.check_laws.specs.DropsShown.{IsShownAnswer}
 use Rattle.check_laws.specs.LargeShown.{IsShownLarge}
-use Rattle.check_responder.specs.declared.answerer.Answerer.{Answerer}
+use Rattle.check_responder.specs.declared.judged_responder.JudgedResponder.{JudgedResponder}
 use Rattle.check_responder.specs.declared.given.Given.{Given}
 use Rattle.check_responder.specs.declared.given.Given.TheVariants as given
 use Rattle.check_responder.specs.declared.given.Judged.{Judged}
@@ -20,7 +20,7 @@ pub record IsGivenNever (r : RspSetup) (d : Dialogue) (round : Round) (answer : 
   pub last : EndsLarge r d.responder round.tag round.body answer → ⊥
 
 -- What is said of an answer; where it goes whole, the history after it is kept.
-abbrev pub IsGiven : RspSetup → Dialogue → Round → (answer : List ℕ) → Judged → (new : Answerer) → Type 0
+abbrev pub IsGiven : RspSetup → Dialogue → Round → (answer : List ℕ) → Judged → (new : JudgedResponder) → Type 0
 IsGiven r d round answer (judged.Given given.Whole) new =
     IsShownAnswer r d.responder round.tag round.body answer × IsAnswerer new r (history_shown r d.responder round.tag round.body answer)
 IsGiven r d round answer (judged.Given given.Large) new = IsShownLarge r d.responder round.tag round.body answer

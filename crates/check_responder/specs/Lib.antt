@@ -1,5 +1,5 @@
 pub mod AnswerKeys
-pub mod Answerer
+pub mod JudgedResponder
 pub mod ClearAnswers
 pub mod Given
 pub mod Opening

@@ -5,7 +5,7 @@ use Rattle.responder_session.specs.OwnAnswers.{IsAnswerKey}
 use Rattle.responder_session.specs.declared.answer_key.AnswerKey.{AnswerKey}
 use Rattle.spdm_grammar.specs.declared.messages.choice.Choice.{Choice}
 use Rattle.spdm_machine.specs.Keys.{record_fault}
-use Rattle.check_responder.specs.declared.coming.Coming.{Coming}
+use Rattle.check_responder.specs.declared.prepared_request.PreparedRequest.{PreparedRequest}
 use Rattle.check_responder.specs.declared.opening.Opening.{Opening}
 use Rattle.check_responder.specs.declared.opening.Opening.TheVariants as opening
 use Rattle.responder_machine.specs.Setup.{RspSetup}
@@ -21,7 +21,7 @@ IsByKey (Some key) sealed is =
     × (is ≡ is_none (record_fault choice p number id sealed))
 
 -- This is told of a record whose opening is so, with what is had of its request.
-abbrev pub IsOpening : Coming → (sealed : List ℕ) → Opening → (is : Bool) → Type 0
+abbrev pub IsOpening : PreparedRequest → (sealed : List ℕ) → Opening → (is : Bool) → Type 0
 IsOpening coming sealed (opening.Told told) is = told ≡ is
 IsOpening coming sealed opening.ByKey is = IsByKey coming.key sealed is
 
@@ -32,5 +32,5 @@ is_readable r d round answer =
     || opens_answering r d.responder (slice_index round.body 0 == SPDM) (drop 1 round.body) (drop 1 answer)
 
 -- This is told of it.
-abbrev pub IsReason : RspSetup → Dialogue → Round → Coming → (answer : List ℕ) → Opening → Type 0
+abbrev pub IsReason : RspSetup → Dialogue → Round → PreparedRequest → (answer : List ℕ) → Opening → Type 0
 IsReason r d round coming answer told = IsOpening coming (drop 1 answer) told (is_readable r d round answer)

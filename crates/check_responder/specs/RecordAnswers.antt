@@ -5,7 +5,7 @@ use Rattle.responder_machine.specs.History.{History}
 use Rattle.responder_machine.specs.May.{with_dropped}
 use Rattle.responder_machine.specs.Responder.{after, on_record}
 use Rattle.responder_machine.specs.Setup.{RspSetup}
-use Rattle.check_responder.specs.Answerer.{history_shown, shows_large}
+use Rattle.check_responder.specs.JudgedResponder.{history_shown, shows_large}
 use Rattle.check_responder.specs.ClearAnswers.{EndsLarge, given_of}
 use Rattle.check_laws.specs.DropsShown.{IsShownAnswer, response_of}
 use Rattle.check_laws.specs.LargeShown.{IsShownLarge, drops_before, large_shown, last_shown}

@@ -14,8 +14,8 @@ ghost use Rattle.check_responder.specs.AnswerKeys.{IsComing, IsComingKey};
 ghost use Rattle.capture_machine.specs.Opening.{opens_next};
 ghost use Rattle.spdm_grammar.specs.declared.names.TheConstants.{MAX_SESSIONS};
 
-use crate::coming::Coming;
 use crate::opening::Opening;
+use crate::prepared_request::PreparedRequest;
 use check_laws::is_clear;
 use responder_core::{Connection, record_id};
 use responder_session::AnswerKey;
@@ -101,8 +101,8 @@ pub fn coming_key(connection: &Connection, body: &[u8], room: &mut RecordFrame) 
     taken_key(connection, behind_type(body), room)
 }
 
-/// What is had of a record that comes next, before that is handed in. Fewer than 2^64 - 1 messages came.
-pub(crate) fn prepare_record(connection: &Connection, request: &[u8], coming: &mut Coming)
+/// What is known of the next record before it is handed in. Requires fewer than 2^64 - 1 received messages.
+pub(crate) fn prepare_record(connection: &Connection, request: &[u8], coming: &mut PreparedRequest)
     ensures { (r : RspSetup) (h : History) → connected.StandsFor connection.now r h
         → messages_of h < 2 ^ 64 - 1 → IsComing coming.new r h (record_body request.now) }
 {
@@ -110,7 +110,7 @@ pub(crate) fn prepare_record(connection: &Connection, request: &[u8], coming: &m
 }
 
 /// The same of a body.
-pub fn prepare(connection: &Connection, body: &[u8], coming: &mut Coming)
+pub fn prepare(connection: &Connection, body: &[u8], coming: &mut PreparedRequest)
     ensures { (r : RspSetup) (h : History) → connected.StandsFor connection.now r h
         → messages_of h < 2 ^ 64 - 1 → IsComing coming.new r h body.now }
 {
@@ -199,13 +199,13 @@ impl AnswerKeys {
             || opens_next(connection, request, sealed, room)
     }
 
-    // Whether a record opens as an answer to another one with its session id, of which this is had; where that is
-    // taken, its key tells.
+    // Whether a record opens as an answer to another one with its session id, of which this is known; where that one
+    // is taken, the key kept of it decides.
     fn opens_in_session(
         &self,
         connection: &Connection,
         request: &[u8],
-        coming: &Coming,
+        coming: &PreparedRequest,
         sealed: &[u8],
         room: &mut RecordFrame,
     ) -> Opening
@@ -232,14 +232,14 @@ impl AnswerKeys {
         }
     }
 
-    /// Whether a record that is no right answer to a body, a clear one or another record, opens at least; this is had
-    /// of the body. Where that is a record that is taken, and has the same session id, the key of its answer tells, and
-    /// is not asked. What `room` holds before and after does not matter. Fewer than 2^64 - 1 messages came.
+    /// Whether a record that is no right answer to a request, a clear one or another record, opens at least; this is
+    /// known of the request. Not to be asked where the request is a record that is taken, with the same session id: the
+    /// key of its answer then decides. `room` is scratch space. Requires fewer than 2^64 - 1 received messages.
     pub fn opens(
         &self,
         connection: &Connection,
         body: &[u8],
-        coming: &Coming,
+        coming: &PreparedRequest,
         sealed: &[u8],
         room: &mut RecordFrame,
     ) -> Opening

@@ -10,7 +10,7 @@ ghost use Rattle.spdm_basis.specs.Sizes.{hash_size};
 ghost use Rattle.spdm_grammar.specs.Message.{exchange_message, request_message};
 ghost use Rattle.spdm_grammar.specs.Responses.{canonical_response};
 ghost use Rattle.spdm_grammar.specs.declared.names.TheConstants.{MAX_MESSAGE_SIZE};
-ghost use Rattle.check_responder.specs.Answerer.{free_length};
+ghost use Rattle.check_responder.specs.JudgedResponder.{free_length};
 
 use crate::shown_values::{MOST_BYTES, request_of};
 use measurements::Inventory;

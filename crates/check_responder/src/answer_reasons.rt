@@ -10,9 +10,9 @@ ghost use Rattle.capture_machine.specs.Difference.Why.{BadRecord, BadReply};
 ghost use Rattle.capture_machine.specs.Rounds.{Dialogue, Round};
 
 use crate::answer_keys::{coming_key, prepare};
-use crate::coming::Coming;
 use crate::opening::{Opening, opens_so};
-use crate::{AnswerKeys, Answerer};
+use crate::prepared_request::PreparedRequest;
+use crate::{AnswerKeys, JudgedResponder};
 use check_laws::is_clear;
 use responder_core::Connection;
 use responder_session::AnswerKey;
@@ -21,13 +21,13 @@ use spdm_basis::RecordFrame;
 use spdm_grammar::Why;
 
 // Whether an answer that is in turn is in the clear, or a record that opens, as far as it is told before it is judged.
-// The body is the request that it answers, which was not handed in yet, and of which this is had. `room` is scratch
+// The body is the request that it answers, which was not handed in yet, and of which this is known. `room` is scratch
 // space. Requires fewer than 2^64 - 1 received messages.
 fn opening_of(
     keys: &AnswerKeys,
     connection: &Connection,
     body: &[u8],
-    coming: &Coming,
+    coming: &PreparedRequest,
     answer: &[u8],
     room: &mut RecordFrame,
 ) -> Opening
@@ -50,8 +50,14 @@ fn why_by(opens: bool) -> Why
     if opens { Why::BadReply } else { Why::BadRecord }
 }
 
-/// Why an answer is refused of which this was told, with what is had of its request. `room` is scratch space.
-pub fn why_so(told: Opening, coming: &Coming, answer: &[u8], room: &mut RecordFrame) -> Why
+/// Why an answer is refused, by what was determined of it before and what is known of its request. `room` is scratch
+/// space.
+pub fn reason_for(
+    told: Opening,
+    coming: &PreparedRequest,
+    answer: &[u8],
+    room: &mut RecordFrame,
+) -> Why
     ensures { (r : RspSetup) (d : Dialogue) (round : Round)
         → IsReason r d round coming.now answer.now told
         → why_of result ≡ reply_why r d answer.now (Some round) }
@@ -59,34 +65,34 @@ pub fn why_so(told: Opening, coming: &Coming, answer: &[u8], room: &mut RecordFr
     why_by(opens_so(told, coming, behind_type(answer), room))
 }
 
-impl Answerer {
+impl JudgedResponder {
     ghost use Rattle.std.specs.Prelude.{◌≡◌, ◌<◌, ◌-◌, ◌^◌, Some};
     ghost use Rattle.responder_machine.specs.BoundLaws.{messages_of};
     ghost use Rattle.responder_machine.specs.History.{History};
     ghost use Rattle.responder_machine.specs.Setup.{RspSetup};
     ghost use Rattle.check_responder.specs.AnswerKeys.{IsComing, IsComingKey, StandFor};
-    ghost use Rattle.check_responder.specs.Answerer.{IsAnswerer};
+    ghost use Rattle.check_responder.specs.JudgedResponder.{IsAnswerer};
     ghost use Rattle.check_responder.specs.Opening.{IsReason};
     ghost use Rattle.check_laws.specs.Judged.{why_of};
     ghost use Rattle.capture_machine.specs.Difference.{reply_why};
     ghost use Rattle.capture_machine.specs.Rounds.{Dialogue, Round};
 
-    /// What is had of this body before its answer is judged. Requires fewer than 2^64 - 1 received messages.
-    pub fn prepare(&self, body: &[u8], coming: &mut Coming)
+    /// What is known of this request before its answer is judged. Requires fewer than 2^64 - 1 received messages.
+    pub fn prepare(&self, body: &[u8], coming: &mut PreparedRequest)
         ensures { (r : RspSetup) (h : History) → IsAnswerer self.now r h
             → messages_of h < 2 ^ 64 - 1 → IsComing coming.new r h body.now }
     {
         prepare(&self.connection, body, coming);
     }
 
-    /// Why an answer to this body, of which this is had, is refused, but for wrong verify data, as far as it is told
-    /// before it is judged: a record is not opened with the key that is had. Requires fewer than 2^64 - 1 received
-    /// messages.
+    /// Why an answer to this request, of which this is known, is refused, but for wrong verify data, as far as it can
+    /// be told before it is judged: a record is not opened with the key that is known. Requires fewer than 2^64 - 1
+    /// received messages.
     pub fn opening_with(
         &mut self,
         keys: &AnswerKeys,
         body: &[u8],
-        coming: &Coming,
+        coming: &PreparedRequest,
         answer: &[u8],
     ) -> Opening
         ensures told { (r : RspSetup) (d : Dialogue) (round : Round)
@@ -106,8 +112,8 @@ impl Answerer {
         )
     }
 
-    /// Why an answer to this body is refused, but for wrong verify data: had before it is judged, where nothing is had
-    /// of the body yet. Requires fewer than 2^64 - 1 received messages.
+    /// Why an answer to this request is refused, but for wrong verify data: determined before it is judged, where nothing
+    /// is known of the request yet. Requires fewer than 2^64 - 1 received messages.
     pub fn reply_why(&mut self, keys: &AnswerKeys, body: &[u8], answer: &[u8]) -> Why
         ensures told { (r : RspSetup) (d : Dialogue) (round : Round)
             → IsAnswerer self.old r d.responder → messages_of d.responder < 2 ^ 64 - 1
@@ -115,10 +121,10 @@ impl Answerer {
             → why_of result ≡ reply_why r d answer.now (Some round) }
         ensures same { self.new.connection ≡ self.old.connection }
     {
-        let mut coming = Coming::new();
+        let mut coming = PreparedRequest::new();
         self.prepare(body, &mut coming);
         let told = self.opening_with(keys, body, &coming, answer);
-        why_so(told, &coming, answer, &mut self.record)
+        reason_for(told, &coming, answer, &mut self.record)
     }
 
     /// The key of the answer to this body, had before it is judged. Requires fewer than 2^64 - 1 received messages.

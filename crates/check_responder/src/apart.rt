@@ -1,4 +1,4 @@
-//! Two answers that differ in their verify data alone: then the verdict is `bad-verify` (`judged_by` in `answerer.rt`).
+//! Two answers that differ in their verify data alone: then the verdict is `bad-verify` (`judged_by` in `judged_responder.rt`).
 ghost use Rattle.std.specs.Prelude.{◌≡◌, ◌-◌, length, take};
 ghost use Rattle.spdm_machine.specs.Bodies.{clear_body};
 ghost use Rattle.capture_machine.specs.Difference.{carries_exchange, is_apart};

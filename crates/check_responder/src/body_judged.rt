@@ -2,8 +2,8 @@ ghost use Rattle.std.specs.Prelude.{◌≡◌};
 ghost use Rattle.check_responder.specs.Given.{judged_of};
 ghost use Rattle.spdm_grammar.specs.declared.names.TheConstants.{MAX_BODY_SIZE};
 
-use crate::coming::Coming;
-use crate::{Answerer, Given, Judged};
+use crate::prepared_request::PreparedRequest;
+use crate::{Given, Judged, JudgedResponder};
 use check_laws::is_clear;
 use responder_core::Setup;
 use session_keys::behind_type;
@@ -20,13 +20,13 @@ fn judged_of(given: Option<Given>) -> Judged
 }
 
 // An answer to a request, each in the clear or a record.
-impl Answerer {
+impl JudgedResponder {
     ghost use Rattle.std.specs.Prelude.{◌≡◌, ◌≤◌, ◌<◌, ◌-◌, ◌^◌, length, slice_index};
     ghost use Rattle.responder_core.specs.Setup.{IsSetUp};
     ghost use Rattle.responder_machine.specs.BoundLaws.{messages_of};
     ghost use Rattle.responder_machine.specs.Setup.{RspSetup};
     ghost use Rattle.check_responder.specs.AnswerKeys.{IsComing};
-    ghost use Rattle.check_responder.specs.Answerer.{IsAnswerer};
+    ghost use Rattle.check_responder.specs.JudgedResponder.{IsAnswerer};
     ghost use Rattle.check_responder.specs.Given.{IsApartInClear, IsGiven};
     ghost use Rattle.capture_machine.specs.Capture.{IsBody};
     ghost use Rattle.capture_machine.specs.Rounds.{Dialogue, Round};
@@ -44,14 +44,14 @@ impl Answerer {
         Judged::Refused
     }
 
-    /// Judges a body as the answer to another one of which this is had, by what it shows. `text` is scratch space.
+    /// Judges a body as the answer to a request of which this is known, by what it shows. `text` is scratch space.
     /// Requires fewer than 2^64 - 1 received messages.
     pub fn judges_with(
         &mut self,
         setup: &Setup<'_>,
         tag: u8,
         body: &[u8],
-        coming: &Coming,
+        coming: &PreparedRequest,
         answer: &[u8],
         text: &mut RecordFrame,
     ) -> Judged
@@ -69,7 +69,7 @@ impl Answerer {
         judged_of(given)
     }
 
-    /// The same, where nothing is had of the body yet.
+    /// The same, where nothing is known of the request yet.
     pub fn judges(&mut self, setup: &Setup<'_>, tag: u8, body: &[u8], answer: &[u8]) -> Judged
         requires { length answer.now ≤ MAX_BODY_SIZE }
         ensures { (r : RspSetup) (d : Dialogue) (round : Round) → IsSetUp setup.now r
@@ -77,7 +77,7 @@ impl Answerer {
             → round.tag ≡ tag → round.body ≡ body.now → IsBody body.now
             → IsApartInClear r d round answer.now → IsGiven r d round answer.now result self.new }
     {
-        let mut coming = Coming::new();
+        let mut coming = PreparedRequest::new();
         let mut text = RecordFrame::new();
         self.prepare(body, &mut coming);
         self.judges_with(setup, tag, body, &coming, answer, &mut text)

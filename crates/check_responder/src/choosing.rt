@@ -10,7 +10,7 @@ ghost use Rattle.responder_machine.specs.Session.{Events, is_live, stage_of};
 ghost use Rattle.responder_machine.specs.Setup.{RspSetup};
 ghost use Rattle.spdm_basis.specs.Sizes.{hash_size};
 ghost use Rattle.spdm_machine.specs.Sessions.{is_past_handshake};
-ghost use Rattle.check_responder.specs.Answerer.{are_allowed, are_few, is_id, is_unused};
+ghost use Rattle.check_responder.specs.JudgedResponder.{are_allowed, are_few, is_id, is_unused};
 ghost use Rattle.spdm_grammar.specs.declared.names.TheConstants.{MAX_SESSIONS};
 
 use responder_core::{Connection, FreeValues};

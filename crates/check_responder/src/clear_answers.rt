@@ -8,11 +8,11 @@ ghost use Rattle.responder_machine.specs.History.{History};
 ghost use Rattle.responder_machine.specs.Setup.{RspSetup};
 ghost use Rattle.spdm_machine.specs.Sessions.{id_in_exchange};
 ghost use Rattle.check_laws.specs.DropsShown.{id_begun};
-ghost use Rattle.check_responder.specs.Answerer.{AreBounded, IsDropped};
+ghost use Rattle.check_responder.specs.JudgedResponder.{AreBounded, IsDropped};
 ghost use Rattle.check_responder.specs.ClearAnswers.{dropped_before, first_of_held};
 
 use crate::answer_length::blocks_length;
-use crate::answerer::{response_of, shows_large};
+use crate::judged_responder::{response_of, shows_large};
 use byteorder::{ByteOrder, LittleEndian};
 use measurements::Inventory;
 use responder_core::{Connection, FreeValues};

@@ -1,11 +1,11 @@
-use crate::asked::{Asked, asked_by};
 use crate::clear_answers::{blocks_are_few, dropped_before, values_are_bounded};
 use crate::clear_values::{clear_values, least_values};
-use crate::{Answerer, Judged};
+use crate::request_source::{RequestSource, asked_by};
+use crate::{Judged, JudgedResponder};
 use responder_core::{FreeValues, Setup};
 use spdm_basis::Frame;
 
-impl Answerer {
+impl JudgedResponder {
     ghost use Rattle.std.specs.Prelude.{◌≡◌, ◌<◌, ◌-◌, ◌^◌, false, IfSome};
     ghost use Rattle.responder_core.specs.Free.{IsFree};
     ghost use Rattle.responder_core.specs.Setup.{IsSetUp};
@@ -16,7 +16,7 @@ impl Answerer {
     ghost use Rattle.responder_machine.specs.Responder.{after, is_repeat, on_clear};
     ghost use Rattle.responder_machine.specs.Setup.{RspSetup};
     ghost use Rattle.capture_machine.specs.Rounds.{no_draw};
-    ghost use Rattle.check_responder.specs.Answerer.{IsAnswerer};
+    ghost use Rattle.check_responder.specs.JudgedResponder.{IsAnswerer};
     ghost use Rattle.check_laws.specs.AnswersShown.{clear_values, least_values};
     ghost use Rattle.check_responder.specs.ClearAnswers.{IsJudgedAt, IsJudged, dropped_before, given_in, history_given};
 
@@ -78,11 +78,11 @@ impl Answerer {
         values_are_bounded(values);
         let mut whole = Frame::new();
         match asked_by(setup, &self.connection, hash, message, reply, &mut whole) {
-            Asked::Itself => self.answers_at(setup, tag, message, message, values, reply),
-            Asked::Carried => {
+            RequestSource::Itself => self.answers_at(setup, tag, message, message, values, reply),
+            RequestSource::Carried => {
                 self.answers_at(setup, tag, message, whole.as_slice(), values, reply)
             }
-            Asked::Never => Judged::Refused,
+            RequestSource::Never => Judged::Refused,
         }
     }
 
@@ -92,7 +92,7 @@ impl Answerer {
             → IsAnswerer self.new r (with_dropped h (dropped_before h reply.now)) }
     {
         if let Some(id) = dropped_before(&self.connection, reply) {
-            self.connection.drop_unseen(id);
+            self.connection.expire(id);
         }
     }
 

@@ -1,14 +1,14 @@
-use crate::{Answerer, Judged};
+use crate::{Judged, JudgedResponder};
 use responder_core::Setup;
 use session_keys::behind_type;
 
 // An answer in the clear to a request in the clear.
-impl Answerer {
+impl JudgedResponder {
     ghost use Rattle.std.specs.Prelude.{◌≡◌, ◌<◌, ◌-◌, ◌^◌, slice_index};
     ghost use Rattle.responder_core.specs.Setup.{IsSetUp};
     ghost use Rattle.responder_machine.specs.BoundLaws.{messages_of};
     ghost use Rattle.responder_machine.specs.Setup.{RspSetup};
-    ghost use Rattle.check_responder.specs.Answerer.{IsAnswerer};
+    ghost use Rattle.check_responder.specs.JudgedResponder.{IsAnswerer};
     ghost use Rattle.check_responder.specs.Given.{IsGiven};
     ghost use Rattle.capture_machine.specs.Rounds.{Dialogue, Round};
 

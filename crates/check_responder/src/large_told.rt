@@ -2,12 +2,12 @@ ghost use Rattle.std.specs.Prelude.{◌≡◌};
 ghost use Rattle.check_responder.specs.ClearAnswers.{given_in, is_large_given};
 
 use crate::answer_length::is_too_long;
-use crate::answerer::{judged_by, response_of, shows_large};
-use crate::asked::{Asked, asked_by};
 use crate::choosing::are_allowed;
 use crate::clear_answers::{dropped_before, values_are_bounded};
 use crate::clear_values::clear_values;
-use crate::{Answerer, Given, Judged};
+use crate::judged_responder::{judged_by, response_of, shows_large};
+use crate::request_source::{RequestSource, asked_by};
+use crate::{Given, Judged, JudgedResponder};
 use responder_core::{FreeValues, Setup};
 use spdm_basis::Frame;
 
@@ -22,7 +22,7 @@ pub(crate) fn brings_large(judged: Judged) -> bool
 }
 
 // What would be said of an answer, which changes nothing.
-impl Answerer {
+impl JudgedResponder {
     ghost use Rattle.std.specs.Prelude.{◌≡◌, ◌<◌, ◌-◌, ◌^◌, ◌↔◌, ◌∷◌, true, false};
     ghost use Rattle.responder_core.specs.Free.{IsFree};
     ghost use Rattle.responder_core.specs.Setup.{IsSetUp};
@@ -35,7 +35,7 @@ impl Answerer {
     ghost use Rattle.responder_machine.specs.Responder.{is_repeat};
     ghost use Rattle.responder_machine.specs.Setup.{RspSetup};
     ghost use Rattle.spdm_machine.specs.Bodies.{clear_body};
-    ghost use Rattle.check_responder.specs.Answerer.{AreBounded, IsAnswerer};
+    ghost use Rattle.check_responder.specs.JudgedResponder.{AreBounded, IsAnswerer};
     ghost use Rattle.check_responder.specs.ClearAnswers.{IsJudgedAt, IsLongWith};
     ghost use Rattle.check_laws.specs.AnswersShown.{clear_values};
     ghost use Rattle.check_laws.specs.LargeShown.{IsShownLarge};
@@ -99,9 +99,16 @@ impl Answerer {
         values_are_bounded(values);
         let mut whole = Frame::new();
         match asked_by(setup, &self.connection, hash, message, reply, &mut whole) {
-            Asked::Itself => self.says_at(setup, tag, message, message, values, reply),
-            Asked::Carried => self.says_at(setup, tag, message, whole.as_slice(), values, reply),
-            Asked::Never => Judged::Refused,
+            RequestSource::Itself => self.says_at(setup, tag, message, message, values, reply),
+            RequestSource::Carried => self.says_at(
+                setup,
+                tag,
+                message,
+                whole.as_slice(),
+                values,
+                reply,
+            ),
+            RequestSource::Never => Judged::Refused,
         }
     }
 

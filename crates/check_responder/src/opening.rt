@@ -2,20 +2,20 @@ ghost use Rattle.std.specs.Prelude.{◌≡◌, Bool};
 ghost use Rattle.check_responder.specs.Opening.{IsByKey, IsOpening};
 
 use crate::answer_keys::opens_by;
-use crate::coming::Coming;
+use crate::prepared_request::PreparedRequest;
 use spdm_basis::RecordFrame;
 
-/// Whether an answer opens, as far as it is told before that is judged.
+/// Whether an answer opens, as far as it is known before it is judged.
 #[derive(Clone, Copy, Debug, PartialEq, Eq)]
 pub enum Opening {
     /// This is told of it.
     Told(bool),
-    /// It opens exactly when it does under the key that is had of its request.
+    /// It opens exactly when it does under the key that is known from its request.
     ByKey,
 }
 
-// Whether a record opens under the key that is had of a request. `room` is scratch space.
-fn opens_coming(coming: &Coming, sealed: &[u8], room: &mut RecordFrame) -> bool
+// Whether a record opens under the key that is known from a request. `room` is scratch space.
+fn opens_coming(coming: &PreparedRequest, sealed: &[u8], room: &mut RecordFrame) -> bool
     ensures { (is : Bool) → IsByKey coming.now.key sealed.now is → result ≡ is }
 {
     match &coming.key {
@@ -24,10 +24,11 @@ fn opens_coming(coming: &Coming, sealed: &[u8], room: &mut RecordFrame) -> bool
     }
 }
 
-/// Whether a record opens, of which this is told, with what is had of its request. `room` is scratch space.
+/// Whether a record opens, by what was determined of it before and what is known of its request. `room` is scratch
+/// space.
 pub(crate) fn opens_so(
     told: Opening,
-    coming: &Coming,
+    coming: &PreparedRequest,
     sealed: &[u8],
     room: &mut RecordFrame,
 ) -> bool

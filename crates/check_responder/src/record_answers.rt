@@ -11,19 +11,19 @@ ghost use Rattle.responder_machine.specs.Place.{Place, place_terms};
 ghost use Rattle.responder_machine.specs.Responder.{repeats};
 ghost use Rattle.responder_machine.specs.Session.{id_in_record, last_of, session_of};
 ghost use Rattle.responder_machine.specs.Setup.{RspSetup};
-ghost use Rattle.responder_session.specs.Deeds.{AreFree};
+ghost use Rattle.responder_session.specs.RequestEffects.{AreFree};
 ghost use Rattle.spdm_grammar.specs.declared.names.TheConstants.{MAX_APP_DATA_LEN, MAX_MESSAGE_SIZE, MAX_OPAQUE_LEN, MAX_PADDING};
 ghost use Rattle.spdm_machine.specs.Bodies.{record_body};
 ghost use Rattle.check_laws.specs.AnswersShown.{least_values};
 
-use crate::Answerer;
+use crate::JudgedResponder;
 use crate::answer_length::is_too_long;
 use crate::choosing::are_allowed;
 use crate::clear_answers::values_are_bounded;
 use crate::clear_values::{at_round, least_values};
 use crate::record_values::text_values;
 use responder_core::{Connection, FreeValues, Setup, record_id};
-use responder_session::RecordFree;
+use responder_session::ResponseValues;
 use session_keys::{SessionTerms, behind_type, same_bytes};
 use spdm_grammar::names::{MAX_APP_DATA_LEN, MAX_PADDING};
 use spdm_grammar::{HashAlg, Heard};
@@ -39,14 +39,14 @@ fn is_sent(heard: Heard, out: &[u8], sealed: &[u8]) -> bool
 }
 
 // The values as they are handed in for a record.
-fn record_free<'a>(values: &'a FreeValues<'_>) -> RecordFree<'a>
+fn record_free<'a>(values: &'a FreeValues<'_>) -> ResponseValues<'a>
     ensures free { (f : Free) → IsFree values.now f → AreFree result f }
     ensures nonce { length result.nonce.now ≡ 32 }
     ensures opaque { length result.opaque.now ≤ MAX_OPAQUE_LEN }
     ensures reply { result.reply.now ≡ values.now.reply.now }
     ensures pad { result.pad.now ≡ values.now.pad.now }
 {
-    RecordFree {
+    ResponseValues {
         nonce: &values.nonce,
         opaque: values.measured_opaque,
         handle: values.handle,
@@ -56,14 +56,14 @@ fn record_free<'a>(values: &'a FreeValues<'_>) -> RecordFree<'a>
 }
 
 /// The least values, as they are handed in for a record.
-pub(crate) fn least_free() -> RecordFree<'static>
+pub(crate) fn least_free() -> ResponseValues<'static>
     ensures free { (h : History) (p : Place) → AreFree result (least_values h p) }
     ensures nonce { length result.nonce.now ≡ 32 }
     ensures opaque { length result.opaque.now ≤ MAX_OPAQUE_LEN }
     ensures reply { length result.reply.now ≤ MAX_APP_DATA_LEN }
     ensures pad { length result.pad.now ≤ MAX_PADDING }
 {
-    RecordFree {
+    ResponseValues {
         nonce: &[0; 32],
         opaque: &[],
         handle: 0,
@@ -111,7 +111,7 @@ fn may_give(
     allowed && !long
 }
 
-impl Answerer {
+impl JudgedResponder {
     ghost use Rattle.std.specs.Prelude.{◌≡◌, ◌≤◌, ◌<◌, ◌-◌, ◌^◌, ◌↔◌, Some, true, ℕ, length};
     ghost use Rattle.responder_core.specs.Free.{IsFree};
     ghost use Rattle.responder_core.specs.Setup.{IsSetUp};
@@ -124,9 +124,9 @@ impl Answerer {
     ghost use Rattle.responder_machine.specs.Responder.{after, body_of, on_record};
     ghost use Rattle.responder_machine.specs.Session.{id_in_record, is_live, session_of};
     ghost use Rattle.responder_machine.specs.Setup.{RspSetup};
-    ghost use Rattle.responder_session.specs.Deeds.{AreFree};
+    ghost use Rattle.responder_session.specs.RequestEffects.{AreFree};
     ghost use Rattle.spdm_machine.specs.Bodies.{record_body};
-    ghost use Rattle.check_responder.specs.Answerer.{IsAnswerer};
+    ghost use Rattle.check_responder.specs.JudgedResponder.{IsAnswerer};
     ghost use Rattle.check_responder.specs.ShownBy.{IsRecordGiven, text_shown};
     ghost use Rattle.capture_machine.specs.Rounds.{no_draw};
 
@@ -135,7 +135,7 @@ impl Answerer {
         &mut self,
         setup: &Setup<'_>,
         request: &[u8],
-        free: &RecordFree<'_>,
+        free: &ResponseValues<'_>,
         sealed: &[u8],
     ) -> bool
         requires nonce { length free.now.nonce.now ≡ 32 }

@@ -8,7 +8,7 @@ ghost use Rattle.spdm_machine.specs.Bodies.{clear_body};
 ghost use Rattle.check_laws.specs.DropsShown.{may_be_dropped};
 ghost use Rattle.capture_machine.specs.CapturedAnswers.{belongs_to};
 
-use crate::Answerer;
+use crate::JudgedResponder;
 use crate::clear_answers::blocks_are_few;
 use crate::record_answers::least_free;
 use responder_core::{Connection, Setup, record_id};
@@ -38,7 +38,7 @@ fn shows_drop(connection: &Connection, request: &[u8]) -> bool
     belongs && timed
 }
 
-impl Answerer {
+impl JudgedResponder {
     ghost use Rattle.std.specs.Prelude.{◌≡◌, ◌<◌, ◌-◌, ◌^◌, ◌↔◌, true, ℕ};
     ghost use Rattle.responder_core.specs.Setup.{IsSetUp};
     ghost use Rattle.responder_machine.specs.BoundLaws.{messages_of};
@@ -49,7 +49,7 @@ impl Answerer {
     ghost use Rattle.responder_machine.specs.Session.{id_in_record, session_of};
     ghost use Rattle.responder_machine.specs.Setup.{RspSetup};
     ghost use Rattle.spdm_machine.specs.Bodies.{clear_body, record_body};
-    ghost use Rattle.check_responder.specs.Answerer.{IsAnswerer, history_shown};
+    ghost use Rattle.check_responder.specs.JudgedResponder.{IsAnswerer, history_shown};
     ghost use Rattle.check_laws.specs.AnswersShown.{least_values};
     ghost use Rattle.check_laws.specs.DropsShown.{IsShownAnswer};
     ghost use Rattle.check_responder.specs.ShownBy.{closed_drops};
@@ -61,7 +61,7 @@ impl Answerer {
             → IsAnswerer self.new r (with_dropped h (closed_drops r h request.now)) }
     {
         if shows_drop(&self.connection, request) {
-            self.connection.drop_unseen(record_id(request).rsp);
+            self.connection.expire(record_id(request).rsp);
         }
     }
 

@@ -6,7 +6,7 @@ ghost use Rattle.responder_machine.specs.Answer.{Free};
 ghost use Rattle.responder_machine.specs.Place.{session_place};
 ghost use Rattle.responder_machine.specs.Session.{Events};
 ghost use Rattle.responder_machine.specs.Setup.{RspSetup};
-ghost use Rattle.check_responder.specs.Answerer.{AreRead, AreShort};
+ghost use Rattle.check_responder.specs.JudgedResponder.{AreRead, AreShort};
 ghost use Rattle.check_laws.specs.AnswersShown.{values_in_inner, values_in_text};
 ghost use Rattle.check_responder.specs.ShownBy.{IsPlaceOf};
 

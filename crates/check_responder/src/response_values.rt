@@ -8,7 +8,7 @@ ghost use Rattle.responder_machine.specs.Setup.{RspSetup};
 ghost use Rattle.spdm_grammar.specs.Message.{request_message};
 ghost use Rattle.spdm_grammar.specs.Responses.{response_in};
 ghost use Rattle.spdm_machine.specs.Terms.{hash_len};
-ghost use Rattle.check_responder.specs.Answerer.{AreRead, AreShort};
+ghost use Rattle.check_responder.specs.JudgedResponder.{AreRead, AreShort};
 ghost use Rattle.check_laws.specs.AnswersShown.{asks_summary, least_large, lengthened, values_in, values_in_error, with_fields};
 ghost use Rattle.check_responder.specs.ShownBy.{IsPlaceOf};
 

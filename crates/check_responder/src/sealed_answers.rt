@@ -3,12 +3,12 @@ ghost use Rattle.check_responder.specs.RecordAnswers.{given_shown, whole_if};
 ghost use Rattle.check_responder.specs.ShownBy.{shows_last};
 ghost use Rattle.secured_record.specs.declared.TheConstants.{MAX_RECORD_SIZE};
 
-use crate::answerer::{response_of, shows_large};
 use crate::clear_answers::blocks_are_few;
-use crate::coming::Coming;
+use crate::judged_responder::{response_of, shows_large};
+use crate::prepared_request::PreparedRequest;
 use crate::record_answers::{is_repeated, least_free};
 use crate::record_values::inner_part;
-use crate::{Answerer, Given};
+use crate::{Given, JudgedResponder};
 use responder_core::Setup;
 use responder_session::AnswerKey;
 use secured_record::MIN_RECORD_SIZE;
@@ -51,7 +51,7 @@ pub(crate) fn whole_if(is: bool) -> Option<Given>
     if is { Some(Given::Whole) } else { None }
 }
 
-impl Answerer {
+impl JudgedResponder {
     ghost use Rattle.std.specs.Prelude.{◌≡◌, ◌≤◌, ◌<◌, ◌-◌, ◌^◌, ◌↔◌, IfSome, true, ℕ, length};
     ghost use Rattle.responder_core.specs.Setup.{IsSetUp};
     ghost use Rattle.responder_machine.specs.BoundLaws.{messages_of};
@@ -63,7 +63,7 @@ impl Answerer {
     ghost use Rattle.responder_session.specs.OwnAnswers.{IsKeyOfReply};
     ghost use Rattle.spdm_machine.specs.Bodies.{record_body};
     ghost use Rattle.check_responder.specs.AnswerKeys.{IsComing};
-    ghost use Rattle.check_responder.specs.Answerer.{IsAnswerer, history_shown};
+    ghost use Rattle.check_responder.specs.JudgedResponder.{IsAnswerer, history_shown};
     ghost use Rattle.check_laws.specs.AnswersShown.{record_values};
     ghost use Rattle.check_laws.specs.DropsShown.{IsShownAnswer};
     ghost use Rattle.check_responder.specs.RecordAnswers.{IsGivenTo, IsRecordBrought, history_behind};
@@ -123,14 +123,14 @@ impl Answerer {
         self.sends(setup, request, &least_free(), sealed)
     }
 
-    /// What this record brings as the answer to one of which this is had, by what it shows; None where it is not right.
+    /// What this record brings as the answer to one of which this is known, by what it shows; None where it is wrong.
     /// `text` is scratch space. Requires fewer than 2^64 - 1 received messages. After an answer that is not right
     /// nothing is kept.
     pub(crate) fn answers_sealed(
         &mut self,
         setup: &Setup<'_>,
         request: &[u8],
-        coming: &Coming,
+        coming: &PreparedRequest,
         sealed: &[u8],
         text: &mut RecordFrame,
     ) -> Option<Given>

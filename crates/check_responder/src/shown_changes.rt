@@ -1,6 +1,6 @@
-use crate::Answerer;
-use crate::answerer::response_of;
+use crate::JudgedResponder;
 use crate::clear_answers::id_begun;
+use crate::judged_responder::response_of;
 use crate::record_answers::is_repeated;
 use check_laws::{is_clear, rest_of};
 use responder_core::record_id;
@@ -8,7 +8,7 @@ use spdm_grammar::SessionView;
 use spdm_grammar::names::SESSION_PLACES;
 
 // What a right answer shows of what it changes of the table of sessions.
-impl Answerer {
+impl JudgedResponder {
     ghost use Rattle.std.specs.Prelude.{◌≡◌, ◌<◌, ◌^◌, IsSome, drop};
     ghost use Rattle.check_laws.specs.Changes.{views_in};
     ghost use Rattle.check_laws.specs.DropsShown.{id_begun, response_of};
@@ -16,7 +16,7 @@ impl Answerer {
     ghost use Rattle.responder_machine.specs.BoundLaws.{messages_of};
     ghost use Rattle.responder_machine.specs.History.{History};
     ghost use Rattle.responder_machine.specs.Setup.{RspSetup};
-    ghost use Rattle.check_responder.specs.Answerer.{IsAnswerer};
+    ghost use Rattle.check_responder.specs.JudgedResponder.{IsAnswerer};
 
     /// The RspSessionID of the session that an answer begins, if it begins one.
     pub fn begun(&self, tag: u8, body: &[u8], answer: &[u8]) -> Option<u16>

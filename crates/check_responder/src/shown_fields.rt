@@ -5,7 +5,7 @@ ghost use Rattle.responder_machine.specs.Answer.{Free};
 ghost use Rattle.spdm_grammar.specs.Message.{ExchangeMessage, request_message, response_message};
 ghost use Rattle.spdm_grammar.specs.Message.RequestMessage.{GetMeasurements, PskExchange};
 ghost use Rattle.spdm_grammar.specs.Responses.{response_in};
-ghost use Rattle.check_responder.specs.Answerer.{HasShortFields};
+ghost use Rattle.check_responder.specs.JudgedResponder.{HasShortFields};
 ghost use Rattle.check_laws.specs.AnswersShown.{asks_summary, with_fields};
 ghost use Rattle.spdm_grammar.specs.declared.names.TheConstants.{MAX_OPAQUE_LEN};
 

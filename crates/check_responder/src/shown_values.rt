@@ -6,7 +6,7 @@ ghost use Rattle.spdm_basis.specs.Sizes.{hash_size};
 ghost use Rattle.spdm_grammar.specs.Fields.{zeros};
 ghost use Rattle.spdm_grammar.specs.Message.{request_message};
 ghost use Rattle.spdm_grammar.specs.Requests.{request_in};
-ghost use Rattle.check_responder.specs.Answerer.{AreLonger, IsLongerContext, IsLongerOpaque};
+ghost use Rattle.check_responder.specs.JudgedResponder.{AreLonger, IsLongerContext, IsLongerOpaque};
 ghost use Rattle.check_laws.specs.AnswersShown.{lengthened};
 ghost use Rattle.spdm_grammar.specs.declared.names.TheConstants.{MAX_OPAQUE_LEN};
 

@@ -1,4 +1,4 @@
-use crate::Answerer;
+use crate::JudgedResponder;
 use crate::clear_answers::values_are_bounded;
 use crate::clear_values::{chunk_of, clear_values};
 use crate::large_told::brings_large;
@@ -7,7 +7,7 @@ use responder_core::{FreeValues, Setup};
 use spdm_basis::Frame;
 
 // LargeResponse to a clear message, once its whole answer is there.
-impl Answerer {
+impl JudgedResponder {
     ghost use Rattle.std.specs.Prelude.{◌≡◌, ◌<◌, ◌-◌, ◌^◌, ◌↔◌, true, false};
     ghost use Rattle.responder_core.specs.Free.{IsFree};
     ghost use Rattle.responder_core.specs.Setup.{IsSetUp};
@@ -17,7 +17,7 @@ impl Answerer {
     ghost use Rattle.responder_machine.specs.Responder.{after, is_repeat, on_clear};
     ghost use Rattle.responder_machine.specs.Setup.{RspSetup};
     ghost use Rattle.capture_machine.specs.Rounds.{no_draw};
-    ghost use Rattle.check_responder.specs.Answerer.{IsAnswerer};
+    ghost use Rattle.check_responder.specs.JudgedResponder.{IsAnswerer};
     ghost use Rattle.check_responder.specs.ClearAnswers.{IsLongWith};
     ghost use Rattle.check_responder.specs.WholeAnswers.{IsLargeAt, clear_shown};
     ghost use Rattle.check_laws.specs.AnswersShown.{clear_values};

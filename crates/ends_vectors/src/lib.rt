@@ -1,8 +1,10 @@
-//! A requester and a responder that are given each other's packets until the numbers of a key are spent. There is nothing here
-//! but a test.
+//! A requester and a responder that are given each other's packets until the numbers of a key are spent, and a responder
+//! that tells what packets would bring. There is nothing here but tests.
 //!
 //! Read first: `spent_key` in `src/spent_tests.rt`.
 #![tactic(auto)]
 
+#[cfg(test)]
+mod peek_tests;
 #[cfg(test)]
 mod spent_tests;

@@ -16,7 +16,8 @@ mod writing;
 
 pub use kinds::{FrameFault, FrameKind, Kinds};
 pub use laws::stream_is_determined;
+pub use line::LastLine;
 pub use packets::write_packet_frames;
 pub use reader::FrameReader;
-pub use text::{Text, read_text};
+pub use text::{Text, read_text, read_text_to};
 pub use writing::{write_line_frame, write_packet_frame};

@@ -22,7 +22,7 @@ pub struct Drawn {
     pub bytes: [u8; 32],
 }
 
-/// The draw with the last number of 64 bits is the next one, and no other comes after it.
+/// The draw with number `u64::MAX` is the next one, and the last.
 #[derive(Clone, Copy, Debug, PartialEq, Eq, Error)]
 #[error("the draws of the seed are used up")]
 pub struct Spent;

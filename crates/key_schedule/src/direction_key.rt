@@ -1,10 +1,10 @@
 ghost use Rattle.std.specs.Prelude.{◌≡◌, ◌<◌, ◌+◌, ◌-◌, ◌^◌, length};
 ghost use Rattle.spdm_basis.specs.Sizes.{hash_size, key_size};
 ghost use Rattle.running_hash.specs.Hash.{hash_of};
-ghost use Rattle.key_schedule.specs.Schedule.{updated_secret, record_key, record_iv};
+ghost use Rattle.key_schedule.specs.Schedule.{updated_secret, record_key, record_iv, zeros};
 ghost use Rattle.key_schedule.specs.Purpose.{Purpose, IsSecretOf, key_of, iv_of};
 
-use crate::derivation::{derive_into, derive_key, derive_secret};
+use crate::derivation::{derive_into, derive_key, derive_secret, zero_bytes};
 use crate::label::Label;
 use arrayvec::ArrayVec;
 use spdm_basis::{AeadAlg, HashAlg, HashBytes};
@@ -98,7 +98,8 @@ impl DirectionKey {
         self
     }
 
-    /// Steps to the key that follows by a key update, as `next` does, in place. The caller's epoch is below 2^64 - 1.
+    /// Steps to the key that follows by a key update, as `next` does, in place: the old secret, key and initialization
+    /// vector are overwritten. The caller's epoch is below 2^64 - 1.
     #[tactic(auto, unfolding(crate::specs::Schedule::secret_at))]
     pub fn update(&mut self)
         requires { self.old.epoch < 2 ^ 64 - 1 }
@@ -112,6 +113,27 @@ impl DirectionKey {
     {
         let secret = derive_secret(self.hash, &self.secret, Label::Update, &[]);
         *self = DirectionKey::of_secret(self.hash, self.aead, secret, self.epoch + 1);
+    }
+
+    /// The key of a secret of zeros, before any key update: a public constant of the hash function and the AEAD. It
+    /// stands where there is no key.
+    pub fn of_zeros(hash: HashAlg, aead: AeadAlg) -> DirectionKey
+        ensures { result ≡ record {
+          hash = hash;
+          aead = aead;
+          secret = zeros (hash_of hash);
+          epoch = 0;
+        } }
+    {
+        DirectionKey::of_secret(hash, aead, zero_bytes(hash), 0)
+    }
+
+    /// Overwrites the secret by zeros, and the key and the initialization vector by those that come of zeros, as in
+    /// `of_zeros`.
+    pub fn wipe(&mut self)
+        ensures { self.new ≡ record self.old { secret = zeros (hash_of self.old.hash); epoch = 0 } }
+    {
+        *self = DirectionKey::of_zeros(self.hash, self.aead);
     }
 
     /// The key of the records: 16 or 32 bytes, by the AEAD.

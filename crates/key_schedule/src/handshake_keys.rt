@@ -2,7 +2,7 @@ ghost use Rattle.std.specs.Prelude.{◌≡◌, ℕ, List, length};
 ghost use Rattle.spdm_basis.specs.Sizes.{hash_size};
 ghost use Rattle.running_hash.specs.Hash.{hash_of};
 ghost use Rattle.hmac_hkdf.specs.Hmac.{hmac};
-ghost use Rattle.key_schedule.specs.Schedule.{handshake_secret, handshake_direction_secret, verify_data};
+ghost use Rattle.key_schedule.specs.Schedule.{handshake_secret, handshake_direction_secret, verify_data, zeros};
 ghost use Rattle.key_schedule.specs.Purpose.{IsSecretOf, AreSecretsOf, key_of, verify, handshake_record};
 ghost use Rattle.key_schedule.specs.declared.direction.Direction.TheVariants.{Request, Response};
 
@@ -129,6 +129,38 @@ impl HandshakeKeys {
             → IsSecretOf result (handshake_record psk t1 Response) }
     {
         DirectionKey::of_secret(self.hash, self.aead, self.response.clone().unwrap(), 0)
+    }
+
+    /// Three secrets of zeros, which stand where there is no handshake.
+    pub fn of_zeros(hash: HashAlg, aead: AeadAlg) -> HandshakeKeys
+        ensures { result ≡ record {
+          hash = hash;
+          aead = aead;
+          handshake = zeros (hash_of hash);
+          request = zeros (hash_of hash);
+          response = zeros (hash_of hash);
+        } }
+    {
+        HandshakeKeys {
+            hash,
+            aead,
+            handshake: zero_bytes(hash),
+            request: zero_bytes(hash),
+            response: zero_bytes(hash),
+        }
+    }
+
+    /// Overwrites the three secrets by zeros.
+    pub fn wipe(&mut self)
+        ensures { self.new ≡ record self.old {
+          handshake = zeros (hash_of self.old.hash);
+          request = zeros (hash_of self.old.hash);
+          response = zeros (hash_of self.old.hash);
+        } }
+    {
+        self.handshake = zero_bytes(self.hash);
+        self.request = zero_bytes(self.hash);
+        self.response = zero_bytes(self.hash);
     }
 
     // The hash function.

@@ -4,7 +4,7 @@ use Rattle.std.proofs.lemmas.Option.{none-some, same_Some}
 use Rattle.std.specs.List.{AllByRecursion, position_from}
 use Rattle.std.specs.Prelude.{◌==◌}
 use Rattle.link_world.specs.Standing.{AreApart, AreAskers, AreEnds, IsAsker, eids_of, has_eid}
-use Rattle.link_world.specs.declared.ends.Asker.{Asker}
+use Rattle.link_world.specs.declared.ends.AddressedRequester.{AddressedRequester}
 use Rattle.link_world.specs.declared.ends.Ends.{Ends}
 use Rattle.requester_machine.specs.Requesting.{Requesting}
 use Rattle.world_machine.specs.World.{World, is_at, number_from, replaced, requester_at, requester_of, with_requester}
@@ -13,7 +13,7 @@ abbrev pub eid_of : Requesting → ℕ
 eid_of a = a.setup.eid
 
 -- Requesters with other endpoints stay.
-others_stay : (new : Requesting) (xs : List Asker) (rs : List Requesting) (eid : ℕ) → eid_of new ≡ eid → AllByRecursion (λ (b : Requesting). b.setup.eid ≢ eid) rs → AreAskers xs rs → AreAskers xs (with_requester new rs)
+others_stay : (new : Requesting) (xs : List AddressedRequester) (rs : List Requesting) (eid : ℕ) → eid_of new ≡ eid → AllByRecursion (λ (b : Requesting). b.setup.eid ≢ eid) rs → AreAskers xs rs → AreAskers xs (with_requester new rs)
 others_stay new [] [] eid same apart are = tt
 others_stay new [] (a ∷ rs) eid same apart are = absurd are
 others_stay new (x ∷ xs) [] eid same apart are = absurd are
@@ -23,17 +23,17 @@ others_stay new (x ∷ xs) (a ∷ rs) eid same apart are = (
 )
 
 -- The requester at a place, and what becomes of all where it has changed.
-pub record Hit (k : ℕ) (xs : List Asker) (rs : List Requesting) : Type 0 where
-  pub seen : Asker
-  pub there : (e : Asker) → get_or xs k e ≡ seen
+pub record Hit (k : ℕ) (xs : List AddressedRequester) (rs : List Requesting) : Type 0 where
+  pub seen : AddressedRequester
+  pub there : (e : AddressedRequester) → get_or xs k e ≡ seen
   pub a : Requesting
   pub at : requester_at k rs ≡ Some a
   pub stands : IsAsker seen a
   pub found : find (is_at (eid_of a)) rs ≡ Some a
   pub number : (n : ℕ) → number_from n (eid_of a) rs ≡ n + k
-  pub change : (new : Asker) (b : Requesting) → eid_of b ≡ eid_of a → IsAsker new b → AreAskers (slice_set xs k new) (with_requester b rs)
+  pub change : (new : AddressedRequester) (b : Requesting) → eid_of b ≡ eid_of a → IsAsker new b → AreAskers (slice_set xs k new) (with_requester b rs)
 
-first_hit : (x : Asker) (xs : List Asker) (a : Requesting) (rs : List Requesting) → AreAskers (x ∷ xs) (a ∷ rs) → AreApart (a ∷ rs) → Hit 0 (x ∷ xs) (a ∷ rs)
+first_hit : (x : AddressedRequester) (xs : List AddressedRequester) (a : Requesting) (rs : List Requesting) → AreAskers (x ∷ xs) (a ∷ rs) → AreApart (a ∷ rs) → Hit 0 (x ∷ xs) (a ∷ rs)
 first_hit x xs a rs are apart = record {
   seen = x;
   there = λ e. refl;
@@ -54,7 +54,7 @@ behind_first k [] a b is apart = absurd (none-some b is)
 behind_first zero (c ∷ rs) a b is apart = subst (λ (d : Requesting). eid_of d ≢ eid_of a) (same_Some c b is) apart.0
 behind_first (suc k) (c ∷ rs) a b is apart = behind_first k rs a b is apart.1
 
-later_hit : (k : ℕ) (x : Asker) (xs : List Asker) (a : Requesting) (rs : List Requesting) → AreAskers (x ∷ xs) (a ∷ rs) → AreApart (a ∷ rs) → Hit k xs rs → Hit (suc k) (x ∷ xs) (a ∷ rs)
+later_hit : (k : ℕ) (x : AddressedRequester) (xs : List AddressedRequester) (a : Requesting) (rs : List Requesting) → AreAskers (x ∷ xs) (a ∷ rs) → AreApart (a ∷ rs) → Hit k xs rs → Hit (suc k) (x ∷ xs) (a ∷ rs)
 later_hit k x xs a rs are apart hit =
     let other : eid_of hit.a ≢ eid_of a = behind_first k rs a hit.a hit.at apart.0 in
     let differs : eid_of a ≢ eid_of hit.a = λ e. other (sym e) in
@@ -72,7 +72,7 @@ later_hit k x xs a rs are apart hit =
       );
     }
 
-pub hit : (k : ℕ) (xs : List Asker) (rs : List Requesting) → k < length xs → AreAskers xs rs → AreApart rs → Hit k xs rs
+pub hit : (k : ℕ) (xs : List AddressedRequester) (rs : List Requesting) → k < length xs → AreAskers xs rs → AreApart rs → Hit k xs rs
 hit k [] rs inside are apart = absurd (omega (arith, inside))
 hit k (x ∷ xs) [] inside are apart = absurd are
 hit zero (x ∷ xs) (a ∷ rs) inside are apart = first_hit x xs a rs are apart
@@ -80,7 +80,7 @@ hit (suc k) (x ∷ xs) (a ∷ rs) inside are apart = later_hit k x xs a rs are a
 
 -- ---- Where no requester is.
 
-pub none_at : (k : ℕ) (xs : List Asker) (rs : List Requesting) → length xs ≤ k → AreAskers xs rs → requester_at k rs ≡ None
+pub none_at : (k : ℕ) (xs : List AddressedRequester) (rs : List Requesting) → length xs ≤ k → AreAskers xs rs → requester_at k rs ≡ None
 none_at k [] [] outside are = refl
 none_at k [] (a ∷ rs) outside are = absurd are
 none_at k (x ∷ xs) [] outside are = absurd are
@@ -90,13 +90,13 @@ none_at (suc k) (x ∷ xs) (a ∷ rs) outside are = none_at k xs rs (omega (arit
 -- ---- By end points.
 
 -- The place that was found.
-pub record Placed (eid n i : ℕ) (xs : List Asker) : Type 0 where
+pub record Placed (eid n i : ℕ) (xs : List AddressedRequester) : Type 0 where
   pub k : ℕ
   pub is : i ≡ n + k
   pub inside : k < length xs
-  pub own : (e : Asker) → (get_or xs k e).eid.number ≡ eid
+  pub own : (e : AddressedRequester) → (get_or xs k e).eid.number ≡ eid
 
-pub placed : (eid n i : ℕ) (xs : List Asker) → position_from (has_eid eid) n xs ≡ Some i → Placed eid n i xs
+pub placed : (eid n i : ℕ) (xs : List AddressedRequester) → position_from (has_eid eid) n xs ≡ Some i → Placed eid n i xs
 placed eid n i [] is = absurd (none-some i is)
 placed eid n i (x ∷ xs) is = go (has_eid eid x) refl is (placed eid (n + 1) i xs)
   where
@@ -110,7 +110,7 @@ placed eid n i (x ∷ xs) is = go (has_eid eid x) refl is (placed eid (n + 1) i 
         let inside = p.inside in
         record { k = suc p.k; is = omega (arith, is); inside = omega (arith, inside); own = p.own }
 
-none_by : (eid n : ℕ) (x : Asker) (xs : List Asker) (b : Bool) → has_eid eid x ≡ b → cond b (Some n) (position_from (has_eid eid) (n + 1) xs) ≡ None → (has_eid eid x ≡ false) × (position_from (has_eid eid) (n + 1) xs ≡ None)
+none_by : (eid n : ℕ) (x : AddressedRequester) (xs : List AddressedRequester) (b : Bool) → has_eid eid x ≡ b → cond b (Some n) (position_from (has_eid eid) (n + 1) xs) ≡ None → (has_eid eid x ≡ false) × (position_from (has_eid eid) (n + 1) xs ≡ None)
 none_by eid n x xs true e none = absurd (none-some n (sym none))
 none_by eid n x xs false e none = (e, none)
 
@@ -118,7 +118,7 @@ pub record Unplaced (eid : ℕ) (rs : List Requesting) : Type 0 where
   pub found : find (is_at eid) rs ≡ None
   pub number : (n : ℕ) → number_from n eid rs ≡ 0
 
-pub unplaced : (eid n : ℕ) (xs : List Asker) (rs : List Requesting) → AreAskers xs rs → position_from (has_eid eid) n xs ≡ None → Unplaced eid rs
+pub unplaced : (eid n : ℕ) (xs : List AddressedRequester) (rs : List Requesting) → AreAskers xs rs → position_from (has_eid eid) n xs ≡ None → Unplaced eid rs
 unplaced eid n [] [] are none = record { found = refl; number = λ m. refl }
 unplaced eid n [] (a ∷ rs) are none = absurd are
 unplaced eid n (x ∷ xs) [] are none = absurd are
@@ -163,7 +163,7 @@ still_apart new (a ∷ rs) apart = (
 
 -- ---- A place that was found by an end point.
 
-pub same_length : (xs : List Asker) (rs : List Requesting) → AreAskers xs rs → length xs ≡ length rs
+pub same_length : (xs : List AddressedRequester) (rs : List Requesting) → AreAskers xs rs → length xs ≡ length rs
 same_length [] [] are = refl
 same_length [] (a ∷ rs) are = absurd are
 same_length (x ∷ xs) [] are = absurd are
@@ -176,18 +176,18 @@ few_places k ends w e inside =
     let few = e.few in
     omega (arith, same, few, inside)
 
-pub record Found (eid i : ℕ) (xs : List Asker) (rs : List Requesting) : Type 0 where
+pub record Found (eid i : ℕ) (xs : List AddressedRequester) (rs : List Requesting) : Type 0 where
   pub inside : i < length xs
   pub hit_is : Hit i xs rs
   pub own : eid_of hit_is.a ≡ eid
   pub found : find (is_at eid) rs ≡ Some hit_is.a
   pub number : number_from 1 eid rs ≡ i + 1
 
-found_by : (eid i k : ℕ) (xs : List Asker) (rs : List Requesting) → AreAskers xs rs → AreApart rs → k ≡ i → k < length xs → ((e : Asker) → (get_or xs k e).eid.number ≡ eid) → Found eid i xs rs
+found_by : (eid i k : ℕ) (xs : List AddressedRequester) (rs : List Requesting) → AreAskers xs rs → AreApart rs → k ≡ i → k < length xs → ((e : AddressedRequester) → (get_or xs k e).eid.number ≡ eid) → Found eid i xs rs
 found_by eid i k xs rs are apart same inside own =
     let at : i < length xs = omega (arith, same, inside) in
     let h = hit i xs rs at are apart in
-    let its : eid_of h.a ≡ eid = h.stands.eid ∙ ap (λ (x : Asker). x.eid.number) (sym (h.there h.seen) ∙ ap (λ (n : ℕ). get_or xs n h.seen) (sym same)) ∙ own h.seen in
+    let its : eid_of h.a ≡ eid = h.stands.eid ∙ ap (λ (x : AddressedRequester). x.eid.number) (sym (h.there h.seen) ∙ ap (λ (n : ℕ). get_or xs n h.seen) (sym same)) ∙ own h.seen in
     record {
       inside = at;
       hit_is = h;
@@ -196,7 +196,7 @@ found_by eid i k xs rs are apart same inside own =
       number = ap (λ (e : ℕ). number_from 1 e rs) (sym its) ∙ h.number 1 ∙ omega arith;
     }
 
-pub found_at : (eid i : ℕ) (xs : List Asker) (rs : List Requesting) → AreAskers xs rs → AreApart rs → position_from (has_eid eid) 0 xs ≡ Some i → Found eid i xs rs
+pub found_at : (eid i : ℕ) (xs : List AddressedRequester) (rs : List Requesting) → AreAskers xs rs → AreApart rs → position_from (has_eid eid) 0 xs ≡ Some i → Found eid i xs rs
 found_at eid i xs rs are apart is =
     let p = placed eid 0 i xs is in
     let at = p.is in

@@ -3,7 +3,7 @@ use Rattle.std.proofs.Common.{refl, ◌≡◌, ◌∙◌, ◌≤◌, ℕ, List, 
 use Rattle.std.specs.Prelude.{◌==◌, ◌||◌, not, if◌then◌else◌, Result, Ok, Err}
 use Rattle.link_world.proofs.Askers.{Hit, eid_of, length_with, same_eids, still_apart}
 use Rattle.link_world.specs.Standing.{AreAskers, AreEnds, IsAsker, counted, peers_of, taken_in}
-use Rattle.link_world.specs.declared.ends.Asker.{Asker}
+use Rattle.link_world.specs.declared.ends.AddressedRequester.{AddressedRequester}
 use Rattle.link_world.specs.declared.ends.Ends.{Ends}
 use Rattle.mctp_framing.specs.Cutting.{RouteFields}
 use Rattle.mctp_framing.specs.Gathering.{Gathered}
@@ -70,7 +70,7 @@ pub responder_changed : (w : World) (old new : Ends) (after : Responding) (sent 
     → answering.StandsFor new.responder after → after.part ≡ w.responder.part → peers_of after.connections ≡ peers_of w.responder.connections
     → new.taken ≡ counted (taken_in w.requesters after.connections) → AreEnds new (record { requesters = w.requesters; responder = after; sent = sent; log = log })
 responder_changed w old new after sent log e same eid stands part peers taken = record {
-  requesters = subst (λ (l : List Asker). AreAskers l w.requesters) (sym same) e.requesters;
+  requesters = subst (λ (l : List AddressedRequester). AreAskers l w.requesters) (sym same) e.requesters;
   apart = e.apart;
   few = e.few;
   eid = ap (λ (p : RspPart). p.eid) part ∙ e.eid ∙ ap (λ (n : Eid). n.number) (sym eid);
@@ -80,12 +80,12 @@ responder_changed w old new after sent log e same eid stands part peers taken = 
 }
 
 -- The requester at a place has changed.
-pub requester_changed : (w : World) (k : ℕ) (old new : Ends) (asker : Asker) (b : Requesting) (sent : List SentPacket) (log : Log) → AreEnds old w → (h : Hit k old.requesters.items w.requesters)
+pub requester_changed : (w : World) (k : ℕ) (old new : Ends) (asker : AddressedRequester) (b : Requesting) (sent : List SentPacket) (log : Log) → AreEnds old w → (h : Hit k old.requesters.items w.requesters)
     → new.requesters.items ≡ slice_set old.requesters.items k asker → new.eid ≡ old.eid → new.responder ≡ old.responder → eid_of b ≡ eid_of h.a → IsAsker asker b
     → new.taken ≡ counted (taken_in (with_requester b w.requesters) w.responder.connections)
     → AreEnds new (record { requesters = with_requester b w.requesters; responder = w.responder; sent = sent; log = log })
 requester_changed w k old new asker b sent log e h items eid same own stands taken = record {
-  requesters = subst (λ (l : List Asker). AreAskers l (with_requester b w.requesters)) (sym items) (h.change asker b own stands);
+  requesters = subst (λ (l : List AddressedRequester). AreAskers l (with_requester b w.requesters)) (sym items) (h.change asker b own stands);
   apart = still_apart b w.requesters e.apart;
   few = subst (λ (n : ℕ). n ≤ 8) (sym (length_with b w.requesters)) e.few;
   eid = e.eid ∙ ap (λ (n : Eid). n.number) (sym eid);

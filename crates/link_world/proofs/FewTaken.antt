@@ -2,7 +2,7 @@
 use Rattle.std.proofs.Common.{◌≡◌, ◌≤◌, ◌+◌, ◌*◌, ◌∷◌, [], ℕ, suc, List, Bool, true, false, length, arith}
 use Rattle.std.specs.Prelude.{if◌then◌else◌, is_some}
 use Rattle.link_world.specs.Standing.{AreAskers, AreEnds, counted, taken_in}
-use Rattle.link_world.specs.declared.ends.Asker.{Asker}
+use Rattle.link_world.specs.declared.ends.AddressedRequester.{AddressedRequester}
 use Rattle.link_world.specs.declared.ends.Ends.{Ends}
 use Rattle.requester_machine.specs.History as asking
 use Rattle.requester_machine.specs.Requesting.{Requesting}
@@ -30,7 +30,7 @@ asked_few : (h : asking.History) → shown.all_taken h ≤ length h
 asked_few [] = omega arith
 asked_few (entry ∷ older) = one_at_most (is_some (shown.bytes_in (shown.effect_in entry))) (shown.all_taken older) (length older) (asked_few older)
 
-askers_few : (xs : List Asker) (all : List Requesting) → AreAskers xs all → over_requesters (λ (a : Requesting). shown.all_taken a.history) all ≤ length all * wear_limit
+askers_few : (xs : List AddressedRequester) (all : List Requesting) → AreAskers xs all → over_requesters (λ (a : Requesting). shown.all_taken a.history) all ≤ length all * wear_limit
 askers_few [] [] are = omega arith
 askers_few [] (a ∷ others) are = absurd are
 askers_few (x ∷ rest) [] are = absurd are

@@ -12,7 +12,7 @@ use Rattle.link_world.proofs.Telling.{responder_tells}
 use Rattle.link_world.specs.Standing.{AreEnds, IsAsker, IsDone, IsGivenTo, counted, taken_in}
 use Rattle.link_world.specs.Told.{heard_data, heard_lines, is_taken}
 use Rattle.link_world.specs.Written.{has_full, text_of}
-use Rattle.link_world.specs.declared.ends.Asker.{Asker}
+use Rattle.link_world.specs.declared.ends.AddressedRequester.{AddressedRequester}
 use Rattle.link_world.specs.declared.ends.Ends.{Ends}
 use Rattle.requester.specs.Standing as asking
 use Rattle.requester_machine.proofs.SetUpKept.{given_setup, told_setup}
@@ -88,12 +88,12 @@ fault_is (Ok done) = refl
 fault_is (Err fault) = refl
 
 -- The asker at a place has changed.
-pub record IsRenewed (k : ℕ) (old new : Ends) (asker : Asker) : Type 0 where
+pub record IsRenewed (k : ℕ) (old new : Ends) (asker : AddressedRequester) : Type 0 where
   pub items : new.requesters.items ≡ slice_set old.requesters.items k asker
   pub eid : new.eid ≡ old.eid
   pub responder : new.responder ≡ old.responder
 
-module _ (w : World) (k : ℕ) (old new : Ends) (asker : Asker) (e : AreEnds old w) (h : Hit k old.requesters.items w.requesters) (r : IsRenewed k old new asker) (same : asker.eid ≡ h.seen.eid) where
+module _ (w : World) (k : ℕ) (old new : Ends) (asker : AddressedRequester) (e : AreEnds old w) (h : Hit k old.requesters.items w.requesters) (r : IsRenewed k old new asker) (same : asker.eid ≡ h.seen.eid) where
   renewed : (after : Requesting) → after.setup ≡ h.a.setup → asking.StandsFor asker.requester after → IsAsker asker after
   renewed after setup stands = record {
     eid = ap (λ (s : ReqSetup). s.eid) setup ∙ h.stands.eid ∙ ap (λ (n : Eid). n.number) (sym same);

@@ -10,7 +10,7 @@ use Rattle.script_ends.specs.Configured.{HasRequesterFault, HasResponderFault, I
 use Rattle.link_world.specs.Configured.{IsCause, HaveFirstFault, HaveNoFault}
 use Rattle.link_world.specs.Making.{AreAskersFault, IsAskerFault, of_requester, of_responder}
 use Rattle.link_world.specs.Standing.{AreApart, AreAskers, IsAsker, counted, eids_of, peers_of, taken_in}
-use Rattle.link_world.specs.declared.ends.Asker.{Asker}
+use Rattle.link_world.specs.declared.ends.AddressedRequester.{AddressedRequester}
 use Rattle.link_world.specs.declared.fault.WorldFault.{WorldFault}
 use Rattle.link_world.specs.declared.fault.WorldFault.TheVariants as world
 use Rattle.requester.specs.declared.fault.ReqConfigFault.{ReqConfigFault}
@@ -126,7 +126,7 @@ none_behind responder (p ∷ qs) q none own = (none.0, none_behind responder qs 
 pub sound_more : (responder i : ℕ) (qs : List ReqPart) (q : ReqPart) → i < length qs → q ≡ get_or qs i q → HaveNoFault responder (take i qs) → HasRequesterFault responder q None → HaveNoFault responder (take (i + 1) qs)
 sound_more responder i qs q inside is none own = subst (λ (l : List ReqPart). HaveNoFault responder l) (sym (take_more i qs q inside is)) (none_behind responder (take i qs) q none own)
 
-are_behind : (xs : List Asker) (all : List Requesting) (x : Asker) (a : Requesting) → AreAskers xs all → IsAsker x a → AreAskers (xs ++ x ∷ []) (all ++ a ∷ [])
+are_behind : (xs : List AddressedRequester) (all : List Requesting) (x : AddressedRequester) (a : Requesting) → AreAskers xs all → IsAsker x a → AreAskers (xs ++ x ∷ []) (all ++ a ∷ [])
 are_behind [] [] x a are own = (own, tt)
 are_behind [] (b ∷ all) x a are own = absurd are
 are_behind (y ∷ xs) [] x a are own = absurd are
@@ -142,7 +142,7 @@ module _ (responder : ℕ) (seed : List ℕ) (boot : ℕ) where
       let same : n + 1 + length qs ≡ n + length (p ∷ qs) = omega arith in
       ap (λ (l : List Requesting). one n p ∷ l) (made_more (n + 1) qs q ∙ ap (λ (m : ℕ). made responder seed boot (n + 1) qs ++ one m q ∷ []) same)
 
-  pub askers_more : (i number : ℕ) (qs : List ReqPart) (q : ReqPart) (xs : List Asker) (x : Asker) → i < length qs → q ≡ get_or qs i q → number ≡ i + 1 → AreAskers xs (map new_requesting (ends_from 1 seed boot (map (requester_in responder) (take i qs))))
+  pub askers_more : (i number : ℕ) (qs : List ReqPart) (q : ReqPart) (xs : List AddressedRequester) (x : AddressedRequester) → i < length qs → q ≡ get_or qs i q → number ≡ i + 1 → AreAskers xs (map new_requesting (ends_from 1 seed boot (map (requester_in responder) (take i qs))))
       → IsAsker x (new_requesting (record { setup = requester_in responder q; seed = requester_seed seed number; first = first_draw boot })) → AreAskers (xs ++ x ∷ []) (map new_requesting (ends_from 1 seed boot (map (requester_in responder) (take (i + 1) qs))))
   askers_more i number qs q xs x inside is numbered are own =
       let long = length_take i qs inside in

@@ -6,7 +6,7 @@ use Rattle.std.specs.Option.{option_map}
 use Rattle.link_world.proofs.Texts.{has_behind}
 use Rattle.link_world.specs.Showing.{asker_lines}
 use Rattle.link_world.specs.Standing.{AreAskers, IsAsker}
-use Rattle.link_world.specs.declared.ends.Asker.{Asker}
+use Rattle.link_world.specs.declared.ends.AddressedRequester.{AddressedRequester}
 use Rattle.link_world.specs.Written.{has_full}
 use Rattle.requester_machine.specs.Shown as shown
 use Rattle.responder.specs.Standing.{views_at}
@@ -82,16 +82,16 @@ towards_lines n (Some d) phase views shown are =
     ∙ ap (λ (l : List SessionView). State (Whose.Responder n) (phase_of (clear_turns d.history)) ∷ session_lines (Whose.Responder n) l) are
 
 -- The requester at a place.
-pub record IsThere (i : ℕ) (x : Asker) (all : List Requesting) : Type 0 where
+pub record IsThere (i : ℕ) (x : AddressedRequester) (all : List Requesting) : Type 0 where
   pub a : Requesting
   pub at : requester_at i all ≡ Some a
   pub stands : IsAsker x a
   pub inside : i < length all
 
-pub is_there : (i : ℕ) (xs : List Asker) (all : List Requesting) (x : Asker) → i < length xs → x ≡ get_or xs i x → AreAskers xs all → IsThere i x all
+pub is_there : (i : ℕ) (xs : List AddressedRequester) (all : List Requesting) (x : AddressedRequester) → i < length xs → x ≡ get_or xs i x → AreAskers xs all → IsThere i x all
 is_there i [] all x inside is are = absurd (omega (arith, inside))
 is_there i (y ∷ xs) [] x inside is are = absurd are
-is_there zero (y ∷ xs) (a ∷ all) x inside is are = record { a = a; at = refl; stands = subst (λ (e : Asker). IsAsker e a) (sym is) are.0; inside = omega arith }
+is_there zero (y ∷ xs) (a ∷ all) x inside is are = record { a = a; at = refl; stands = subst (λ (e : AddressedRequester). IsAsker e a) (sym is) are.0; inside = omega arith }
 is_there (suc i) (y ∷ xs) (a ∷ all) x inside is are =
     let t = is_there i xs all x (omega (arith, inside)) is are.1 in
     let more = t.inside in
@@ -112,7 +112,7 @@ module _ (r : Responding) (i q eid : ℕ) (all : List Requesting) (a : Requestin
 pub next_number : (q i n : ℕ) → q ≡ i → i < n → n ≤ 8 → (q + 1) % 256 ≡ i + 1
 next_number q i n is inside few = omega (arith, is, inside, few)
 
-pub all_there : (i : ℕ) (xs : List Asker) (all : List Requesting) → AreAskers xs all → length xs ≤ i → take i all ≡ all
+pub all_there : (i : ℕ) (xs : List AddressedRequester) (all : List Requesting) → AreAskers xs all → length xs ≤ i → take i all ≡ all
 all_there zero [] [] are end = refl
 all_there (suc i) [] [] are end = refl
 all_there i [] (a ∷ all) are end = absurd are

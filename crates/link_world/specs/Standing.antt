@@ -2,7 +2,7 @@
 use Rattle.std.specs.Prelude.{◌≡◌, ◌≢◌, ◌≤◌, ◌+◌, ◌-◌, ◌^◌, ◌==◌, ◌++◌, min, ℕ, List, [], ◌∷◌, length, map, Bool, true, false, Option, Some, None, Result, Ok, Err}
 use Rattle.std.specs.List.{AllByRecursion}
 use Rattle.link_world.specs.Written.{before_full, has_full, text_of}
-use Rattle.link_world.specs.declared.ends.Asker.{Asker}
+use Rattle.link_world.specs.declared.ends.AddressedRequester.{AddressedRequester}
 use Rattle.link_world.specs.declared.ends.Ends.{Ends}
 use Rattle.link_world.specs.declared.link.Link.{Link}
 use Rattle.link_world.specs.declared.sent.SendFault.{SendFault}
@@ -20,19 +20,19 @@ use Rattle.world_machine.specs.Trace.{packets_max}
 use Rattle.world_machine.specs.World.{World, WorldStep, packet_lines, with_sent}
 
 -- A requester and its endpoint.
-pub record IsAsker (seen : Asker) (a : Requesting) : Type 0 where
+pub record IsAsker (seen : AddressedRequester) (a : Requesting) : Type 0 where
   pub eid : a.setup.eid ≡ seen.eid.number
   pub stands : asking.StandsFor seen.requester a
 
 -- All of them, in order.
-abbrev pub AreAskers : List Asker → List Requesting → Type 0
+abbrev pub AreAskers : List AddressedRequester → List Requesting → Type 0
 AreAskers [] [] = Unit {0}
 AreAskers [] (a ∷ others) = ⊥
 AreAskers (x ∷ rest) [] = ⊥
 AreAskers (x ∷ rest) (a ∷ others) = IsAsker x a × AreAskers rest others
 
 -- A requester has this endpoint.
-abbrev pub has_eid : ℕ → Asker → Bool
+abbrev pub has_eid : ℕ → AddressedRequester → Bool
 has_eid eid x = x.eid.number == eid
 
 -- The endpoints of the requesters differ.

@@ -6,7 +6,7 @@ use spdm_basis::Eid;
 
 /// A requester and its endpoint ID.
 #[derive(Drop)]
-pub struct Asker {
+pub struct AddressedRequester {
     pub(crate) eid: Eid,
     pub(crate) requester: Requester,
 }
@@ -14,7 +14,7 @@ pub struct Asker {
 /// The endpoints of a world: the requesters, in order, and the responder.
 #[derive(Drop)]
 pub struct Ends {
-    pub(crate) requesters: Vec<Asker>,
+    pub(crate) requesters: Vec<AddressedRequester>,
     /// The endpoint ID of the responder.
     pub(crate) eid: Eid,
     pub(crate) responder: Responder,

@@ -9,7 +9,7 @@ ghost use Rattle.responder_machine.specs.Responding.{new_responding};
 ghost use Rattle.world_machine.specs.Setup.{ends_from, requester_seed, script_world};
 ghost use Rattle.world_machine.specs.World.{new_world};
 
-use crate::ends::{Asker, Ends};
+use crate::ends::{AddressedRequester, Ends};
 use crate::link::Link;
 use crate::{SentPackets, WorldFault};
 use hmac_hkdf::hmac;
@@ -75,7 +75,7 @@ fn asker_of(
     number: u8,
     seed: &[u8; 32],
     boot: u32,
-) -> Result<Asker, WorldFault>
+) -> Result<AddressedRequester, WorldFault>
     requires { boot ≤ 2 ^ 24 - 2 }
     ensures stands { IfOk result (λ asker. IsAsker asker (new_requesting
         (requester_end responder.number q.now (requester_seed seed.now number) boot))) }
@@ -83,7 +83,7 @@ fn asker_of(
     ensures fault { IfErr result (λ fault. IsAskerFault responder.number q.now fault) }
 {
     match make_requester(alloc, responder, q, hmac(seed, &[0x71, number]), boot) {
-        Ok(requester) => Ok(Asker {
+        Ok(requester) => Ok(AddressedRequester {
             eid: q.eid,
             requester,
         }),
@@ -98,7 +98,7 @@ fn askers_of(
     requesters: &[ReqPart],
     seed: &[u8; 32],
     boot: u32,
-) -> Result<Vec<Asker>, WorldFault>
+) -> Result<Vec<AddressedRequester>, WorldFault>
     requires few { length requesters.now ≤ 8 }
     requires boot { boot ≤ 2 ^ 24 - 2 }
     ensures stands { IfOk result (λ askers. AreAskers askers.items (map new_requesting

@@ -10,7 +10,7 @@ ghost use Rattle.spdm_basis.specs.Stream.{HasFault, Takes, TakesPrefix};
 ghost use Rattle.spdm_grammar.specs.Lines.Line.{Session, State};
 ghost use Rattle.world_machine.specs.World.{connection_lines, session_lines};
 
-use crate::ends::{Asker, Ends};
+use crate::ends::{AddressedRequester, Ends};
 use responder::Responder;
 use script_text::{line_session, line_state};
 use spdm_basis::{Eid, Line, OutFault, Sink, write_all};
@@ -70,7 +70,7 @@ fn show_sessions<K: Sink>(
 }
 
 // Writes the phase and the sessions of requester `q`.
-fn show_asker<K: Sink>(q: u8, asker: &Asker, sink: &mut K) -> Result<(), OutFault>
+fn show_asker<K: Sink>(q: u8, asker: &AddressedRequester, sink: &mut K) -> Result<(), OutFault>
     ensures whole { (a : Requesting) → IsAsker asker.now a → OnOk result
         (Takes (K.contents sink.old) (text_of (asker_lines q a)) (K.contents sink.new)) }
     ensures prefix { (a : Requesting) → IsAsker asker.now a → OnErr result

@@ -8,7 +8,7 @@ ghost use Rattle.responder.specs.Standing as answering;
 ghost use Rattle.responder_machine.specs.Responding.{Responding};
 ghost use Rattle.spdm_machine.specs.Sessions.{is_past_handshake, one_if};
 
-use crate::ends::{Asker, Ends};
+use crate::ends::{AddressedRequester, Ends};
 use responder::Responder;
 use spdm_grammar::{Event, Finished, Heard, SessionView, Stage};
 
@@ -61,7 +61,7 @@ fn held_in(views: &[SessionView]) -> u32
 }
 
 // How many sessions a requester holds open, and the responder with it.
-fn held_with(asker: &Asker, responder: &Responder) -> u32
+fn held_with(asker: &AddressedRequester, responder: &Responder) -> u32
     ensures { (a : Requesting) (r : Responding) → IsAsker asker.now a
         → answering.StandsFor responder.now r → result ≡ live_with a r.connections }
 {

@@ -7,3 +7,4 @@ pub mod Answers
 pub mod Spans
 pub mod CutAndGather
 pub mod Lending
+pub mod Completing

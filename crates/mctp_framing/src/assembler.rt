@@ -18,10 +18,10 @@ use std::marker::Model;
 /// body. In contracts, an `Assembly`.
 #[derive(Drop)]
 pub struct Assembler {
-    own: Eid,
-    peer: Eid,
-    unfinished: Option<Unfinished>,
-    body: BodyBuffer,
+    pub(crate) own: Eid,
+    pub(crate) peer: Eid,
+    pub(crate) unfinished: Option<Unfinished>,
+    pub(crate) body: BodyBuffer,
 }
 
 impl Model for Assembler {
@@ -96,7 +96,7 @@ impl Assembler {
     }
 
     // The route of a packet for the own endpoint and from the peer.
-    fn route(&self, packet: PacketView<'_>) -> Route
+    pub(crate) fn route(&self, packet: PacketView<'_>) -> Route
         requires { packet.tag < 8 }
         ensures { route_of result ≡ record {
           to = self.now.receiver.own;

@@ -7,6 +7,7 @@
 
 mod assembler;
 mod body_buffer;
+mod completing;
 mod cutter;
 mod laws;
 mod packet;
@@ -15,6 +16,7 @@ mod route;
 mod unfinished;
 
 pub use assembler::{Assembler, Fed};
+pub use completing::Completing;
 pub use cutter::{Cutter, PacketBuf, cut};
 pub use laws::{
     cut_is_gathered, first_packet_begins_anew, others_count_in_nothing, packets_fit,

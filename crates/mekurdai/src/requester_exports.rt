@@ -13,7 +13,7 @@ ghost use Rattle.c_ends.specs.Showing.{phase_code, shown};
 ghost use Rattle.requester_machine.specs.History.{phase_of};
 ghost use Rattle.requester_machine.specs.Shown.{last_data, views_of};
 
-use c_ends::{RequesterConfig, RequesterHandle, Session, Told};
+use c_ends::{PacketOutcome, RequesterConfig, RequesterHandle, Session};
 use std::alloc::Global;
 
 /// Opens a requester. Takes all the memory that it will ever have. After any answer but `OK` the handle holds what
@@ -68,7 +68,7 @@ pub extern "C" fn spdm_requester_on_packet(
     requester: &mut RequesterHandle,
     alloc: Global,
     packet: &[u8],
-    told: &mut Told,
+    told: &mut PacketOutcome,
 ) -> u32
     ensures step { (a : Requesting) (sends : List (List ℕ))
         → HoldsRequester requester.old.kept.held a sends

@@ -14,7 +14,7 @@ ghost use Rattle.std.specs.Option.{option_map};
 ghost use Rattle.c_ends.specs.Showing.{phase_code, shown};
 ghost use Rattle.responder_machine.specs.History.{clear_turns, phase_of};
 
-use c_ends::{Block, KnownRequester, ResponderConfig, ResponderHandle, Session, Told};
+use c_ends::{Block, KnownRequester, PacketOutcome, ResponderConfig, ResponderHandle, Session};
 use std::alloc::Global;
 
 /// Opens a responder. Takes all the memory that it will ever have. After any answer but `OK` the handle holds what
@@ -48,7 +48,7 @@ pub extern "C" fn spdm_responder_on_packet(
     responder: &mut ResponderHandle,
     alloc: Global,
     packet: &[u8],
-    told: &mut Told,
+    told: &mut PacketOutcome,
 ) -> u32
     ensures step { (r : Responding) (sends : List (List ℕ))
         → HoldsResponder responder.old.kept.held r sends

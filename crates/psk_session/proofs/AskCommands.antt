@@ -15,9 +15,9 @@ use Rattle.spdm_basis.specs.Tests.{first_of_tests}
 use Rattle.spdm_grammar.specs.declared.told.command_fault.CommandFault.TheVariants as fault
 use Rattle.spdm_machine.specs.Keys.{Draw}
 use Rattle.psk_session.specs.AskLaws.{AskIsCommand, LeadsBy, command_at, command_fault_of}
-use Rattle.psk_session.specs.Asking.{ask_fault, asked, asked_of, inner_for, is_long}
-use Rattle.psk_session.specs.declared.ask.Ask.{Ask}
-use Rattle.psk_session.specs.declared.ask.Ask.TheVariants.{Data, Beat, UpdateKey, UpdateAll, Measure, End}
+use Rattle.psk_session.specs.SessionRequest.{ask_fault, asked, asked_of, inner_for, is_long}
+use Rattle.psk_session.specs.declared.session_request.SessionRequest.{SessionRequest}
+use Rattle.psk_session.specs.declared.session_request.SessionRequest.TheVariants.{Data, Beat, UpdateKey, UpdateAll, Measure, End}
 use Rattle.psk_session.specs.declared.ask_fault.AskFault.{AskFault}
 use Rattle.psk_session.specs.declared.ask_fault.AskFault.TheVariants.{NotNegotiated, KeySpent, TooLong}
 
@@ -38,7 +38,7 @@ tests false false false false true z b a e = refl
 tests false false false false false true b a e = refl
 tests false false false false false false b a e = refl
 
-by_fault : (q : ReqSetup) (h : History) (f : Free) (d : Draw) (id : ℕ) (a : Ask) (sent : Sent) (own : Option AskFault)
+by_fault : (q : ReqSetup) (h : History) (f : Free) (d : Draw) (id : ℕ) (a : SessionRequest) (sent : Sent) (own : Option AskFault)
     → command_fault false q h (command_at id a) f ≡ option_map command_fault_of own
     → done q h (command_at id a) f d ≡ Adds (Told (command_at id a) sent d)
     → session_of id (Told (command_at id a) sent d ∷ h) ≡ asked q.psk (session_of id h) a f.pad
@@ -50,7 +50,7 @@ by_fault q h f d id a sent None e made step = (sent, ap (asks_by q h (command_at
 idle : (h : History) → outstanding h ≡ None → is_some (outstanding h) ≡ false
 idle h e = ap is_some e
 
-faults : (q : ReqSetup) (h : History) (f : Free) (id : ℕ) (a : Ask) → outstanding h ≡ None → is_negotiated (phase_of h) ≡ true → is_live (session_of id h) ≡ true
+faults : (q : ReqSetup) (h : History) (f : Free) (id : ℕ) (a : SessionRequest) → outstanding h ≡ None → is_negotiated (phase_of h) ≡ true → is_live (session_of id h) ≡ true
     → command_fault false q h (command_at id a) f ≡ option_map command_fault_of (ask_fault (session_of id h) a)
 unfolding command_fault ask_fault
 faults q h f id (Data bytes) o n l =
@@ -66,10 +66,10 @@ faults q h f id (Measure op) o n l =
 faults q h f id End o n l =
     tests (is_some (outstanding h)) (not (is_negotiated (phase_of h))) (not (is_live (session_of id h))) (lacks (session_terms (session_of id h)) (command_at id End)) (is_spent (session_of id h) (command_at id End)) false (idle h o) (ap not n) (ap not l)
 
-unfoldable pub sent_for : (q : ReqSetup) (h : History) (f : Free) (id : ℕ) (a : Ask) → Sent
+unfoldable pub sent_for : (q : ReqSetup) (h : History) (f : Free) (id : ℕ) (a : SessionRequest) → Sent
 sent_for q h f id a = asked_sent q h f id (asked_of a) (inner_for (session_of id h) a)
 
-pub made : (q : ReqSetup) (h : History) (f : Free) (d : Draw) (id : ℕ) (a : Ask) → done q h (command_at id a) f d ≡ Adds (Told (command_at id a) (sent_for q h f id a) d)
+pub made : (q : ReqSetup) (h : History) (f : Free) (d : Draw) (id : ℕ) (a : SessionRequest) → done q h (command_at id a) f d ≡ Adds (Told (command_at id a) (sent_for q h f id a) d)
 unfolding sent_for
 made q h f d id (Data bytes) = refl
 made q h f d id Beat = refl
@@ -78,7 +78,7 @@ made q h f d id UpdateAll = refl
 made q h f d id (Measure op) = refl
 made q h f d id End = refl
 
-stepped : (q : ReqSetup) (h : History) (f : Free) (d : Draw) (id : ℕ) (a : Ask) → is_live (session_of id h) ≡ true
+stepped : (q : ReqSetup) (h : History) (f : Free) (d : Draw) (id : ℕ) (a : SessionRequest) → is_live (session_of id h) ≡ true
     → session_of id (Told (command_at id a) (sent_for q h f id a) d ∷ h) ≡ asked q.psk (session_of id h) a f.pad
 unfolding sent_for session_of
 stepped q h f d id (Data bytes) l = own_step id (session_of id h) _ l

@@ -8,9 +8,9 @@ use Rattle.requester_machine.specs.Commands.{has_reached, lacks, is_spent}
 use Rattle.requester_machine.specs.Order.Waits.{Rests}
 use Rattle.requester_machine.specs.Session.{Steps, session_terms, request_next, response_next}
 use Rattle.spdm_basis.specs.Tests.{first_of_tests}
-use Rattle.psk_session.specs.Asking.{ask_fault, asked_of, command_of, is_long}
-use Rattle.psk_session.specs.declared.ask.Ask.{Ask}
-use Rattle.psk_session.specs.declared.ask.Ask.TheVariants.{Data, Beat, UpdateKey, UpdateAll, Measure, End}
+use Rattle.psk_session.specs.SessionRequest.{ask_fault, asked_of, command_of, is_long}
+use Rattle.psk_session.specs.declared.session_request.SessionRequest.{SessionRequest}
+use Rattle.psk_session.specs.declared.session_request.SessionRequest.TheVariants.{Data, Beat, UpdateKey, UpdateAll, Measure, End}
 use Rattle.psk_session.specs.declared.ask_fault.AskFault.TheVariants.{NotNegotiated, KeySpent, TooLong}
 
 second_fails : (x y z : Bool) → first_of_tests ((x, NotNegotiated) ∷ (y, KeySpent) ∷ (z, TooLong) ∷ []) ≡ None → y ≡ false
@@ -18,7 +18,7 @@ second_fails true y z none = absurd (cc)
 second_fails false true z none = absurd (cc)
 second_fails false false z none = refl
 
-unspent : (s : Steps) (a : Ask) → ask_fault s a ≡ None → is_spent s (command_of a) ≡ false
+unspent : (s : Steps) (a : SessionRequest) → ask_fault s a ≡ None → is_spent s (command_of a) ≡ false
 unfolding ask_fault
 unspent s a none = second_fails (lacks (session_terms s) (command_of a)) (is_spent s (command_of a)) (is_long a) none
 
@@ -31,7 +31,7 @@ room_for_update s is =
 room_for_any : (r p : ℕ) → r ≤ 65535 → p ≤ 65535 → (r + 1 ≤ 65536) × (p ≤ 65535)
 room_for_any r p a b = (omega arith, b)
 
-pub asked_few : (s : Steps) (a : Ask) → ask_fault s a ≡ None → FewBy Rests s → FewFor (asked_of a) (request_next s + 1) (response_next s)
+pub asked_few : (s : Steps) (a : SessionRequest) → ask_fault s a ≡ None → FewBy Rests s → FewFor (asked_of a) (request_next s + 1) (response_next s)
 asked_few s (Data bytes) none few = room_for_one s (unspent s (Data bytes) none)
 asked_few s Beat none few = room_for_one s (unspent s Beat none)
 asked_few s UpdateKey none few = room_for_update s (unspent s UpdateKey none)

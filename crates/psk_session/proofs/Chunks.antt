@@ -5,8 +5,8 @@ use Rattle.requester_machine.specs.Message.Ask.{AskChunk}
 use Rattle.requester_machine.specs.UnderWay.{AreUnderWay}
 use Rattle.spdm_grammar.specs.Message.{ChunkMessage}
 use Rattle.psk_session.specs.Waiting.{IsBehind, IsGathered, awaited_by}
-use Rattle.psk_session.specs.declared.ask.Awaited.{Awaited}
-use Rattle.psk_session.specs.declared.ask.Awaited.TheVariants as awaited
+use Rattle.psk_session.specs.declared.session_request.Awaited.{Awaited}
+use Rattle.psk_session.specs.declared.session_request.Awaited.TheVariants as awaited
 
 -- ---- What is awaited.
 

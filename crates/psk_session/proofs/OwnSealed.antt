@@ -35,7 +35,7 @@ use Rattle.psk_session.specs.Opening.{finish_inner, finish_record}
 use Rattle.psk_session.specs.OwnRecords.{IsOwnOpened, IsPadded, SealsFor, TellsPadded, own_fault, own_inner}
 use Rattle.psk_session.specs.ReqSession.{IsAwaiting, awaited_in}
 use Rattle.psk_session.specs.Waiting.{awaited_by}
-use Rattle.psk_session.specs.declared.ask.Awaited.{Awaited}
+use Rattle.psk_session.specs.declared.session_request.Awaited.{Awaited}
 use Rattle.psk_session.specs.declared.kept.Kept.{Kept}
 use Rattle.psk_session.specs.declared.req_session.ReqSession.{ReqSession}
 use Rattle.psk_session.proofs.Past.{past_purpose, t2_asked}

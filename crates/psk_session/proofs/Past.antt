@@ -24,8 +24,8 @@ use Rattle.transcript.specs.Transcripts as transcript
 use Rattle.session_keys.specs.Keys.{IsKeyOf}
 use Rattle.psk_session.specs.Kept.{Keeps}
 use Rattle.psk_session.specs.Waiting.{awaited_by, awaited_epoch}
-use Rattle.psk_session.specs.declared.ask.Awaited.{Awaited}
-use Rattle.psk_session.specs.declared.ask.Awaited.TheVariants as awaited
+use Rattle.psk_session.specs.declared.session_request.Awaited.{Awaited}
+use Rattle.psk_session.specs.declared.session_request.Awaited.TheVariants as awaited
 use Rattle.psk_session.specs.declared.kept.Kept.{Kept}
 
 pub past_transcript : (stage : Stage) (t1 t2 : List ℕ) → is_past_handshake stage ≡ true → t2 ≡ transcript_in stage t1 t2

@@ -16,8 +16,8 @@ use Rattle.psk_session.specs.Stepped.{Follows, IsLeft, IsStanding, IsToldOf}
 use Rattle.psk_session.specs.Verdict.{Meaning}
 use Rattle.psk_session.specs.Waiting.{IsNewest}
 use Rattle.psk_session.specs.declared.req_session.ReqSession.{ReqSession}
-use Rattle.psk_session.specs.declared.told.Told.{Told}
-use Rattle.psk_session.specs.declared.told.Told.TheVariants as told
+use Rattle.psk_session.specs.declared.response_outcome.ResponseOutcome.{ResponseOutcome}
+use Rattle.psk_session.specs.declared.response_outcome.ResponseOutcome.TheVariants as told
 use Rattle.psk_session.proofs.Courses.{IsMeaning}
 use Rattle.psk_session.proofs.Meanings.{FitsMeaning, contents_fit}
 
@@ -26,7 +26,7 @@ newest_waits a sealed [] is = absurd is
 newest_waits a sealed (Asked other inner sent ∷ older) is = ap (λ (x : Ask). Some x) is.0
 newest_waits a sealed (_ ∷ older) is = absurd is
 
-pub told_by : (old : ReqSession) (psk : List ℕ) (s : Steps) (a : Ask) (sealed pad : List ℕ) (new : ReqSession) (t : Told) (course : Course) → TakesCourse psk s a sealed course → Follows psk s a sealed pad new t course
+pub told_by : (old : ReqSession) (psk : List ℕ) (s : Steps) (a : Ask) (sealed pad : List ℕ) (new : ReqSession) (t : ResponseOutcome) (course : Course) → TakesCourse psk s a sealed course → Follows psk s a sealed pad new t course
     → IsToldOf old psk s a sealed pad new t
 told_by old psk s a sealed pad new (told.Answer reply) course takes follows = (course, takes, follows)
 told_by old psk s a sealed pad new told.Next course takes follows = (course, takes, follows)
@@ -34,7 +34,7 @@ told_by old psk s a sealed pad new told.Ended course takes follows = (course, ta
 told_by old psk s a sealed pad new (told.Bad fault) course takes follows = (course, takes, follows)
 told_by old psk s a sealed pad new (told.Stay fault) course takes follows = absurd follows
 
-pub left_by : (old new : ReqSession) (t : Told) → IsStanding new t → IsLeft old new t
+pub left_by : (old new : ReqSession) (t : ResponseOutcome) → IsStanding new t → IsLeft old new t
 left_by old new (told.Answer reply) stands = stands
 left_by old new told.Next stands = stands
 left_by old new told.Ended stands = stands

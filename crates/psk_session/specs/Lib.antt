@@ -7,7 +7,7 @@ pub mod Kept
 pub mod ReqOpen
 pub mod Course
 pub mod Waiting
-pub mod Asking
+pub mod SessionRequest
 pub mod AskTook
 pub mod AskLaws
 pub mod Verdict
@@ -20,3 +20,4 @@ pub mod ReqSession
 pub mod Stepped
 pub mod Collected
 pub mod OwnRecords
+pub mod Wiped

@@ -4,24 +4,24 @@ use Rattle.requester_machine.specs.Message.{Ask}
 use Rattle.requester_machine.specs.Session.{Steps}
 use Rattle.psk_session.specs.ReqOpen as open_state
 use Rattle.psk_session.specs.Waiting as waiting
-use Rattle.psk_session.specs.declared.ask.Awaited.{Awaited}
-use Rattle.psk_session.specs.declared.ask.Awaited.TheVariants as awaited
+use Rattle.psk_session.specs.declared.session_request.Awaited.{Awaited}
+use Rattle.psk_session.specs.declared.session_request.Awaited.TheVariants as awaited
 use Rattle.psk_session.specs.declared.req_session.ReqSession.{ReqSession}
-use Rattle.psk_session.specs.declared.standing.Standing.{Standing}
-use Rattle.psk_session.specs.declared.standing.Standing.TheVariants.{Open, Awaits}
+use Rattle.psk_session.specs.declared.session_state.SessionState.{SessionState}
+use Rattle.psk_session.specs.declared.session_state.SessionState.TheVariants.{Open, Awaits}
 
 -- ---- How it stands.
 
-abbrev pub is_open : Standing → Bool
+abbrev pub is_open : SessionState → Bool
 is_open Open = true
 is_open _ = false
 
-abbrev pub is_awaiting : Standing → Bool
+abbrev pub is_awaiting : SessionState → Bool
 is_awaiting (Awaits what) = true
 is_awaiting _ = false
 
 -- What is awaited, where an answer is.
-abbrev pub awaited_in : Standing → Awaited
+abbrev pub awaited_in : SessionState → Awaited
 awaited_in (Awaits what) = what
 awaited_in _ = awaited.End
 

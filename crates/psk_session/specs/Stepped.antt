@@ -5,19 +5,19 @@ use Rattle.requester_machine.specs.History.{Effect}
 use Rattle.requester_machine.specs.Message.{Ask}
 use Rattle.requester_machine.specs.Records.{answer_fault}
 use Rattle.requester_machine.specs.Session.{Steps, ends}
-use Rattle.psk_session.specs.Asking.{ask_fault, asked, asked_of}
+use Rattle.psk_session.specs.SessionRequest.{ask_fault, asked, asked_of}
 use Rattle.psk_session.specs.Course.{Course, TakesCourse, with_taken, with_asked}
 use Rattle.psk_session.specs.Course.Course.{Lost, Ended, Answered, GoesOn}
 use Rattle.psk_session.specs.ReqSession.{IsAwaiting, IsOpen, is_awaiting, is_open}
-use Rattle.psk_session.specs.declared.ask.Ask as declared
+use Rattle.psk_session.specs.declared.session_request.SessionRequest as declared
 use Rattle.psk_session.specs.declared.ask_fault.AskFault.{AskFault}
 use Rattle.psk_session.specs.declared.req_session.ReqSession.{ReqSession}
-use Rattle.psk_session.specs.declared.standing.Standing.TheVariants.{Closed}
-use Rattle.psk_session.specs.declared.told.Told.{Told}
-use Rattle.psk_session.specs.declared.told.Told.TheVariants as told
+use Rattle.psk_session.specs.declared.session_state.SessionState.TheVariants.{Closed}
+use Rattle.psk_session.specs.declared.response_outcome.ResponseOutcome.{ResponseOutcome}
+use Rattle.psk_session.specs.declared.response_outcome.ResponseOutcome.TheVariants as told
 
 -- The session with the record that asks it, padded so, awaits the answer; or the ask has this fault.
-abbrev pub IsAskedBy : (psk : List ℕ) → Steps → declared.Ask → (pad : List ℕ) → (new : ReqSession)
+abbrev pub IsAskedBy : (psk : List ℕ) → Steps → declared.SessionRequest → (pad : List ℕ) → (new : ReqSession)
     → Result Unit AskFault → Type 0
 IsAskedBy psk s a pad new (Ok u) =
     (ask_fault s a ≡ None) × IsAwaiting new psk (asked psk s a pad) (asked_of a)
@@ -27,7 +27,7 @@ IsAskedBy psk s a pad new (Err fault) = ask_fault s a ≡ Some fault
 -- answered the open session with the record, which it outlives; and where a further record is sent, the session with
 -- both, that record with this padding.
 abbrev pub Follows : (psk : List ℕ) → Steps → Ask → (sealed pad : List ℕ) → (new : ReqSession)
-    → Told → Course → Type 0
+    → ResponseOutcome → Course → Type 0
 Follows psk s a sealed pad new (told.Bad fault) course = course ≡ Lost fault
 Follows psk s a sealed pad new told.Ended course = course ≡ Ended
 Follows psk s a sealed pad new (told.Answer reply) course =
@@ -42,7 +42,7 @@ Follows psk s a sealed pad new (told.Stay fault) course = ⊥
 -- The outcome of a record: it did not open, with its fault, and nothing changed; or it takes a course by the
 -- definitions, and what is told and left follows that.
 abbrev pub IsToldOf : (old : ReqSession) → (psk : List ℕ) → Steps → Ask → (sealed pad : List ℕ)
-    → (new : ReqSession) → Told → Type 0
+    → (new : ReqSession) → ResponseOutcome → Type 0
 IsToldOf old psk s a sealed pad new (told.Stay fault) =
     (answer_fault psk s a sealed ≡ Some fault) × (new ≡ old)
 IsToldOf old psk s a sealed pad new other =
@@ -50,7 +50,7 @@ IsToldOf old psk s a sealed pad new other =
     × Follows psk s a sealed pad new other course
 
 -- How the session follows what is reported of a record that opened, whatever it stands for.
-abbrev pub IsStanding : (new : ReqSession) → Told → Type 0
+abbrev pub IsStanding : (new : ReqSession) → ResponseOutcome → Type 0
 IsStanding new (told.Answer reply) = is_open new.standing ≡ true
 IsStanding new told.Next = is_awaiting new.standing ≡ true
 IsStanding new told.Ended = new.standing ≡ Closed
@@ -58,6 +58,6 @@ IsStanding new (told.Bad fault) = new.standing ≡ Closed
 IsStanding new (told.Stay fault) = ⊥
 
 -- And after what is reported of any record: one that did not open changes nothing.
-abbrev pub IsLeft : (old new : ReqSession) → Told → Type 0
+abbrev pub IsLeft : (old new : ReqSession) → ResponseOutcome → Type 0
 IsLeft old new (told.Stay fault) = new ≡ old
 IsLeft old new other = IsStanding new other

@@ -11,8 +11,8 @@ use Rattle.requester_machine.specs.Session.Step.{Asked}
 use Rattle.requester_machine.specs.UnderWay.{AreUnderWay}
 use Rattle.spdm_grammar.specs.Message.{ChunkMessage}
 use Rattle.psk_session.specs.Kept.{Keeps}
-use Rattle.psk_session.specs.declared.ask.Awaited.{Awaited}
-use Rattle.psk_session.specs.declared.ask.Awaited.TheVariants as awaited
+use Rattle.psk_session.specs.declared.session_request.Awaited.{Awaited}
+use Rattle.psk_session.specs.declared.session_request.Awaited.TheVariants as awaited
 use Rattle.psk_session.specs.declared.kept.Kept.{Kept}
 
 -- The state as contracts see it: what is kept of the session, what is awaited, what was gathered of a large response,

@@ -1,12 +1,12 @@
 ghost use Rattle.spdm_grammar.specs.declared.names.TheConstants.{MAX_PADDING};
 
 use crate::Reply;
-use crate::ask::Awaited;
 use crate::outcome::Outcome;
 use crate::req_session::ReqSession;
 use crate::requests::write_inner_request;
-use crate::standing::Standing;
-use crate::told::Told;
+use crate::response_outcome::ResponseOutcome;
+use crate::session_request::Awaited;
+use crate::session_state::SessionState;
 use chunking::Collector;
 use spdm_grammar::Request;
 use spdm_grammar::names::key_operation::VERIFY_NEW_KEY;
@@ -48,7 +48,7 @@ impl ReqSession {
         ensures standing { is_open self.new.standing ≡ true }
     {
         self.kept.count(reply.is_data());
-        self.standing = Standing::Open;
+        self.standing = SessionState::Open;
     }
 
     // Asks by VerifyNewKey, which follows the answer to an update.
@@ -98,7 +98,7 @@ impl ReqSession {
     }
 
     // What an outcome leads to.
-    pub(crate) fn led(&mut self, outcome: Outcome, pad: &[u8]) -> Told
+    pub(crate) fn led(&mut self, outcome: Outcome, pad: &[u8]) -> ResponseOutcome
         requires epoch { self.old.kept.request.epoch < 2 ^ 64 - 1 }
         requires pad { length pad.now ≤ MAX_PADDING }
         ensures follows { (psk : List ℕ) (s : Steps) (a : message.Ask) (sealed answer : List ℕ)
@@ -111,33 +111,33 @@ impl ReqSession {
     {
         match outcome {
             Outcome::Bad(fault) => {
-                self.standing = Standing::Closed;
-                Told::Bad(fault)
+                self.standing = SessionState::Closed;
+                ResponseOutcome::Bad(fault)
             }
             Outcome::Ended => {
-                self.standing = Standing::Closed;
-                Told::Ended
+                self.standing = SessionState::Closed;
+                ResponseOutcome::Ended
             }
             Outcome::Answered(reply) => {
                 self.answered(reply);
-                Told::Answer(reply)
+                ResponseOutcome::Answer(reply)
             }
             Outcome::Updated { all } => {
                 self.kept.update(all);
                 self.verify(pad);
-                Told::Next
+                ResponseOutcome::Next
             }
             Outcome::Large { op, handle } => {
                 self.kept.count(false);
                 self.begin();
                 self.fetch(op, handle, 0, pad);
-                Told::Next
+                ResponseOutcome::Next
             }
         }
     }
 
     // Asks for the next chunk of a large response to an operation, after the one that has this number.
-    pub(crate) fn go_on(&mut self, op: u8, handle: u8, number: u16, pad: &[u8]) -> Told
+    pub(crate) fn go_on(&mut self, op: u8, handle: u8, number: u16, pad: &[u8]) -> ResponseOutcome
         requires { length pad.now ≤ MAX_PADDING }
         ensures follows { (psk : List ℕ) (s : Steps) (sealed : List ℕ) (at_handle at_number : ℕ)
             (before : List ChunkMessage) (c : ChunkMessage)
@@ -157,6 +157,6 @@ impl ReqSession {
     {
         self.kept.count(false);
         self.fetch(op, handle, number.saturating_add(1), pad);
-        Told::Next
+        ResponseOutcome::Next
     }
 }

@@ -1,11 +1,11 @@
 ghost use Rattle.std.specs.Prelude.{◌≡◌, ◌<◌, ◌+◌, ◌-◌, ◌^◌, if◌then◌else◌, min};
 ghost use Rattle.spdm_grammar.specs.declared.names.TheConstants.{MAX_PADDING, MAX_RECORDS};
 
-use crate::ask::{Ask, Awaited};
 use crate::ask_fault::AskFault;
 use crate::inner::{Inner, read_inner};
-use crate::outcome::{Outcome, put_down};
+use crate::outcome::{Outcome, store_data};
 use crate::requests::{operation_of, write_inner_data, write_inner_request};
+use crate::session_request::{Awaited, SessionRequest};
 use crate::updates::update;
 use crate::verdict::{Meaning, Verdict, whole_verdict};
 use chunking::{Collected, Collector};
@@ -62,7 +62,7 @@ impl Kept {
     ghost use Rattle.spdm_machine.specs.Terms.{hash_len};
     ghost use Rattle.requester_machine.specs.Shown.{view_of};
     ghost use Rattle.spdm_grammar.specs.Message.{ChunkMessage, chunk_message};
-    ghost use Rattle.psk_session.specs.Asking.{ask_fault, command_of, inner_for, is_long};
+    ghost use Rattle.psk_session.specs.SessionRequest.{ask_fault, command_of, inner_for, is_long};
     ghost use Rattle.psk_session.specs.Collected.{IsCollected};
     ghost use Rattle.psk_session.specs.Held.{seen_meaning};
     ghost use Rattle.psk_session.specs.Inner.{contents_of};
@@ -107,34 +107,35 @@ impl Kept {
     }
 
     // Whether what it needs was not negotiated.
-    fn lacks(&self, ask: &Ask<'_>) -> bool
+    fn lacks(&self, ask: &SessionRequest<'_>) -> bool
         ensures { (psk : List ℕ) (s : Steps) (epoch : ℕ) → Keeps self.now psk s epoch
             → result ≡ lacks (session_terms s) (command_of ask.now) }
     {
         match ask {
-            Ask::Data(_) | Ask::End => false,
-            Ask::Beat => !self.terms.common.heartbeat,
-            Ask::UpdateKey | Ask::UpdateAll => !self.terms.common.key_update,
-            Ask::Measure { .. } => !(self.terms.common.measure && self.terms.choice.measure),
+            SessionRequest::Data(_) | SessionRequest::End => false,
+            SessionRequest::Beat => !self.terms.common.heartbeat,
+            SessionRequest::UpdateKey | SessionRequest::UpdateAll => !self.terms.common.key_update,
+            SessionRequest::Measure { .. } => !(self.terms.common.measure
+                && self.terms.choice.measure),
         }
     }
 
     // Whether a key sealed too many records for it.
-    fn is_spent(&self, ask: &Ask<'_>) -> bool
+    fn is_spent(&self, ask: &SessionRequest<'_>) -> bool
         ensures { (psk : List ℕ) (s : Steps) (epoch : ℕ) → Keeps self.now psk s epoch
             → result ≡ is_spent s (command_of ask.now) }
     {
         match ask {
-            Ask::Data(_) | Ask::Beat => self.has_reached(65535),
-            Ask::UpdateKey => self.has_reached(65535) || 65534 <= self.response_next,
-            Ask::Measure { .. } => self.has_reached(MOST_MEASURED),
-            Ask::UpdateAll | Ask::End => false,
+            SessionRequest::Data(_) | SessionRequest::Beat => self.has_reached(65535),
+            SessionRequest::UpdateKey => self.has_reached(65535) || 65534 <= self.response_next,
+            SessionRequest::Measure { .. } => self.has_reached(MOST_MEASURED),
+            SessionRequest::UpdateAll | SessionRequest::End => false,
         }
     }
 
     // The fault of an ask.
-    #[tactic(auto, unfolding(crate::specs::Asking::ask_fault))]
-    pub fn ask_fault(&self, ask: &Ask<'_>) -> Option<AskFault>
+    #[tactic(auto, unfolding(crate::specs::SessionRequest::ask_fault))]
+    pub fn ask_fault(&self, ask: &SessionRequest<'_>) -> Option<AskFault>
         ensures value { (psk : List ℕ) (s : Steps) (epoch : ℕ) → Keeps self.now psk s epoch
             → result ≡ ask_fault s ask.now }
         ensures fits { result ≡ None → is_long ask.now ≡ false }
@@ -160,7 +161,7 @@ impl Kept {
     }
 
     // Writes the inner message that asks it.
-    pub fn write_inner(&self, ask: &Ask<'_>, out: &mut RecordFrame)
+    pub fn write_inner(&self, ask: &SessionRequest<'_>, out: &mut RecordFrame)
         requires { is_long ask.now ≡ false }
         ensures value { (psk : List ℕ) (s : Steps) (epoch : ℕ) → Keeps self.now psk s epoch
             → out.new ≡ inner_for s ask.now }
@@ -168,29 +169,32 @@ impl Kept {
     {
         let tag = self.update_tag();
         match ask {
-            Ask::Data(bytes) => write_inner_data(bytes, out),
-            Ask::Beat => write_inner_request(&Request::Heartbeat, out),
-            Ask::UpdateKey => write_inner_request(
+            SessionRequest::Data(bytes) => write_inner_data(bytes, out),
+            SessionRequest::Beat => write_inner_request(&Request::Heartbeat, out),
+            SessionRequest::UpdateKey => write_inner_request(
                 &Request::KeyUpdate {
                     op: operation_of(false),
                     tag,
                 },
                 out,
             ),
-            Ask::UpdateAll => write_inner_request(
+            SessionRequest::UpdateAll => write_inner_request(
                 &Request::KeyUpdate {
                     op: operation_of(true),
                     tag,
                 },
                 out,
             ),
-            Ask::Measure { op } => write_inner_request(&Request::GetMeasurements { op: *op }, out),
-            Ask::End => write_inner_request(&Request::EndSession, out),
+            SessionRequest::Measure { op } => write_inner_request(
+                &Request::GetMeasurements { op: *op },
+                out,
+            ),
+            SessionRequest::End => write_inner_request(&Request::EndSession, out),
         }
     }
 
     // Steps to the key under which the answer to this is: that to an update of all keys is under the next one.
-    pub fn look_ahead(&mut self, awaited: Awaited)
+    pub fn use_next_key(&mut self, awaited: Awaited)
         requires { self.old.response.epoch < 2 ^ 64 - 1 }
         ensures { (psk : List ℕ) (s : Steps) (before : List ChunkMessage)
             → Keeps self.old psk s (response_epoch s)
@@ -283,7 +287,7 @@ impl Kept {
             Collected::Whole(whole) => {
                 let reached = self.has_reached(MOST_MEASURED);
                 let hash_len = self.terms.choice.hash.size();
-                Some(put_down(whole_verdict(whole, hash_len, reached, op), out))
+                Some(store_data(whole_verdict(whole, hash_len, reached, op), out))
             }
         }
     }

@@ -7,7 +7,6 @@
 
 mod answering;
 mod answers;
-mod ask;
 mod ask_fault;
 mod closed;
 mod finish_record;
@@ -25,14 +24,15 @@ mod reply;
 mod req_open;
 mod req_session;
 mod requests;
-mod standing;
-mod told;
+mod response_outcome;
+mod session_request;
+mod session_state;
 mod took;
 mod updates;
 mod verdict;
 mod waiting;
+mod wiping;
 
-pub use ask::Ask;
 pub use ask_fault::AskFault;
 pub use closed::Closed;
 pub use finish_took::FinishTook;
@@ -47,8 +47,10 @@ pub use opening::Opening;
 pub use reply::Reply;
 pub use req_open::ReqOpen;
 pub use req_session::ReqSession;
+pub use response_outcome::ResponseOutcome;
 pub use session_keys::SessionTerms;
+pub use session_request::SessionRequest;
 pub use spdm_grammar::{BadReply, SessionView, Stage};
-pub use told::Told;
 pub use took::Took;
 pub use waiting::Waiting;
+pub use wiping::wipe_psk;

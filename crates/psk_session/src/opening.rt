@@ -10,10 +10,11 @@ ghost use Rattle.psk_session.specs.Opening.{StandsFor, accepted, open_fault};
 ghost use Rattle.psk_session.specs.Finishing as finishing;
 ghost use Rattle.session_keys.specs.Handshake.{IsHandshakeOf};
 ghost use Rattle.psk_session.specs.Opened.{IsTaken};
+ghost use Rattle.psk_session.specs.Wiped.{IsWipedOpening};
 ghost use Rattle.spdm_grammar.specs.declared.names.TheConstants.{MAX_PADDING};
 
 use crate::answers::{read_exchange_rsp, told_id};
-use crate::{Finishing, OpenFault, SessionTerms};
+use crate::{Finishing, OpenFault, SessionTerms, wipe_psk};
 use byte_compare::same_bytes;
 use session_keys::{Handshake, without_verify};
 use spdm_basis::{HashBytes, Psk};
@@ -55,6 +56,13 @@ impl Opening {
             psk: psk.clone().unwrap(),
             terms,
         }
+    }
+
+    /// Overwrites the pre-shared key, where the session ends.
+    pub fn wipe(&mut self)
+        ensures { IsWipedOpening self.new }
+    {
+        wipe_psk(&mut self.psk);
     }
 
     // The hash of the transcript with an answer, without the verify data of the answer.

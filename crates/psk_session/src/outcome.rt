@@ -20,7 +20,7 @@ pub enum Outcome {
 }
 
 // Overwrites `out` with the application data or the measurement record of a verdict.
-pub fn put_down(verdict: Verdict<'_>, out: &mut RecordFrame) -> Outcome
+pub fn store_data(verdict: Verdict<'_>, out: &mut RecordFrame) -> Outcome
     ensures { (s : Steps) (a : Ask) (answer : List ℕ) → Fits s a answer (verdict_of verdict.entry)
         → verdict_with result out.new ≡ verdict_of verdict.entry }
 {

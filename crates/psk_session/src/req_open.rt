@@ -7,7 +7,7 @@ ghost use Rattle.psk_session.specs.ReqSession.{IsOpen};
 ghost use Rattle.spdm_grammar.specs.declared.names.TheConstants.{MAX_PADDING};
 
 use crate::req_session::ReqSession;
-use crate::{Ask, AskFault, Waiting};
+use crate::{AskFault, SessionRequest, Waiting};
 use spdm_grammar::SessionView;
 use std::marker::Model;
 
@@ -48,7 +48,7 @@ impl ReqOpen {
 
     /// Sends a request in the session, in a record with this padding of at most 16 bytes. A refused request changes
     /// nothing. Requires an epoch below 2^64 - 1 for the response key.
-    pub fn ask(self, ask: Ask<'_>, pad: &[u8]) -> Result<Waiting, (ReqOpen, AskFault)>
+    pub fn ask(self, ask: SessionRequest<'_>, pad: &[u8]) -> Result<Waiting, (ReqOpen, AskFault)>
         requires epoch { self.kept.response.epoch < 2 ^ 64 - 1 }
         requires pad { length pad.now ≤ MAX_PADDING }
         ensures { (psk : List ℕ) (s : Steps) → StandsFor self psk s

@@ -5,7 +5,7 @@ ghost use Rattle.requester_machine.specs.Records.{answer_fault, answer_inner, an
 ghost use Rattle.requester_machine.specs.Session.{Steps, request_next, response_epoch, response_next, session_terms, stage_of, taken_of};
 ghost use Rattle.requester_machine.specs.Shown.{view_of};
 ghost use Rattle.requester_machine.specs.SpentLaws.{FewFor};
-ghost use Rattle.psk_session.specs.Asking.{ask_fault, asked, asked_of, is_long};
+ghost use Rattle.psk_session.specs.SessionRequest.{ask_fault, asked, asked_of, is_long};
 ghost use Rattle.psk_session.specs.Course.{with_asked};
 ghost use Rattle.psk_session.specs.Kept.{Keeps};
 ghost use Rattle.psk_session.specs.ReqOpen as open_state;
@@ -13,16 +13,16 @@ ghost use Rattle.psk_session.specs.ReqSession.{IsAwaiting, IsOpen, again_in, dat
 ghost use Rattle.psk_session.specs.Stepped.{IsAskedBy, IsLeft, IsToldOf};
 ghost use Rattle.psk_session.specs.Waiting as waiting;
 ghost use Rattle.psk_session.specs.Waiting.{Awaits, awaited_epoch};
-ghost use Rattle.psk_session.specs.declared.standing.Standing.TheVariants as standing;
+ghost use Rattle.psk_session.specs.declared.session_state.SessionState.TheVariants as standing;
 ghost use Rattle.spdm_grammar.specs.declared.names.TheConstants.{MAX_PADDING};
 ghost use Rattle.secured_record.specs.declared.TheConstants.{MAX_RECORD_SIZE};
 
-use crate::ask::{Ask, Awaited};
 use crate::ask_fault::AskFault;
 use crate::kept::{Kept, record_number};
-use crate::outcome::put_down;
-use crate::standing::Standing;
-use crate::told::Told;
+use crate::outcome::store_data;
+use crate::response_outcome::ResponseOutcome;
+use crate::session_request::{Awaited, SessionRequest};
+use crate::session_state::SessionState;
 use crate::verdict::Meaning;
 use chunking::Collector;
 use secured_record::RecordFault;
@@ -35,7 +35,7 @@ use spdm_grammar::SessionView;
 #[derive(Drop)]
 pub struct ReqSession {
     pub(crate) kept: Kept,
-    pub(crate) standing: Standing,
+    pub(crate) standing: SessionState,
     pub(crate) gathered: Collector,
     // The record last made; once its answer opened, the inner message of that.
     pub(crate) sent: RecordFrame,
@@ -53,7 +53,7 @@ impl ReqSession {
         let gathered = Collector::new(kept.terms.common.to_requester.max);
         ReqSession {
             kept,
-            standing: Standing::Open,
+            standing: SessionState::Open,
             gathered,
             sent: RecordFrame::new(),
             brought: RecordFrame::new(),
@@ -141,7 +141,7 @@ impl ReqSession {
 
     /// Sends a request in the session, which is open, in a record with this padding of at most 16 bytes. A refused
     /// request changes nothing. Requires an epoch below 2^64 - 1 for the response key.
-    pub fn ask(&mut self, ask: Ask<'_>, pad: &[u8]) -> Result<(), AskFault>
+    pub fn ask(&mut self, ask: SessionRequest<'_>, pad: &[u8]) -> Result<(), AskFault>
         requires open { is_open self.old.standing ≡ true }
         requires epoch { self.old.kept.response.epoch < 2 ^ 64 - 1 }
         requires pad { length pad.now ≤ MAX_PADDING }
@@ -160,7 +160,7 @@ impl ReqSession {
     }
 
     // Makes the record that asks it.
-    fn make(&mut self, ask: Ask<'_>, pad: &[u8])
+    fn make(&mut self, ask: SessionRequest<'_>, pad: &[u8])
         requires epoch { self.old.kept.response.epoch < 2 ^ 64 - 1 }
         requires fits { is_long ask ≡ false }
         requires pad { length pad.now ≤ MAX_PADDING }
@@ -171,7 +171,7 @@ impl ReqSession {
     {
         self.kept.write_inner(&ask, &mut self.brought);
         let awaited = ask.awaited();
-        self.kept.look_ahead(awaited);
+        self.kept.use_next_key(awaited);
         self.send(awaited, pad);
     }
 
@@ -187,12 +187,12 @@ impl ReqSession {
         ensures standing { is_awaiting self.new.standing ≡ true }
     {
         self.kept.seal(self.brought.as_slice(), pad, &mut self.sent);
-        self.standing = Standing::Awaits(awaited);
+        self.standing = SessionState::Awaits(awaited);
     }
 
     /// Handles a record from the responder while a response is awaited. A further record that is then to be sent has no
     /// padding. Requires an epoch below 2^64 - 1 for the request key.
-    pub fn take(&mut self, sealed: &[u8]) -> Told
+    pub fn take(&mut self, sealed: &[u8]) -> ResponseOutcome
         requires awaiting { is_awaiting self.old.standing ≡ true }
         requires epoch { self.old.kept.request.epoch < 2 ^ 64 - 1 }
         ensures told { (psk : List ℕ) (s : Steps) (a : message.Ask) → IsAwaiting self.old psk s a
@@ -203,7 +203,7 @@ impl ReqSession {
     }
 
     /// Same as `take`, with this padding for the further record, of at most 16 bytes.
-    pub fn take_with(&mut self, sealed: &[u8], pad: &[u8]) -> Told
+    pub fn take_with(&mut self, sealed: &[u8], pad: &[u8]) -> ResponseOutcome
         requires awaiting { is_awaiting self.old.standing ≡ true }
         requires epoch { self.old.kept.request.epoch < 2 ^ 64 - 1 }
         requires pad { length pad.now ≤ MAX_PADDING }
@@ -212,14 +212,14 @@ impl ReqSession {
         ensures standing { IsLeft self.old self.new result }
     {
         if let Err(fault) = self.open_answer(sealed) {
-            return Told::Stay(fault);
+            return ResponseOutcome::Stay(fault);
         }
         match self
             .kept
             .meaning(self.standing.awaited(), self.sent.as_slice())
         {
             Meaning::Done(verdict) => {
-                let outcome = put_down(verdict, &mut self.brought);
+                let outcome = store_data(verdict, &mut self.brought);
                 self.led(outcome, pad)
             }
             Meaning::Piece { op, chunk } => {

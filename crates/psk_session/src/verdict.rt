@@ -7,8 +7,8 @@ ghost use Rattle.psk_session.specs.Waiting.{awaited_by};
 
 use crate::Reply;
 use crate::answers::read_answer;
-use crate::ask::Awaited;
 use crate::requests::operation_of;
+use crate::session_request::Awaited;
 use session_keys::byte_at;
 use spdm_grammar::names::error_number::LARGE_RESPONSE;
 use spdm_grammar::names::key_operation::VERIFY_NEW_KEY;

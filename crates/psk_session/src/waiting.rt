@@ -7,7 +7,7 @@ ghost use Rattle.psk_session.specs.Waiting.{StandsFor};
 ghost use Rattle.spdm_grammar.specs.declared.names.TheConstants.{MAX_PADDING};
 
 use crate::req_session::ReqSession;
-use crate::told::Told;
+use crate::response_outcome::ResponseOutcome;
 use crate::{Closed, ReqOpen, Took};
 use spdm_grammar::SessionView;
 use std::marker::Model;
@@ -66,11 +66,11 @@ impl Waiting {
     {
         let Waiting { mut session } = self;
         match session.take_with(sealed, pad) {
-            Told::Answer(reply) => Took::Answer(ReqOpen { session }, reply),
-            Told::Next => Took::Next(Waiting { session }),
-            Told::Ended => Took::Ended(Closed),
-            Told::Bad(fault) => Took::Bad(Closed, fault),
-            Told::Stay(fault) => Took::Stay(Waiting { session }, fault),
+            ResponseOutcome::Answer(reply) => Took::Answer(ReqOpen { session }, reply),
+            ResponseOutcome::Next => Took::Next(Waiting { session }),
+            ResponseOutcome::Ended => Took::Ended(Closed),
+            ResponseOutcome::Bad(fault) => Took::Bad(Closed, fault),
+            ResponseOutcome::Stay(fault) => Took::Stay(Waiting { session }, fault),
         }
     }
 }

@@ -1,3 +1,4 @@
 pub mod Config
 pub mod SetUp
 pub mod Standing
+pub mod Wiped

@@ -4,7 +4,7 @@ use Rattle.requester_core.specs.Joined as joined
 use Rattle.mctp_framing.specs.Assembling as assembling
 use Rattle.requester.specs.SetUp.{IsPart}
 use Rattle.requester.specs.declared.whole.Requester.{Requester}
-use Rattle.requester_core.specs.declared.joined.Asking.{Asking}
+use Rattle.requester_core.specs.declared.joined.RequesterCore.{RequesterCore}
 use Rattle.requester_machine.specs.Asking.{Outcome}
 use Rattle.requester_machine.specs.Does.{IsMade}
 use Rattle.requester_machine.specs.History.{History, draws_of}
@@ -59,7 +59,7 @@ pub record IsCounted (seen : Requester) (a : Requesting) : Type 0 where
 
 -- A complete body has this outcome: what is reported and sent is the outcome's, and the program's state stands for the
 -- history after it.
-pub record IsHeard (q : ReqSetup) (h : History) (outcome : Outcome) (told : Event) (sends : List (List ℕ)) (new : Asking) : Type 0 where
+pub record IsHeard (q : ReqSetup) (h : History) (outcome : Outcome) (told : Event) (sends : List (List ℕ)) (new : RequesterCore) : Type 0 where
   pub event : event_of outcome ≡ Some told
   pub sent : sends ≡ packets_of_sent q (sent_by outcome)
   pub stands : joined.StandsFor new q (after h outcome)

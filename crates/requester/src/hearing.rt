@@ -14,13 +14,13 @@ use crate::part::Part;
 use crate::sending::send;
 use crate::whole::WEAR_LIMIT;
 use mctp_framing::{Fed, Packet, PacketList, PacketView, Route};
-use requester_core::{Asking, Body};
+use requester_core::{Body, RequesterCore};
 use spdm_grammar::{Event, ReqIgnored};
 
 // Handles a complete message body that arrived by this route. The packets sent next overwrite `out`; if none are sent
 // `out` is unchanged. Records are sent without padding. The body sent overwrites `body`.
 fn hear(
-    asking: &mut Asking,
+    asking: &mut RequesterCore,
     part: &Part,
     route: Route,
     bytes: &[u8],

@@ -4,6 +4,7 @@
 //! are `Requester::command` and `Requester::on_packet`.
 #![tactic(auto)]
 
+mod busy;
 mod config;
 mod fault;
 mod hearing;
@@ -11,6 +12,7 @@ mod part;
 mod sending;
 mod telling;
 mod whole;
+mod wiping;
 
 pub use config::ReqConfig;
 pub use fault::ReqConfigFault;

@@ -16,7 +16,7 @@ use crate::sending::send;
 use crate::whole::WEAR_LIMIT;
 use hmac_hkdf::{DrawStream, Drawn};
 use mctp_framing::PacketList;
-use requester_core::{Asking, Body, Command, FreeValues};
+use requester_core::{Body, Command, FreeValues, RequesterCore};
 use session_keys::context_of;
 use spdm_grammar::CommandFault;
 
@@ -41,7 +41,7 @@ fn takes_draw(command: Command<'_>, pad: u8) -> bool
 
 // Runs a command with the values of the next unused draw. The body sent overwrites `body`.
 fn tell(
-    asking: &mut Asking,
+    asking: &mut RequesterCore,
     part: &Part,
     command: Command<'_>,
     drawn: &Drawn,

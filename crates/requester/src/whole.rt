@@ -2,7 +2,7 @@ use crate::part::Part;
 use crate::{ReqConfig, ReqConfigFault};
 use hmac_hkdf::DrawStream;
 use mctp_framing::Assembler;
-use requester_core::{Asking, Body};
+use requester_core::{Body, RequesterCore};
 use spdm_grammar::names::MAX_BODY_SIZE;
 use spdm_grammar::{Phase, SessionList};
 use std::alloc::Global;
@@ -15,7 +15,7 @@ pub(crate) const WEAR_LIMIT: u64 = 1_099_511_627_776;
 #[derive(Drop)]
 pub struct Requester {
     pub(crate) part: Part,
-    pub(crate) asking: Asking,
+    pub(crate) asking: RequesterCore,
     pub(crate) assembler: Assembler,
     pub(crate) draws: DrawStream,
     // The number of packets and commands so far.
@@ -65,7 +65,7 @@ impl Requester {
         let Ok(assembler) = Assembler::new(alloc, part.eid, part.responder, MAX_BODY_SIZE) else {
             return Err(ReqConfigFault::OutOfMemory);
         };
-        let asking = Asking::new(part.max);
+        let asking = RequesterCore::new(part.max);
         let draws = DrawStream::from_number(seed, u64::from(boot) * WEAR_LIMIT);
         Ok(Requester {
             part,

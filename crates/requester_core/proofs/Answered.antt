@@ -1,12 +1,12 @@
 -- A whole answer by what it reads as.
 use Rattle.std.proofs.Common.{refl, ◌≡◌, ◌∙◌, ap, sym, subst, ℕ, List, []}
 use Rattle.std.specs.Prelude.{Result, Ok}
-use Rattle.requester_core.specs.Led.{IsAnswered, IsLed}
-use Rattle.requester_core.specs.Talk.{Seen}
-use Rattle.requester_core.specs.Waiting.{IsClearRequest, kind_of}
+use Rattle.requester_core.specs.ReplyOutcome.{IsAnswered, IsLed}
+use Rattle.requester_core.specs.ClearState.{Seen}
+use Rattle.requester_core.specs.Outstanding.{IsClearRequest, kind_of}
 use Rattle.requester_core.specs.declared.clear.reply_outcome.ReplyOutcome as seen_led
 use Rattle.requester_core.specs.declared.clear.reply_outcome.ReplyOutcome.TheVariants as seen
-use Rattle.requester_core.specs.declared.clear.waiting.Asked.TheVariants as asks
+use Rattle.requester_core.specs.declared.clear.outstanding.PendingRequest.TheVariants as asks
 use Rattle.requester_machine.specs.Answers.{answer_led}
 use Rattle.requester_machine.specs.ClearAnswers.{read_led, reading_of}
 use Rattle.requester_machine.specs.Commands.{Free}

@@ -24,33 +24,33 @@ use Rattle.transcript.specs.Transcripts.{Negotiation}
 use Rattle.requester_core.specs.Commands.{IsOfSession}
 use Rattle.requester_core.specs.Negotiating.{IsUpTo, IsUpToAsked, IsUpToSent}
 use Rattle.requester_core.specs.Outgoing.{IsCut, IsKept, IsKeptOf, message_for}
-use Rattle.requester_core.specs.Waiting.{kind_of, waiting_for, waiting_of, way_of}
-use Rattle.requester_core.specs.declared.clear.waiting.Asked.{Asked}
-use Rattle.requester_core.specs.declared.clear.waiting.Way.{Way}
-use Rattle.requester_core.specs.declared.clear.waiting.Waiting.TheVariants as waits
+use Rattle.requester_core.specs.Outstanding.{kind_of, waiting_for, waiting_of, mode_of}
+use Rattle.requester_core.specs.declared.clear.outstanding.PendingRequest.{PendingRequest}
+use Rattle.requester_core.specs.declared.clear.outstanding.TransferMode.{TransferMode}
+use Rattle.requester_core.specs.declared.clear.outstanding.Outstanding.TheVariants as waits
 use Rattle.requester_core.proofs.Started.{HasRoom, common_room}
 
 -- ---- Read back.
 
 -- A request in the clear is outstanding.
-pub record InClearOf (o : Option Sent) (tag : ℕ) (asked : Asked) (way : Way) : Type 0 where
+pub record InClearOf (o : Option Sent) (tag : ℕ) (asked : PendingRequest) (mode : TransferMode) : Type 0 where
   pub sent : Sent
   pub is : o ≡ Some sent
   pub tag_is : sent.tag ≡ tag
   pub request : RequestMessage
   pub asks : asked_in sent.aim ≡ Some request
   pub kind : kind_of request ≡ asked
-  pub way_is : way_of sent.aim ≡ way
+  pub way_is : mode_of sent.aim ≡ mode
 
-in_aim : (sent : Sent) (aim : Aim) (tag : ℕ) (asked : Asked) (way : Way) → sent.aim ≡ aim → waits.InClear tag asked way ≡ waiting_for sent.tag aim → InClearOf (Some sent) tag asked way
-in_aim sent (Plain request) tag asked way aims e = record { sent = sent; is = refl; tag_is = cc e; request = request; asks = ap asked_in aims; kind = cc e; way_is = ap way_of aims ∙ (cc e) }
-in_aim sent (ByChunks request handle number) tag asked way aims e = record { sent = sent; is = refl; tag_is = cc e; request = request; asks = ap asked_in aims; kind = cc e; way_is = ap way_of aims ∙ (cc e) }
-in_aim sent (ForChunk request handle number before) tag asked way aims e = record { sent = sent; is = refl; tag_is = cc e; request = request; asks = ap asked_in aims; kind = cc e; way_is = ap way_of aims ∙ (cc e) }
-in_aim sent (InSession id ask) tag asked way aims e = absurd (cc e)
+in_aim : (sent : Sent) (aim : Aim) (tag : ℕ) (asked : PendingRequest) (mode : TransferMode) → sent.aim ≡ aim → waits.InClear tag asked mode ≡ waiting_for sent.tag aim → InClearOf (Some sent) tag asked mode
+in_aim sent (Plain request) tag asked mode aims e = record { sent = sent; is = refl; tag_is = cc e; request = request; asks = ap asked_in aims; kind = cc e; way_is = ap mode_of aims ∙ (cc e) }
+in_aim sent (ByChunks request handle number) tag asked mode aims e = record { sent = sent; is = refl; tag_is = cc e; request = request; asks = ap asked_in aims; kind = cc e; way_is = ap mode_of aims ∙ (cc e) }
+in_aim sent (ForChunk request handle number before) tag asked mode aims e = record { sent = sent; is = refl; tag_is = cc e; request = request; asks = ap asked_in aims; kind = cc e; way_is = ap mode_of aims ∙ (cc e) }
+in_aim sent (InSession id ask) tag asked mode aims e = absurd (cc e)
 
-pub in_clear : (o : Option Sent) (tag : ℕ) (asked : Asked) (way : Way) → waits.InClear tag asked way ≡ waiting_of o → InClearOf o tag asked way
-in_clear None tag asked way e = absurd (cc e)
-in_clear (Some sent) tag asked way e = in_aim sent sent.aim tag asked way refl e
+pub in_clear : (o : Option Sent) (tag : ℕ) (asked : PendingRequest) (mode : TransferMode) → waits.InClear tag asked mode ≡ waiting_of o → InClearOf o tag asked mode
+in_clear None tag asked mode e = absurd (cc e)
+in_clear (Some sent) tag asked mode e = in_aim sent sent.aim tag asked mode refl e
 
 nothing_aim : {A : Type 0} (tag : ℕ) (aim : Aim) → waits.Nothing ≡ waiting_for tag aim → A
 nothing_aim tag (Plain request) e = absurd (cc e)
@@ -120,13 +120,13 @@ chunks_room q h (PskExchange exchange) sizes holds a up chunks = common_room q (
 chunks_room q h _ sizes holds a up chunks = absurd a
 
 -- The outstanding message in the clear, by what is kept of it.
-abbrev IsWritten : History → RequestMessage → Way → Content → Type 0
-IsWritten h request way content =
-    (content ≡ Clear (message_for way (connection_terms h).common.to_responder.transfer (canonical_request request)))
-    × IsCut way (connection_terms h).common.to_responder.transfer (canonical_request request)
+abbrev IsWritten : History → RequestMessage → TransferMode → Content → Type 0
+IsWritten h request mode content =
+    (content ≡ Clear (message_for mode (connection_terms h).common.to_responder.transfer (canonical_request request)))
+    × IsCut mode (connection_terms h).common.to_responder.transfer (canonical_request request)
 
 written_as : (q : ReqSetup) (h : History) (content : Content) (aim : Aim) (request : RequestMessage) → HasSizes q → Holds q h → IsUpTo request (negotiation_of h) → asked_in aim ≡ Some request → IsOutstanding q h content aim
-    → IsWritten h request (way_of aim) content
+    → IsWritten h request (mode_of aim) content
 written_as q h content (Plain r) request sizes holds up asks out = (let same : r ≡ request = cc asks in (subst (λ (x : RequestMessage). content ≡ Clear (canonical_request x)) same out.1, tt))
 written_as q h content (ByChunks r handle number) request sizes holds up asks out =
     (let same : r ≡ request = cc asks in
@@ -137,13 +137,13 @@ written_as q h content (ByChunks r handle number) request sizes holds up asks ou
 written_as q h content (ForChunk r handle number before) request sizes holds up asks out = (out.2, tt)
 written_as q h content (InSession id ask) request sizes holds up asks out = absurd (cc asks)
 
-pub written : (q : ReqSetup) (h : History) (tag : ℕ) (asked : Asked) (way : Way) → HasSizes q → Holds q h → IsUpToSent (outstanding h) (negotiation_of h) → (c : InClearOf (outstanding h) tag asked way) → IsWritten h c.request way c.sent.content
-written q h tag asked way sizes holds up c =
-    subst (λ (w : Way). IsWritten h c.request w c.sent.content) c.way_is
+pub written : (q : ReqSetup) (h : History) (tag : ℕ) (asked : PendingRequest) (mode : TransferMode) → HasSizes q → Holds q h → IsUpToSent (outstanding h) (negotiation_of h) → (c : InClearOf (outstanding h) tag asked mode) → IsWritten h c.request mode c.sent.content
+written q h tag asked mode sizes holds up c =
+    subst (λ (w : TransferMode). IsWritten h c.request w c.sent.content) c.way_is
     (written_as q h c.sent.content c.sent.aim c.request sizes holds
     (subst (λ (a : Option RequestMessage). IsUpToAsked a (negotiation_of h)) c.asks (subst (λ (w : Option Sent). IsUpToSent w (negotiation_of h)) c.is up))
     c.asks (subst (Waits q h) c.is holds.waits))
 
 -- The kept bytes are those of the request.
-pub kept_request : (o : Option Sent) (tag : ℕ) (asked : Asked) (way : Way) (bytes : List ℕ) → (c : InClearOf o tag asked way) → IsKeptOf o bytes → bytes ≡ canonical_request c.request
-kept_request o tag asked way bytes c keeps = subst (λ (a : Option RequestMessage). IsKept a bytes) c.asks (subst (λ (w : Option Sent). IsKeptOf w bytes) c.is keeps)
+pub kept_request : (o : Option Sent) (tag : ℕ) (asked : PendingRequest) (mode : TransferMode) (bytes : List ℕ) → (c : InClearOf o tag asked mode) → IsKeptOf o bytes → bytes ≡ canonical_request c.request
+kept_request o tag asked mode bytes c keeps = subst (λ (a : Option RequestMessage). IsKept a bytes) c.asks (subst (λ (w : Option Sent). IsKeptOf w bytes) c.is keeps)

@@ -5,7 +5,7 @@ use Rattle.requester_core.proofs.TakenBack.{without}
 use Rattle.requester_core.specs.LargeRequests.{IsBrokenOff, IsSentOn}
 use Rattle.requester_core.specs.Outgoing.{handle_after, passed_over}
 use Rattle.requester_core.specs.Owed.{TookAny}
-use Rattle.requester_core.specs.Talk.{Counts, Seen, Shows}
+use Rattle.requester_core.specs.ClearState.{Counts, Seen, Shows}
 use Rattle.requester_machine.specs.History.{History, begins_large, larges_of, outstanding, sent_count}
 use Rattle.requester_machine.specs.History.Entry.{Told}
 use Rattle.requester_machine.specs.Message.{Command, Sent}

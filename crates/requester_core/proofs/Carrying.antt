@@ -2,8 +2,8 @@
 use Rattle.std.proofs.Common.{refl, ◌≡◌, ◌≤◌, ◌<◌, ◌+◌, ◌-◌, ◌^◌, ℕ, List, Bool, false, length, arith, min}
 use Rattle.std.specs.Prelude.{◌==◌, ◌/◌, ◌%◌, Ok}
 use Rattle.std.proofs.Math.Nat.{div-le_self}
-use Rattle.requester_core.specs.Led.{IsAnswered, IsCarried, IsLed}
-use Rattle.requester_core.specs.Talk.{Seen}
+use Rattle.requester_core.specs.ReplyOutcome.{IsAnswered, IsCarried, IsLed}
+use Rattle.requester_core.specs.ClearState.{Seen}
 use Rattle.requester_core.specs.declared.clear.reply_outcome.ReplyOutcome as seen_led
 use Rattle.requester_core.specs.declared.clear.reply_outcome.ReplyOutcome.TheVariants as seen
 use Rattle.chunking.specs.Cutting.{chunk_count}

@@ -28,8 +28,8 @@ use Rattle.spdm_grammar.specs.declared.told.event.ReqIgnored.{ReqIgnored}
 use Rattle.spdm_grammar.specs.declared.told.event.ReqIgnored.TheVariants as ignored
 use Rattle.spdm_grammar.specs.declared.messages.malformed.Malformed.{Malformed}
 use Rattle.requester_core.specs.Gathering.{Gathered, Gathers, IsGathered, IsGatheredFor, Leaves, is_other}
-use Rattle.requester_core.specs.Led.{IsAnswered, IsCarried, IsLed, IsTaken, changes_nothing, is_large, is_no_get}
-use Rattle.requester_core.specs.Talk.{Seen}
+use Rattle.requester_core.specs.ReplyOutcome.{IsAnswered, IsCarried, IsLed, IsTaken, changes_nothing, is_large, is_no_get}
+use Rattle.requester_core.specs.ClearState.{Seen}
 use Rattle.requester_core.specs.declared.clear.reply_outcome.ReplyOutcome as seen_led
 use Rattle.requester_core.specs.declared.clear.reply_outcome.ReplyOutcome.TheVariants as seen
 use Rattle.requester_core.proofs.Answered.{any_free}

@@ -43,9 +43,9 @@ use Rattle.requester_core.specs.Negotiating as negotiating
 use Rattle.requester_core.specs.Negotiating.{IsUpToSent}
 use Rattle.requester_core.specs.Outgoing as outgoing
 use Rattle.requester_core.specs.Outgoing.{IsKept, IsKeptOf, tag_after}
-use Rattle.requester_core.specs.Talk.{Seen, Shows, StandsFor}
-use Rattle.requester_core.specs.Waiting.{waiting_for}
-use Rattle.requester_core.specs.declared.clear.waiting.Waiting.TheVariants as waits
+use Rattle.requester_core.specs.ClearState.{Seen, Shows, StandsFor}
+use Rattle.requester_core.specs.Outstanding.{waiting_for}
+use Rattle.requester_core.specs.declared.clear.outstanding.Outstanding.TheVariants as waits
 use Rattle.requester_core.proofs.NoGets.{gathers_any, record_no_get}
 use Rattle.requester_core.proofs.Started.{tag_more}
 

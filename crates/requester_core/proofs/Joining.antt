@@ -2,8 +2,8 @@
 use Rattle.std.proofs.Common.{refl, ◌≡◌, ◌∙◌, ◌∷◌, ℕ, List, true, false, Option, Some, None, ap, sym, subst}
 use Rattle.requester_machine.proofs.Entries as entries
 use Rattle.psk_session.specs.AskLaws.{command_at}
-use Rattle.psk_session.specs.declared.ask.Ask as declared
-use Rattle.psk_session.specs.declared.ask.Ask.TheVariants as ask
+use Rattle.psk_session.specs.declared.session_request.SessionRequest as declared
+use Rattle.psk_session.specs.declared.session_request.SessionRequest.TheVariants as ask
 use Rattle.requester_machine.proofs.HoldsTold.{told_sent}
 use Rattle.requester_machine.specs.Asking.{Outcome, asks, asks_by, done}
 use Rattle.requester_machine.specs.Asking.Outcome.{Adds, Fails, Resends}
@@ -25,8 +25,8 @@ use Rattle.requester_core.specs.InSession.{SendsRecord}
 use Rattle.requester_core.specs.Joined.{IsDone, StandsFor}
 use Rattle.requester_core.specs.SessionSteps.{IsRecordOf}
 use Rattle.requester_core.specs.Sessions as sessions
-use Rattle.requester_core.specs.Talk as talk
-use Rattle.requester_core.specs.declared.joined.Asking.{Asking}
+use Rattle.requester_core.specs.ClearState as clear_state
+use Rattle.requester_core.specs.declared.joined.RequesterCore.{RequesterCore}
 use Rattle.requester_machine.proofs.Telling.{resent_is}
 
 -- ---- What goes out.
@@ -41,7 +41,7 @@ clear_out content message out is outs = outs ∙ sym (ap body_of is)
 
 -- ---- Commands.
 
-module _ (q : ReqSetup) (h : History) (command : Command) (f : Free) (d : Draw) (tag : ℕ) (out : List ℕ) (after_it : Asking) where
+module _ (q : ReqSetup) (h : History) (command : Command) (f : Free) (d : Draw) (tag : ℕ) (out : List ℕ) (after_it : RequesterCore) where
   -- It sends this.
   done_with : (sent : Sent) → asks false q h command f d ≡ Adds (Told command sent d) → sent.tag ≡ tag → out ≡ body_of sent.content → StandsFor after_it q (Told command sent d ∷ h) → IsDone q h (asks false q h command f d) tag out after_it
   done_with sent outcome tags body stands = record {
@@ -54,22 +54,22 @@ module _ (q : ReqSetup) (h : History) (command : Command) (f : Free) (d : Draw) 
   }
 
   -- In the clear.
-  pub clear_done : (message : List ℕ) → commands.IsDone q h command f d tag after_it.talk message → out ≡ clear_body message
-      → ((sent : Sent) → asks false q h command f d ≡ Adds (Told command sent d) → talk.StandsFor after_it.talk q (Told command sent d ∷ h) → sessions.StandsFor after_it.sessions q (Told command sent d ∷ h)) → after_it.gathered.max ≡ q.max
+  pub clear_done : (message : List ℕ) → commands.IsDone q h command f d tag after_it.clear_state message → out ≡ clear_body message
+      → ((sent : Sent) → asks false q h command f d ≡ Adds (Told command sent d) → clear_state.StandsFor after_it.clear_state q (Told command sent d ∷ h) → sessions.StandsFor after_it.sessions q (Told command sent d ∷ h)) → after_it.gathered.max ≡ q.max
       → IsDone q h (asks false q h command f d) tag out after_it
   clear_done message done outs behind max =
       done_with done.sent done.outcome done.tag_is (clear_out done.sent.content message out done.content outs)
-      (record { talk = done.stands; sessions = behind done.sent done.outcome done.stands; gathers = done.gathers after_it.gathered max })
+      (record { clear_state = done.stands; sessions = behind done.sent done.outcome done.stands; gathers = done.gathers after_it.gathered max })
 
   -- In a session.
-  pub record_done : (sent : Sent) (bytes : List ℕ) → asks false q h command f d ≡ Adds (Told command sent d) → SendsRecord q (Told command sent d ∷ h) sent tag after_it.talk → IsRecordOf bytes sent.content → out ≡ record_body bytes
+  pub record_done : (sent : Sent) (bytes : List ℕ) → asks false q h command f d ≡ Adds (Told command sent d) → SendsRecord q (Told command sent d ∷ h) sent tag after_it.clear_state → IsRecordOf bytes sent.content → out ≡ record_body bytes
       → sessions.StandsFor after_it.sessions q (Told command sent d ∷ h) → after_it.gathered.max ≡ q.max → IsDone q h (asks false q h command f d) tag out after_it
   record_done sent bytes outcome sends is outs behind max =
       done_with sent outcome sends.tag_is (record_out sent.content bytes out is outs)
-      (record { talk = sends.stands; sessions = behind; gathers = sends.gathers after_it.gathered max })
+      (record { clear_state = sends.stands; sessions = behind; gathers = sends.gathers after_it.gathered max })
 
 -- The outstanding message is resent.
-pub resent_done : (q : ReqSetup) (h : History) (outcome : Outcome) (tag : ℕ) (out : List ℕ) (x : Asking) (sent : Sent) → outcome ≡ Resends sent → sent.tag ≡ tag → out ≡ body_of sent.content → StandsFor x q h → IsDone q h outcome tag out x
+pub resent_done : (q : ReqSetup) (h : History) (outcome : Outcome) (tag : ℕ) (out : List ℕ) (x : RequesterCore) (sent : Sent) → outcome ≡ Resends sent → sent.tag ≡ tag → out ≡ body_of sent.content → StandsFor x q h → IsDone q h outcome tag out x
 resent_done q h outcome tag out x sent is tags body stands = record {
   sent = sent;
   fault = ap fault_of is;
@@ -85,7 +85,7 @@ asks_is : (q : ReqSetup) (h : History) (command : Command) (f : Free) (d : Draw)
 unfolding asks
 asks_is q h command f d = refl
 
-pub asks_it : (id : ℕ) (a : declared.Ask) → asks_session (command_at id a) ≡ true
+pub asks_it : (id : ℕ) (a : declared.SessionRequest) → asks_session (command_at id a) ≡ true
 asks_it id (ask.Data bytes) = refl
 asks_it id ask.Beat = refl
 asks_it id ask.UpdateKey = refl
@@ -96,13 +96,13 @@ asks_it id ask.End = refl
 -- ---- What is asked of a session.
 
 -- The command asks it in a record of the session.
-pub ask_aims : (q : ReqSetup) (h : History) (f : Free) (d : Draw) (id : ℕ) (a : declared.Ask) (sent : Sent) → asks false q h (command_at id a) f d ≡ Adds (Told (command_at id a) sent d) → (x : Ask) × (sent.aim ≡ InSession id x)
+pub ask_aims : (q : ReqSetup) (h : History) (f : Free) (d : Draw) (id : ℕ) (a : declared.SessionRequest) (sent : Sent) → asks false q h (command_at id a) f d ≡ Adds (Told (command_at id a) sent d) → (x : Ask) × (sent.aim ≡ InSession id x)
 ask_aims q h f d id a sent adds = aims_by a (entries.asked false q h (command_at id a) f d (Told (command_at id a) sent d) adds).1
   where
     of : (command : Command) (y : Sent) (x : Ask) → y.aim ≡ InSession id x → Adds (Told command y d) ≡ Adds (Told command sent d) → (x : Ask) × (sent.aim ≡ InSession id x)
     of command y x aims is = (x, ap (λ (s : Sent). s.aim) (sym (told_sent command y sent d is)) ∙ aims)
 
-    aims_by : (b : declared.Ask) → done q h (command_at id b) f d ≡ Adds (Told (command_at id b) sent d) → (x : Ask) × (sent.aim ≡ InSession id x)
+    aims_by : (b : declared.SessionRequest) → done q h (command_at id b) f d ≡ Adds (Told (command_at id b) sent d) → (x : Ask) × (sent.aim ≡ InSession id x)
     aims_by (ask.Data bytes) is = of _ _ AskData refl is
     aims_by ask.Beat is = of _ _ AskBeat refl is
     aims_by ask.UpdateKey is = of _ _ (AskUpdate false) refl is
@@ -119,7 +119,7 @@ resent_waits q h f d sent is = by_fault (command_fault false q h Retry f) (sym (
     by_fault None same = resent_is sent (outstanding h) same
 
 -- A command in the clear that fails leaves the clear part as it was.
-pub clear_fails : (q : ReqSetup) (h : History) (command : Command) (f : Free) (d : Draw) (fault : CommandFault) (old : Asking) (seen : talk.Seen) (message : List ℕ) → commands.IsFailed q h command f d fault old.talk seen → StandsFor old q h
-    → (asks false q h command f d ≡ Fails fault) × StandsFor (record { talk = seen; gathered = old.gathered; sessions = old.sessions; message = message }) q h
+pub clear_fails : (q : ReqSetup) (h : History) (command : Command) (f : Free) (d : Draw) (fault : CommandFault) (old : RequesterCore) (seen : clear_state.Seen) (message : List ℕ) → commands.IsFailed q h command f d fault old.clear_state seen → StandsFor old q h
+    → (asks false q h command f d ≡ Fails fault) × StandsFor (record { clear_state = seen; gathered = old.gathered; sessions = old.sessions; message = message }) q h
 clear_fails q h command f d fault old seen message failed stands =
-    (failed.outcome, record { talk = subst (λ (s : talk.Seen). talk.StandsFor s q h) (sym failed.same) stands.talk; sessions = stands.sessions; gathers = stands.gathers })
+    (failed.outcome, record { clear_state = subst (λ (s : clear_state.Seen). clear_state.StandsFor s q h) (sym failed.same) stands.clear_state; sessions = stands.sessions; gathers = stands.gathers })

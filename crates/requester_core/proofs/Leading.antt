@@ -39,17 +39,17 @@ use Rattle.spdm_grammar.specs.declared.told.phase.Phase.{Phase}
 use Rattle.spdm_grammar.specs.declared.told.phase.Phase.TheVariants.{Capable, Negotiated, Versioned}
 use Rattle.spdm_machine.specs.Terms.{Terms, hash_len, no_choice, no_negotiation, request_value, response_value, terms_of}
 use Rattle.transcript.specs.Transcripts.{Negotiation, vca_of}
-use Rattle.requester_core.specs.Led.{Follows, SendsNext, is_no_get}
+use Rattle.requester_core.specs.ReplyOutcome.{Follows, SendsNext, is_no_get}
 use Rattle.requester_core.specs.Negotiating as negotiating
 use Rattle.requester_core.specs.Negotiating.{IsShort, IsUpTo, IsUpToAsked}
 use Rattle.requester_core.specs.Outgoing as outgoing
 use Rattle.requester_core.specs.Outgoing.{Sends, tag_after}
-use Rattle.requester_core.specs.Talk.{Seen, Shows}
-use Rattle.requester_core.specs.Waiting.{kind_of, waiting_of}
-use Rattle.requester_core.specs.declared.clear.waiting.Asked.{Asked}
-use Rattle.requester_core.specs.declared.clear.waiting.Waiting.TheVariants as waits
-use Rattle.requester_core.specs.declared.clear.waiting.Way.{Way}
-use Rattle.requester_core.specs.declared.clear.waiting.Way.TheVariants as ways
+use Rattle.requester_core.specs.ClearState.{Seen, Shows}
+use Rattle.requester_core.specs.Outstanding.{kind_of, waiting_of}
+use Rattle.requester_core.specs.declared.clear.outstanding.PendingRequest.{PendingRequest}
+use Rattle.requester_core.specs.declared.clear.outstanding.Outstanding.TheVariants as waits
+use Rattle.requester_core.specs.declared.clear.outstanding.TransferMode.{TransferMode}
+use Rattle.requester_core.specs.declared.clear.outstanding.TransferMode.TheVariants as modes
 use Rattle.requester_machine.proofs.ResponseLengths.{measured_value}
 use Rattle.requester_core.proofs.Started.{sends_shown}
 use Rattle.spdm_machine.proofs.Settling.{algorithms_keep, capabilities_keep, choice_by, with_algorithms, with_capabilities}
@@ -57,33 +57,33 @@ use Rattle.spdm_machine.proofs.Settling.{algorithms_keep, capabilities_keep, cho
 -- ---- Messages that are sent.
 
 -- A message is sent that begins no large request.
-pub record Small (x : Sent) (h : History) (request : RequestMessage) (way : Way) (out : List ℕ) : Type 0 where
+pub record Small (x : Sent) (h : History) (request : RequestMessage) (mode : TransferMode) (out : List ℕ) : Type 0 where
   pub tag : x.tag ≡ next_tag h
-  pub waits : (tag : ℕ) → waits.InClear tag (kind_of request) way ≡ waiting_of (Some (record x { tag = tag }))
+  pub waits : (tag : ℕ) → waits.InClear tag (kind_of request) mode ≡ waiting_of (Some (record x { tag = tag }))
   pub content : x.content ≡ Clear out
   pub begins : begins_large x.aim ≡ false
 
-pub small_sends : (x : Sent) (h : History) (request : RequestMessage) (asked : Asked) (way : Way) (old new : outgoing.Seen) (tag : ℕ) (out : List ℕ) → Small x h request way out → kind_of request ≡ asked → old.tag ≡ next_tag h
-    → tag ≡ old.tag → new ≡ record old { tag = tag_after old.tag; waiting = waits.InClear old.tag asked way } → Sends x old new tag out
-small_sends x h request asked way old new tag out small kind was is sends = record {
+pub small_sends : (x : Sent) (h : History) (request : RequestMessage) (asked : PendingRequest) (mode : TransferMode) (old new : outgoing.Seen) (tag : ℕ) (out : List ℕ) → Small x h request mode out → kind_of request ≡ asked → old.tag ≡ next_tag h
+    → tag ≡ old.tag → new ≡ record old { tag = tag_after old.tag; waiting = waits.InClear old.tag asked mode } → Sends x old new tag out
+small_sends x h request asked mode old new tag out small kind was is sends = record {
   tag_is = small.tag ∙ sym was ∙ sym is;
   content = small.content;
   tags = ap (λ (s : outgoing.Seen). s.tag) sends;
   handles = ap (λ (s : outgoing.Seen). s.handle) sends ∙ sym (ap (λ (b : Bool). if b then outgoing.handle_after old.handle else old.handle) small.begins);
-  waiting = ap (λ (s : outgoing.Seen). s.waiting) sends ∙ ap (λ (k : Asked). waits.InClear old.tag k way) (sym kind) ∙ small.waits old.tag ∙ ap (λ (n : ℕ). waiting_of (Some (record x { tag = n }))) (was ∙ sym small.tag);
+  waiting = ap (λ (s : outgoing.Seen). s.waiting) sends ∙ ap (λ (k : PendingRequest). waits.InClear old.tag k mode) (sym kind) ∙ small.waits old.tag ∙ ap (λ (n : ℕ). waiting_of (Some (record x { tag = n }))) (was ∙ sym small.tag);
   request = ap (λ (s : outgoing.Seen). s.request) sends;
 }
 
-pub plain_small : (h : History) (request : RequestMessage) → Small (plain_sent h request) h request ways.Whole (canonical_request request)
+pub plain_small : (h : History) (request : RequestMessage) → Small (plain_sent h request) h request modes.Whole (canonical_request request)
 plain_small h request = record { tag = refl; waits = λ tag. refl; content = refl; begins = refl }
 
-pub get_small : (h : History) (request : RequestMessage) (handle number : ℕ) (before : List ChunkMessage) → Small (get_sent h request handle number before) h request (ways.ForChunk handle number) (canonical_request (ChunkGet handle number))
+pub get_small : (h : History) (request : RequestMessage) (handle number : ℕ) (before : List ChunkMessage) → Small (get_sent h request handle number before) h request (modes.ForChunk handle number) (canonical_request (ChunkGet handle number))
 get_small h request handle number before = record { tag = refl; waits = λ tag. refl; content = refl; begins = refl }
 
 not_first : (n : ℕ) → (n + 1 == 0) ≡ false
 not_first n = grind (arith, nat_tests)
 
-pub piece_small : (common : Common) (h : History) (request : RequestMessage) (handle number : ℕ) → Small (piece_sent common h request handle (number + 1)) h request (ways.ByChunks handle (number + 1)) (canonical_request (ChunkSend (piece_of common request handle (number + 1))))
+pub piece_small : (common : Common) (h : History) (request : RequestMessage) (handle number : ℕ) → Small (piece_sent common h request handle (number + 1)) h request (modes.ByChunks handle (number + 1)) (canonical_request (ChunkSend (piece_of common request handle (number + 1))))
 piece_small common h request handle number = record { tag = refl; waits = λ tag. refl; content = refl; begins = not_first number }
 
 -- ---- What is kept with one more message.
@@ -147,12 +147,12 @@ request_no_get common h request false handle = refl
 
 -- ---- A large answer.
 
-pub large_led : (h : History) (request : RequestMessage) (asked : Asked) (handle tag : ℕ) (old : Seen) (new : outgoing.Seen) (out : List ℕ) → Shows old h → old.outgoing.request ≡ canonical_request request → kind_of request ≡ asked → IsUpTo request (negotiation_of h)
-    → tag ≡ old.outgoing.tag → new ≡ record old.outgoing { tag = tag_after old.outgoing.tag; waiting = waits.InClear old.outgoing.tag asked (ways.ForChunk handle 0) } → out ≡ canonical_request (ChunkGet handle 0)
+pub large_led : (h : History) (request : RequestMessage) (asked : PendingRequest) (handle tag : ℕ) (old : Seen) (new : outgoing.Seen) (out : List ℕ) → Shows old h → old.outgoing.request ≡ canonical_request request → kind_of request ≡ asked → IsUpTo request (negotiation_of h)
+    → tag ≡ old.outgoing.tag → new ≡ record old.outgoing { tag = tag_after old.outgoing.tag; waiting = waits.InClear old.outgoing.tag asked (modes.ForChunk handle 0) } → out ≡ canonical_request (ChunkGet handle 0)
     → SendsNext h (goes_on Nothing (get_sent h request handle 0 [])) (get_sent h request handle 0 []) tag (record { negotiating = old.negotiating; outgoing = new; brought = old.brought }) (canonical_request (ChunkGet handle 0))
 large_led h request asked handle tag old new out shows keeps kind up is sends written =
     next_led h Nothing (get_sent h request handle 0 []) request old old.negotiating old.outgoing new tag (canonical_request (ChunkGet handle 0)) shows shows.negotiating up refl refl refl refl keeps
-    (small_sends (get_sent h request handle 0 []) h request asked (ways.ForChunk handle 0) old.outgoing new tag (canonical_request (ChunkGet handle 0)) (get_small h request handle 0 []) kind shows.outgoing.tag is sends)
+    (small_sends (get_sent h request handle 0 []) h request asked (modes.ForChunk handle 0) old.outgoing new tag (canonical_request (ChunkGet handle 0)) (get_small h request handle 0 []) kind shows.outgoing.tag is sends)
 
 -- ---- VERSION.
 

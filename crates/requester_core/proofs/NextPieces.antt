@@ -13,15 +13,15 @@ use Rattle.requester_core.specs.Outgoing.{IsCut, IsKept, IsKeptOf, message_for, 
 use Rattle.requester_core.specs.Sessions as sessions
 use Rattle.requester_core.specs.Sessions.{IsNamed, session_at, session_begun, session_for, slot_of}
 use Rattle.requester_core.specs.Slot.{IsSlotOf}
-use Rattle.requester_core.specs.Talk.{Seen, StandsFor}
-use Rattle.requester_core.specs.Waiting.{kind_of}
+use Rattle.requester_core.specs.ClearState.{Seen, StandsFor}
+use Rattle.requester_core.specs.Outstanding.{kind_of}
 use Rattle.requester_core.specs.Joined as joined
-use Rattle.requester_core.specs.declared.joined.Asking.{Asking}
+use Rattle.requester_core.specs.declared.joined.RequesterCore.{RequesterCore}
 use Rattle.requester_core.specs.declared.in_sessions.sessions.Sessions.{Sessions}
-use Rattle.requester_core.specs.declared.clear.waiting.Asked.{Asked}
-use Rattle.requester_core.specs.declared.clear.waiting.Waiting.TheVariants as waits
-use Rattle.requester_core.specs.declared.clear.waiting.Way.{Way}
-use Rattle.requester_core.specs.declared.clear.waiting.Way.TheVariants as ways
+use Rattle.requester_core.specs.declared.clear.outstanding.PendingRequest.{PendingRequest}
+use Rattle.requester_core.specs.declared.clear.outstanding.Outstanding.TheVariants as waits
+use Rattle.requester_core.specs.declared.clear.outstanding.TransferMode.{TransferMode}
+use Rattle.requester_core.specs.declared.clear.outstanding.TransferMode.TheVariants as modes
 use Rattle.chunking.specs.Cutting.{chunk_count, nth_chunk}
 use Rattle.negotiate.specs.declared.shared.Common.{Common}
 use Rattle.requester_machine.proofs.ClearLeads.ClearLeads.{BySend}
@@ -66,18 +66,18 @@ module _ (q : ReqSetup) (h : History) (sent : Sent) (asked : RequestMessage) (ha
   up_to up = subst (λ (a : Option RequestMessage). IsUpToAsked a (negotiation_of h)) (ap asked_in aims) (subst (λ (o : Option Sent). IsUpToSent o (negotiation_of h)) is_out up)
 
   -- It is one of the chunks of the request.
-  pub piece_cut : (old : Seen) → StandsFor old q h → IsCut (ways.ByChunks handle number) common.to_responder.transfer old.outgoing.request
+  pub piece_cut : (old : Seen) → StandsFor old q h → IsCut (modes.ByChunks handle number) common.to_responder.transfer old.outgoing.request
   piece_cut old stands =
       let out = its_piece stands.holds in
       let piece = out.1 sizes in
       let room = chunks_room q h asked sizes stands.holds out.0 (up_to stands.shows.up_to) piece.chunks in
-      subst (IsCut (ways.ByChunks handle number) common.to_responder.transfer) (sym (kept old.outgoing stands.shows.outgoing.request)) (room.least, room.most, piece.within)
+      subst (IsCut (modes.ByChunks handle number) common.to_responder.transfer) (sym (kept old.outgoing stands.shows.outgoing.request)) (room.least, room.most, piece.within)
 
   -- Whether it is the last.
   pub last_is : (old : Seen) (transfer : ℕ) (b : Bool) → StandsFor old q h → common.to_responder.transfer ≡ transfer
-      → (IsCut (ways.ByChunks handle number) transfer old.outgoing.request → b ≡ (nth_chunk transfer handle old.outgoing.request number).last) → b ≡ (piece_of common asked handle number).last
+      → (IsCut (modes.ByChunks handle number) transfer old.outgoing.request → b ≡ (nth_chunk transfer handle old.outgoing.request number).last) → b ≡ (piece_of common asked handle number).last
   last_is old transfer b stands same tells =
-      tells (subst (λ (n : ℕ). IsCut (ways.ByChunks handle number) n old.outgoing.request) same (piece_cut old stands))
+      tells (subst (λ (n : ℕ). IsCut (modes.ByChunks handle number) n old.outgoing.request) same (piece_cut old stands))
       ∙ (λ i. (nth_chunk (sym same i) handle (kept old.outgoing stands.shows.outgoing.request i) number).last)
 
   -- ---- The clear part.
@@ -85,12 +85,12 @@ module _ (q : ReqSetup) (h : History) (sent : Sent) (asked : RequestMessage) (ha
   holds_next : (of : ℕ) (m : List ℕ) (d : Draw) → (piece_of common asked handle number).last ≡ false → Holds q h → Holds q (TookClear of m (goes_on Nothing next) d ∷ h)
   holds_next of m d more holds = clear_holds q h any_free of m (goes_on Nothing next) d sent asked is_out (ap asked_in aims) (BySend handle number aims more refl) holds
 
-  pub piece_sends : (kind : Asked) (old : Seen) (new : outgoing.Seen) (tag : ℕ) (out : List ℕ) → kind_of asked ≡ kind → StandsFor old q h → (piece_of common asked handle number).last ≡ false
-      → tag ≡ old.outgoing.tag → new ≡ record old.outgoing { tag = tag_after old.outgoing.tag; waiting = waits.InClear old.outgoing.tag kind (ways.ByChunks handle (number + 1)) }
+  pub piece_sends : (kind : PendingRequest) (old : Seen) (new : outgoing.Seen) (tag : ℕ) (out : List ℕ) → kind_of asked ≡ kind → StandsFor old q h → (piece_of common asked handle number).last ≡ false
+      → tag ≡ old.outgoing.tag → new ≡ record old.outgoing { tag = tag_after old.outgoing.tag; waiting = waits.InClear old.outgoing.tag kind (modes.ByChunks handle (number + 1)) }
       → out ≡ canonical_request (ChunkSend (piece_of common asked handle (number + 1))) → SendsPiece q h (Some next) (Some tag) out old (record old { outgoing = new })
   piece_sends kind old new tag out kinds stands more is sends written =
       let shows = stands.shows in
-      let small = small_sends next h asked kind (ways.ByChunks handle (number + 1)) old.outgoing new tag (canonical_request (ChunkSend (piece_of common asked handle (number + 1)))) (piece_small common h asked handle number) kinds shows.outgoing.tag is sends in
+      let small = small_sends next h asked kind (modes.ByChunks handle (number + 1)) old.outgoing new tag (canonical_request (ChunkSend (piece_of common asked handle (number + 1)))) (piece_small common h asked handle number) kinds shows.outgoing.tag is sends in
       let leads = next_led h Nothing next asked old old.negotiating old.outgoing new tag (canonical_request (ChunkSend (piece_of common asked handle (number + 1)))) shows shows.negotiating (up_to shows.up_to) refl refl refl refl (kept old.outgoing shows.outgoing.request) small in
       (leads.tag_is, leads.content ∙ ap Clear (sym written), λ of m d. record { holds = holds_next of m d more stands.holds; shows = leads.follows of m d })
 
@@ -103,10 +103,10 @@ module _ (q : ReqSetup) (h : History) (sent : Sent) (asked : RequestMessage) (ha
   behind_other more = ap (piece_behind h) aims ∙ ap (λ (b : Bool). if b then None else Some next) more
 
   -- It is sent, as the program counts it.
-  pub sends_behind : (kind : Asked) (old : Seen) (new : outgoing.Seen) (tag : ℕ) (out : List ℕ) (transfer after : ℕ) → kind_of asked ≡ kind → StandsFor old q h → common.to_responder.transfer ≡ transfer
+  pub sends_behind : (kind : PendingRequest) (old : Seen) (new : outgoing.Seen) (tag : ℕ) (out : List ℕ) (transfer after : ℕ) → kind_of asked ≡ kind → StandsFor old q h → common.to_responder.transfer ≡ transfer
       → (piece_of common asked handle number).last ≡ false → after ≡ min (number + 1) (2 ^ 16 - 1) → length old.outgoing.request ≤ MAX_MESSAGE_SIZE
-      → tag ≡ old.outgoing.tag → new ≡ record old.outgoing { tag = tag_after old.outgoing.tag; waiting = waits.InClear old.outgoing.tag kind (ways.ByChunks handle after) }
-      → (IsCut (ways.ByChunks handle after) transfer old.outgoing.request → out ≡ message_for (ways.ByChunks handle after) transfer old.outgoing.request)
+      → tag ≡ old.outgoing.tag → new ≡ record old.outgoing { tag = tag_after old.outgoing.tag; waiting = waits.InClear old.outgoing.tag kind (modes.ByChunks handle after) }
+      → (IsCut (modes.ByChunks handle after) transfer old.outgoing.request → out ≡ message_for (modes.ByChunks handle after) transfer old.outgoing.request)
       → SendsPiece q h (piece_behind h sent.aim) (Some tag) out old (record old { outgoing = new })
   sends_behind kind old new tag out transfer after kinds stands same more is short tags sends tells =
       let keeps = kept old.outgoing stands.shows.outgoing.request in
@@ -114,12 +114,12 @@ module _ (q : ReqSetup) (h : History) (sent : Sent) (asked : RequestMessage) (ha
       let count = chunk_count common.to_responder.transfer old.outgoing.request in
       let other : (number + 1 == count) ≡ false = ap (λ (m : List ℕ). number + 1 == chunk_count common.to_responder.transfer m) keeps ∙ more in
       let within = next_within number count after cut.2 (count_few common.to_responder.transfer old.outgoing.request short) other is in
-      let way : ways.ByChunks handle after ≡ ways.ByChunks handle (number + 1) = ap (λ (n : ℕ). ways.ByChunks handle n) within.0 in
-      let cut_next : IsCut (ways.ByChunks handle (number + 1)) common.to_responder.transfer old.outgoing.request = (cut.0, cut.1, within.1) in
-      let cut_here = subst (λ (n : ℕ). IsCut (ways.ByChunks handle after) n old.outgoing.request) same (subst (λ (w : Way). IsCut w common.to_responder.transfer old.outgoing.request) (sym way) cut_next) in
-      let written : out ≡ canonical_request (ChunkSend (piece_of common asked handle (number + 1))) = tells cut_here ∙ (λ i. message_for (way i) (sym same i) (keeps i)) in
+      let mode : modes.ByChunks handle after ≡ modes.ByChunks handle (number + 1) = ap (λ (n : ℕ). modes.ByChunks handle n) within.0 in
+      let cut_next : IsCut (modes.ByChunks handle (number + 1)) common.to_responder.transfer old.outgoing.request = (cut.0, cut.1, within.1) in
+      let cut_here = subst (λ (n : ℕ). IsCut (modes.ByChunks handle after) n old.outgoing.request) same (subst (λ (w : TransferMode). IsCut w common.to_responder.transfer old.outgoing.request) (sym mode) cut_next) in
+      let written : out ≡ canonical_request (ChunkSend (piece_of common asked handle (number + 1))) = tells cut_here ∙ (λ i. message_for (mode i) (sym same i) (keeps i)) in
       subst (λ (o : Option Sent). SendsPiece q h o (Some tag) out old (record old { outgoing = new })) (sym (behind_other more))
-      (piece_sends kind old new tag out kinds stands more tags (sends ∙ ap (λ (w : Way). record old.outgoing { tag = tag_after old.outgoing.tag; waiting = waits.InClear old.outgoing.tag kind w }) way) written)
+      (piece_sends kind old new tag out kinds stands more tags (sends ∙ ap (λ (w : TransferMode). record old.outgoing { tag = tag_after old.outgoing.tag; waiting = waits.InClear old.outgoing.tag kind w }) mode) written)
 
   -- ---- The sessions.
 
@@ -142,34 +142,34 @@ module _ (q : ReqSetup) (h : History) (sent : Sent) (asked : RequestMessage) (ha
 
 -- ---- The whole requester.
 
-module _ (q : ReqSetup) (h : History) (old : Asking) (talked : Seen) (message : List ℕ) (tag : ℕ) (out body : List ℕ) (sizes : HasSizes q) (stands : joined.StandsFor old q h) (written : body ≡ clear_body out) where
-  abbrev now : Asking
-  now = record { talk = talked; gathered = old.gathered; sessions = old.sessions; message = message }
+module _ (q : ReqSetup) (h : History) (old : RequesterCore) (talked : Seen) (message : List ℕ) (tag : ℕ) (out body : List ℕ) (sizes : HasSizes q) (stands : joined.StandsFor old q h) (written : body ≡ clear_body out) where
+  abbrev now : RequesterCore
+  now = record { clear_state = talked; gathered = old.gathered; sessions = old.sessions; message = message }
 
   by_last : (sent : Sent) (asked : RequestMessage) (handle number : ℕ) (b : Bool) → outstanding h ≡ Some sent → sent.aim ≡ ByChunks asked handle number
-      → SendsPiece q h (if b then None else Some (piece_sent (connection_terms h).common h asked handle (number + 1))) (Some tag) out old.talk talked
+      → SendsPiece q h (if b then None else Some (piece_sent (connection_terms h).common h asked handle (number + 1))) (Some tag) out old.clear_state talked
       → IsAcknowledged q h (if b then None else Some (piece_sent (connection_terms h).common h asked handle (number + 1))) (Some tag) body now
   by_last sent asked handle number true is aims sends = absurd sends
   by_last sent asked handle number false is aims sends = (
     sends.0,
     written ∙ sym (ap body_of sends.1),
     λ of m d. record {
-      talk = sends.2 of m d;
+      clear_state = sends.2 of m d;
       sessions = sessions_pass q h sent asked handle number sizes is aims old.sessions of m d stands.sessions (sends.2 of m d).holds;
       gathers = record { max = stands.gathers.max; chunks = tt };
     },
   )
 
-  by_aim : (sent : Sent) (aim : Aim) → outstanding h ≡ Some sent → sent.aim ≡ aim → SendsPiece q h (piece_behind h aim) (Some tag) out old.talk talked → IsAcknowledged q h (piece_behind h aim) (Some tag) body now
+  by_aim : (sent : Sent) (aim : Aim) → outstanding h ≡ Some sent → sent.aim ≡ aim → SendsPiece q h (piece_behind h aim) (Some tag) out old.clear_state talked → IsAcknowledged q h (piece_behind h aim) (Some tag) body now
   by_aim sent (Plain asked) is aims sends = absurd sends
   by_aim sent (ByChunks asked handle number) is aims sends =
       by_last sent asked handle number (number + 1 == chunk_count (connection_terms h).common.to_responder.transfer (canonical_request asked)) is aims sends
   by_aim sent (ForChunk asked handle number before) is aims sends = absurd sends
   by_aim sent (InSession id ask) is aims sends = absurd sends
 
-  by_out : (o : Option Sent) → outstanding h ≡ o → SendsPiece q h (piece_behind_sent h o) (Some tag) out old.talk talked → IsAcknowledged q h (piece_behind_sent h o) (Some tag) body now
+  by_out : (o : Option Sent) → outstanding h ≡ o → SendsPiece q h (piece_behind_sent h o) (Some tag) out old.clear_state talked → IsAcknowledged q h (piece_behind_sent h o) (Some tag) body now
   by_out None is sends = absurd sends
   by_out (Some sent) is sends = by_aim sent sent.aim is refl sends
 
-  pub acknowledges : SendsPiece q h (next_piece h) (Some tag) out old.talk talked → IsAcknowledged q h (next_piece h) (Some tag) body now
+  pub acknowledges : SendsPiece q h (next_piece h) (Some tag) out old.clear_state talked → IsAcknowledged q h (next_piece h) (Some tag) body now
   acknowledges sends = by_out (outstanding h) refl sends

@@ -3,7 +3,7 @@ use Rattle.std.proofs.Common.{refl, ◌≡◌, ℕ, Bool, true, false, Some, sub
 use Rattle.std.specs.Prelude.{if◌then◌else◌}
 use Rattle.std.proofs.lemmas.Bool.{false≢true}
 use Rattle.requester_core.specs.Gathering.{Gathers, IsGathered}
-use Rattle.requester_core.specs.Led.{is_no_get}
+use Rattle.requester_core.specs.ReplyOutcome.{is_no_get}
 use Rattle.chunking.specs.Keeping as keeping
 use Rattle.negotiate.specs.declared.shared.Common.{Common}
 use Rattle.requester_machine.specs.History.{History}

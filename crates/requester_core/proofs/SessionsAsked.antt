@@ -14,9 +14,9 @@ use Rattle.requester_core.specs.declared.in_sessions.slot.Slot.{Slot}
 use Rattle.requester_core.specs.declared.in_sessions.slot.Slot.TheVariants as slot
 use Rattle.psk_session.proofs.AskCommands.{ask_is_command, made, sent_for}
 use Rattle.psk_session.specs.AskLaws.{LeadsBy, command_at, command_fault_of}
-use Rattle.psk_session.specs.Asking.{ask_fault, asked, asked_of, inner_for, is_long}
-use Rattle.psk_session.specs.declared.ask.Ask.{Ask}
-use Rattle.psk_session.specs.declared.ask.Ask.TheVariants.{Beat, Data, End, Measure, UpdateAll, UpdateKey}
+use Rattle.psk_session.specs.SessionRequest.{ask_fault, asked, asked_of, inner_for, is_long}
+use Rattle.psk_session.specs.declared.session_request.SessionRequest.{SessionRequest}
+use Rattle.psk_session.specs.declared.session_request.SessionRequest.TheVariants.{Beat, Data, End, Measure, UpdateAll, UpdateKey}
 use Rattle.psk_session.specs.declared.ask_fault.AskFault.{AskFault}
 use Rattle.requester_machine.proofs.Bounded.{sessions}
 use Rattle.requester_machine.proofs.Entries as entries
@@ -119,7 +119,7 @@ is_other id i ne = other_way id i (id == i) refl ne
 
 -- ---- What is asked of a session.
 
-asked_open : (a : Ask) → stage.Open ≡ stage_for (asked_of a)
+asked_open : (a : SessionRequest) → stage.Open ≡ stage_for (asked_of a)
 asked_open (Data bytes) = refl
 asked_open Beat = refl
 asked_open UpdateKey = refl
@@ -128,10 +128,10 @@ asked_open (Measure op) = refl
 asked_open End = refl
 
 -- The session of each id with the record.
-record_of : (q : ReqSetup) (h : History) (f : Free) (id : ℕ) (a : Ask) → List ℕ
+record_of : (q : ReqSetup) (h : History) (f : Free) (id : ℕ) (a : SessionRequest) → List ℕ
 record_of q h f id a = sealed_next q.psk (session_of id h) (inner_for (session_of id h) a) f.pad
 
-steps_with : (q : ReqSetup) (h : History) (f : Free) (d : Draw) (id : ℕ) (a : Ask) (i : ℕ)
+steps_with : (q : ReqSetup) (h : History) (f : Free) (d : Draw) (id : ℕ) (a : SessionRequest) (i : ℕ)
     → session_of i (Told (command_at id a) (sent_for q h f id a) d ∷ h)
     ≡ (if id == i then when_live (session_of i h) (Asked (asked_of a) (inner_for (session_of id h) a) (record_of q h f id a)) else session_of i h)
 unfolding sent_for session_of record_of
@@ -142,15 +142,15 @@ steps_with q h f d id UpdateAll i = refl
 steps_with q h f d id (Measure op) i = refl
 steps_with q h f d id End i = refl
 
-waits_with : (q : ReqSetup) (h : History) (f : Free) (id : ℕ) (a : Ask) (i : ℕ) → waits_for i (Some (sent_for q h f id a)) ≡ (if id == i then ForRecord (asked_of a) else Rests)
+waits_with : (q : ReqSetup) (h : History) (f : Free) (id : ℕ) (a : SessionRequest) (i : ℕ) → waits_for i (Some (sent_for q h f id a)) ≡ (if id == i then ForRecord (asked_of a) else Rests)
 unfolding sent_for
 waits_with q h f id a i = refl
 
-names : (q : ReqSetup) (h : History) (f : Free) (id : ℕ) (a : Ask) → session_for (Some (sent_for q h f id a)) ≡ Some id
+names : (q : ReqSetup) (h : History) (f : Free) (id : ℕ) (a : SessionRequest) → session_for (Some (sent_for q h f id a)) ≡ Some id
 unfolding sent_for
 names q h f id a = refl
 
-ordered_with : (q : ReqSetup) (h : History) (f : Free) (d : Draw) (id : ℕ) (a : Ask) (i : ℕ) → Good Rests (session_of i h)
+ordered_with : (q : ReqSetup) (h : History) (f : Free) (d : Draw) (id : ℕ) (a : SessionRequest) (i : ℕ) → Good Rests (session_of i h)
     → IsInOrder (Some (sent_for q h f id a)) i (session_of i (Told (command_at id a) (sent_for q h f id a) d ∷ h))
 ordered_with q h f d id a i good =
     let all = either_good (id == i) (ForRecord (asked_of a)) Rests _ (session_of i h) (asked_good (asked_of a) (inner_for (session_of id h) a) (record_of q h f id a) (session_of i h) (asked_open a) good) good in
@@ -161,12 +161,12 @@ ordered_with q h f d id a i good =
 pub resting : (h : History) (i : ℕ) → outstanding h ≡ None → IsInOrder (outstanding h) i (session_of i h) → Good Rests (session_of i h)
 resting h i none o = (o.ordered, subst (λ (w : Option Sent). FitsWaits (waits_for i w) (session_of i h)) none o.fits)
 
-others_with : (q : ReqSetup) (h : History) (f : Free) (d : Draw) (id : ℕ) (a : Ask) (i : ℕ) → i ≢ id → session_of i (Told (command_at id a) (sent_for q h f id a) d ∷ h) ≡ session_of i h
+others_with : (q : ReqSetup) (h : History) (f : Free) (d : Draw) (id : ℕ) (a : SessionRequest) (i : ℕ) → i ≢ id → session_of i (Told (command_at id a) (sent_for q h f id a) d ∷ h) ≡ session_of i h
 others_with q h f d id a i ne =
     steps_with q h f d id a i
     ∙ ap (λ (b : Bool). if b then when_live (session_of i h) (Asked (asked_of a) (inner_for (session_of id h) a) (record_of q h f id a)) else session_of i h) (is_other id i ne)
 
-module _ (old new : Sessions) (q : ReqSetup) (h : History) (f : Free) (d : Draw) (id : ℕ) (a : Ask) where
+module _ (old new : Sessions) (q : ReqSetup) (h : History) (f : Free) (d : Draw) (id : ℕ) (a : SessionRequest) where
   done_to : (sent : Sent) → StandsFor old q h → outstanding h ≡ None → asks false q h (command_at id a) f d ≡ Adds (Told (command_at id a) sent d)
       → session_of id (Told (command_at id a) sent d ∷ h) ≡ asked q.psk (session_of id h) a f.pad
       → IsSlotOf (slot_of new id) q.psk (asked q.psk (session_of id h) a f.pad) → ((i : ℕ) → i ≢ id → slot_of new i ≡ slot_of old i) → new.id ≡ id
@@ -194,7 +194,7 @@ nowhere_tests : (busy away dead x y z : Bool) → busy ≡ false → away ≡ fa
     ≡ Some fault.NoSuchSession
 nowhere_tests busy away dead x y z b a e = rw (b, a, e) refl
 
-nowhere_fault : (q : ReqSetup) (h : History) (f : Free) (id : ℕ) (a : Ask) → outstanding h ≡ None → is_negotiated (phase_of h) ≡ true → is_live (session_of id h) ≡ false
+nowhere_fault : (q : ReqSetup) (h : History) (f : Free) (id : ℕ) (a : SessionRequest) → outstanding h ≡ None → is_negotiated (phase_of h) ≡ true → is_live (session_of id h) ≡ false
     → command_fault false q h (command_at id a) f ≡ Some fault.NoSuchSession
 unfolding command_fault
 nowhere_fault q h f id (Data bytes) o n l =
@@ -210,12 +210,12 @@ nowhere_fault q h f id (Measure op) o n l =
 nowhere_fault q h f id End o n l =
     nowhere_tests (is_some (outstanding h)) (not (is_negotiated (phase_of h))) (not (is_live (session_of id h))) (lacks (session_terms (session_of id h)) (command_at id End)) (is_spent (session_of id h) (command_at id End)) false (ap is_some o) (ap not n) (ap not l)
 
-nowhere : (q : ReqSetup) (h : History) (f : Free) (d : Draw) (id : ℕ) (a : Ask) → outstanding h ≡ None → is_negotiated (phase_of h) ≡ true → is_live (session_of id h) ≡ false
+nowhere : (q : ReqSetup) (h : History) (f : Free) (d : Draw) (id : ℕ) (a : SessionRequest) → outstanding h ≡ None → is_negotiated (phase_of h) ≡ true → is_live (session_of id h) ≡ false
     → asks false q h (command_at id a) f d ≡ Fails fault.NoSuchSession
 unfolding asks
 nowhere q h f d id a o n l = ap (asks_by q h (command_at id a) f d) (nowhere_fault q h f id a o n l)
 
-fails_as : (q : ReqSetup) (h : History) (f : Free) (d : Draw) (id : ℕ) (a : Ask) (b : Bool) (o : Option AskFault) (cause : CommandFault) → outstanding h ≡ None → is_negotiated (phase_of h) ≡ true
+fails_as : (q : ReqSetup) (h : History) (f : Free) (d : Draw) (id : ℕ) (a : SessionRequest) (b : Bool) (o : Option AskFault) (cause : CommandFault) → outstanding h ≡ None → is_negotiated (phase_of h) ≡ true
     → is_live (session_of id h) ≡ b → ask_fault (session_of id h) a ≡ o → (if not b then Some fault.NoSuchSession else option_map command_fault_of o) ≡ Some cause
     → asks false q h (command_at id a) f d ≡ Fails cause
 fails_as q h f d id a false o cause none phase live by is = nowhere q h f d id a none phase live ∙ ap (λ (c : CommandFault). Fails c) (same_Some fault.NoSuchSession cause is)
@@ -234,7 +234,7 @@ unfaulted true (Some own) is = absurd (none-some (command_fault_of own) (sym is)
 pub few_epochs : (h : History) (id : ℕ) → length h < 2 ^ 64 - 1 → response_epoch (session_of id h) < 2 ^ 64 - 1
 few_epochs h id short = let s = sessions h id in omega (arith, s.1, short)
 
-pub told_to : (old new : Sessions) (q : ReqSetup) (h : History) (f : Free) (d : Draw) (id : ℕ) (a : Ask) (pad : List ℕ) → f.pad ≡ pad → StandsFor old q h → outstanding h ≡ None → is_negotiated (phase_of h) ≡ true
+pub told_to : (old new : Sessions) (q : ReqSetup) (h : History) (f : Free) (d : Draw) (id : ℕ) (a : SessionRequest) (pad : List ℕ) → f.pad ≡ pad → StandsFor old q h → outstanding h ≡ None → is_negotiated (phase_of h) ≡ true
     → IsAskedOf q.psk (session_of id h) a pad (slot_of new id) (Ok tt) → ((i : ℕ) → i ≢ id → slot_of new i ≡ slot_of old i) → new.id ≡ id
     → IsToldTo q h (command_at id a) f d (Ok tt) new
 told_to old new q h f d id a pad padded stands none phase asked_is others named =
@@ -243,7 +243,7 @@ told_to old new q h f d id a pad padded stands none phase asked_is others named 
     let own = subst (λ (p : List ℕ). IsSlotOf (slot_of new id) q.psk (asked q.psk (session_of id h) a p)) (sym padded) asked_is.1 in
     (leads.0, leads.1, done_to old new q h f d id a leads.0 stands none leads.1 leads.2 own others named)
 
-pub failed_to : (old new : Sessions) (q : ReqSetup) (h : History) (f : Free) (d : Draw) (id : ℕ) (a : Ask) (pad : List ℕ) (cause : CommandFault) → StandsFor old q h → outstanding h ≡ None → is_negotiated (phase_of h) ≡ true
+pub failed_to : (old new : Sessions) (q : ReqSetup) (h : History) (f : Free) (d : Draw) (id : ℕ) (a : SessionRequest) (pad : List ℕ) (cause : CommandFault) → StandsFor old q h → outstanding h ≡ None → is_negotiated (phase_of h) ≡ true
     → IsAskedOf q.psk (session_of id h) a pad (slot_of new id) (Err cause) → ((i : ℕ) → i ≢ id → slot_of new i ≡ slot_of old i) → new.id ≡ old.id
     → IsToldTo q h (command_at id a) f d (Err cause) new
 failed_to old new q h f d id a pad cause stands none phase asked_is others named = (

@@ -13,7 +13,7 @@ use Rattle.requester_core.specs.SlotSteps.{IsAcceptedBy}
 use Rattle.requester_core.specs.declared.in_sessions.sessions.Sessions.{Sessions}
 use Rattle.requester_core.specs.declared.in_sessions.slot.Slot.{Slot}
 use Rattle.requester_core.specs.declared.in_sessions.slot.Slot.TheVariants as slot
-use Rattle.requester_core.specs.Talk as talk
+use Rattle.requester_core.specs.ClearState as clear_state
 use Rattle.psk_session.proofs.Entries.{opening_is_answer}
 use Rattle.psk_session.specs.Opening as opening
 use Rattle.psk_session.specs.Opening.{accepted, finishing, open_fault, started}
@@ -233,8 +233,8 @@ open_terms q h f summary id terms its few choice common asks own = record {
 }
 
 -- The bytes of PSK_EXCHANGE are kept while it is outstanding.
-pub open_request : (seen : talk.Seen) (q : ReqSetup) (h : History) (f : Free) (d : Draw) (sent : Sent) (summary : ℕ) → asks false q h (Open summary) f d ≡ Adds (Told (Open summary) sent d)
-    → talk.Shows seen (Told (Open summary) sent d ∷ h) → seen.outgoing.request ≡ canonical_request (exchange_for q f summary)
+pub open_request : (seen : clear_state.Seen) (q : ReqSetup) (h : History) (f : Free) (d : Draw) (sent : Sent) (summary : ℕ) → asks false q h (Open summary) f d ≡ Adds (Told (Open summary) sent d)
+    → clear_state.Shows seen (Told (Open summary) sent d ∷ h) → seen.outgoing.request ≡ canonical_request (exchange_for q f summary)
 open_request seen q h f d sent summary adds shows =
     let is = entries.asked false q h (Open summary) f d (Told (Open summary) sent d) adds in
     let request = exchange_for q f summary in

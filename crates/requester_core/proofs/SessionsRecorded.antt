@@ -2,12 +2,12 @@
 use Rattle.std.proofs.Common.{refl, ◌≡◌, ◌≢◌, ◌∙◌, inl, inr, ℕ, List, ◌∷◌, true, Bool, Option, Some, None, ap, sym, subst, arith}
 use Rattle.std.specs.Prelude.{◌==◌, ◌<◌, ◌-◌, ◌^◌, if◌then◌else◌, is_some, length, Result}
 use Rattle.requester_core.proofs.SessionsAsked.{is_other, of_each}
-use Rattle.requester_core.specs.SessionLed.{IsStepped, LeadsTo, finish_led_by, led_by}
+use Rattle.requester_core.specs.RecordOutcome.{IsStepped, LeadsTo, finish_led_by, led_by}
 use Rattle.requester_core.specs.SessionSteps.{IsAdded, IsRecordOf, IsRecorded, event_by, is_sent}
 use Rattle.requester_core.specs.Sessions.{IsNamed, StandsFor, session_at, session_for, slot_of}
 use Rattle.requester_core.specs.Slot.{IsSlotOf}
-use Rattle.requester_core.specs.declared.in_sessions.session_led.SessionLed.{SessionLed}
-use Rattle.requester_core.specs.declared.in_sessions.session_led.SessionLed.TheVariants as seen
+use Rattle.requester_core.specs.declared.in_sessions.record_outcome.RecordOutcome.{RecordOutcome}
+use Rattle.requester_core.specs.declared.in_sessions.record_outcome.RecordOutcome.TheVariants as seen
 use Rattle.requester_core.specs.declared.in_sessions.sessions.Sessions.{Sessions}
 use Rattle.requester_core.specs.declared.in_sessions.slot.Slot.{Slot}
 use Rattle.psk_session.proofs.Entries.{course_is_entry, finish_is_entry, unopened_is_ignored}
@@ -67,7 +67,7 @@ common q h id sizes k live =
 -- ---- What a record adds.
 
 -- The record is an entry that leads to this, of which this is told.
-record Leads (q : ReqSetup) (h : History) (f : Free) (tag id : ℕ) (a : Ask) (sealed : List ℕ) (d : Draw) (led : SessionLed) (after : Steps) : Type 0 where
+record Leads (q : ReqSetup) (h : History) (f : Free) (tag id : ℕ) (a : Ask) (sealed : List ℕ) (d : Draw) (led : RecordOutcome) (after : Steps) : Type 0 where
   leads : Result Led BadReply
   inner : inner_led q h f (came_to q h id a sealed) a ≡ leads
   entry : IsEntry q h f tag id a sealed d leads after
@@ -105,7 +105,7 @@ finish_named : (came : Came) (verdict : Option BadReply) (kept : ℕ) → IsName
 finish_named came (Some fault) kept = tt
 finish_named came None kept = tt
 
-module _ (q : ReqSetup) (h : History) (f : Free) (tag id : ℕ) (a : Ask) (sealed pad : List ℕ) (d : Draw) (led : SessionLed) (after : Steps) where
+module _ (q : ReqSetup) (h : History) (f : Free) (tag id : ℕ) (a : Ask) (sealed pad : List ℕ) (d : Draw) (led : RecordOutcome) (after : Steps) where
   leads_by : HasSizes q → Holds q h → is_live (session_of id h) ≡ true → f.pad ≡ pad → LeadsTo q.psk (session_of id h) a sealed pad led after → Leads q h f tag id a sealed d led after
   leads_by sizes k live padded (inl c) =
       let shared = common q h id sizes k live in
@@ -116,7 +116,7 @@ module _ (q : ReqSetup) (h : History) (f : Free) (tag id : ℕ) (a : Ask) (seale
         leads = led_of q h f came c.course;
         inner = c.takes.1 q h f id (sym shared.transfer) (sym shared.max);
         entry = (entry.0, entry.1 ∙ sym steps);
-        event = course_told q h f came c.course ∙ ap (λ (l : SessionLed). Some (event_by l)) (sym c.told);
+        event = course_told q h f came c.course ∙ ap (λ (l : RecordOutcome). Some (event_by l)) (sym c.told);
         next = course_next q h f came c.course ∙ ap is_sent (sym c.told);
         named = course_named q h f came c.course;
       }
@@ -129,7 +129,7 @@ module _ (q : ReqSetup) (h : History) (f : Free) (tag id : ℕ) (a : Ask) (seale
         leads = finish_led came v.verdict;
         inner = v.judged.1 q h f id (sym shared.transfer);
         entry = (entry.0, entry.1 ∙ sym v.steps);
-        event = finish_told came v.verdict ∙ ap (λ (l : SessionLed). Some (event_by l)) (sym v.told);
+        event = finish_told came v.verdict ∙ ap (λ (l : RecordOutcome). Some (event_by l)) (sym v.told);
         next = finish_next came v.verdict ∙ ap is_sent (sym v.told);
         named = λ kept is. finish_named came v.verdict kept;
       })
@@ -161,7 +161,7 @@ module _ (q : ReqSetup) (h : History) (f : Free) (tag id : ℕ) (a : Ask) (seale
       let steps = steps_after h tag id sealed came.inner led d i in
       record { ordered = subst orders.IsOrdered (sym steps) good.0; fits = subst (FitsWaits (waits_for i led.next)) (sym steps) good.1 }
 
-  stands_after : (old new : Sessions) (led : SessionLed) (after : Steps) → StandsFor old q h → (l : Leads q h f tag id a sealed d led after) → IsSlotOf (slot_of new id) q.psk after → ((i : ℕ) → i ≢ id → slot_of new i ≡ slot_of old i)
+  stands_after : (old new : Sessions) (led : RecordOutcome) (after : Steps) → StandsFor old q h → (l : Leads q h f tag id a sealed d led after) → IsSlotOf (slot_of new id) q.psk after → ((i : ℕ) → i ≢ id → slot_of new i ≡ slot_of old i)
       → new.id ≡ id → IsAdded q h (on_record q h f tag id a sealed d) led new
   stands_after old new led after stands l own others named =
       let came = came_to q h id a sealed in
@@ -198,7 +198,7 @@ pub named_is : (x : Sessions) (q : ReqSetup) (h : History) (sent : Sent) (id : �
 named_is x q h sent id a stands waits aims =
     subst (λ (y : Aim). IsNamed (session_at y) x.id) aims (subst (λ (w : Option Sent). IsNamed (session_for w) x.id) waits stands.named)
 
-pub recorded : (old new : Sessions) (q : ReqSetup) (h : History) (f : Free) (tag : ℕ) (d : Draw) (sent : Sent) (id : ℕ) (a : Ask) (sealed pad : List ℕ) (led : SessionLed) → HasSizes q → f.pad ≡ pad → outstanding h ≡ Some sent → sent.aim ≡ InSession id a
+pub recorded : (old new : Sessions) (q : ReqSetup) (h : History) (f : Free) (tag : ℕ) (d : Draw) (sent : Sent) (id : ℕ) (a : Ask) (sealed pad : List ℕ) (led : RecordOutcome) → HasSizes q → f.pad ≡ pad → outstanding h ≡ Some sent → sent.aim ≡ InSession id a
     → StandsFor old q h → IsStepped q.psk (session_of id h) a sealed pad (slot_of new id) led → ((i : ℕ) → i ≢ id → slot_of new i ≡ slot_of old i) → new.id ≡ old.id
     → IsRecorded q h (on_record q h f tag id a sealed d) led new
 recorded old new q h f tag d sent id a sealed pad (seen.Ignored fault) sizes padded waits aims stands p others named =

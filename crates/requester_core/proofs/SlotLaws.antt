@@ -3,10 +3,10 @@ use Rattle.std.proofs.Common.{refl, ◌≡◌, ◌∙◌, inl, inr, ℕ, List, [
 use Rattle.std.specs.Prelude.{if◌then◌else◌, Ok, Err}
 use Rattle.std.proofs.lemmas.Bool.{false≢true}
 use Rattle.std.proofs.lemmas.Option.{none-some, same_Some}
-use Rattle.requester_core.specs.SessionLed.{IsStepped, settled, told_led}
+use Rattle.requester_core.specs.RecordOutcome.{IsStepped, settled, told_led}
 use Rattle.requester_core.specs.Slot.{IsAsked, IsFinishing, IsOpening, IsResting, IsSlotOf, shown_of}
 use Rattle.requester_core.specs.SlotSteps.{IsAcceptedBy}
-use Rattle.requester_core.specs.declared.in_sessions.session_led.SessionLed.TheVariants as seen
+use Rattle.requester_core.specs.declared.in_sessions.record_outcome.RecordOutcome.TheVariants as seen
 use Rattle.requester_core.specs.declared.in_sessions.slot.Slot.TheVariants as slot
 use Rattle.psk_session.proofs.Taking.{newest_waits}
 use Rattle.psk_session.specs.Course.{TakesCourse, event_of, with_asked, with_taken}
@@ -23,10 +23,10 @@ use Rattle.psk_session.specs.declared.finishing.Finishing.{Finishing}
 use Rattle.psk_session.specs.declared.open_fault.OpenFault.{OpenFault}
 use Rattle.psk_session.specs.declared.opening.Opening.{Opening}
 use Rattle.psk_session.specs.declared.req_session.ReqSession.{ReqSession}
-use Rattle.psk_session.specs.declared.standing.Standing.{Standing}
-use Rattle.psk_session.specs.declared.standing.Standing.TheVariants.{Awaits, Closed, Open}
-use Rattle.psk_session.specs.declared.told.Told.{Told}
-use Rattle.psk_session.specs.declared.told.Told.TheVariants as told
+use Rattle.psk_session.specs.declared.session_state.SessionState.{SessionState}
+use Rattle.psk_session.specs.declared.session_state.SessionState.TheVariants.{Awaits, Closed, Open}
+use Rattle.psk_session.specs.declared.response_outcome.ResponseOutcome.{ResponseOutcome}
+use Rattle.psk_session.specs.declared.response_outcome.ResponseOutcome.TheVariants as told
 use Rattle.requester_machine.proofs.Steps.{asked_stage, opening_stage}
 use Rattle.requester_machine.specs.Message.{Ask}
 use Rattle.requester_machine.specs.Message.Ask.{AskFinish}
@@ -75,12 +75,12 @@ finishing_live x psk s f = ap is_live f.steps
 
 -- ---- What a slot lends.
 
-open_alone : {A : Type 0} (y : Standing) (a b : A) → is_open y ≡ true → (if is_awaiting y then a else b) ≡ b
+open_alone : {A : Type 0} (y : SessionState) (a b : A) → is_open y ≡ true → (if is_awaiting y then a else b) ≡ b
 open_alone Open a b is = refl
 open_alone (Awaits what) a b is = absurd (false≢true is)
 open_alone Closed a b is = absurd (false≢true is)
 
-awaits_alone : {A : Type 0} (y : Standing) (a b : A) → is_awaiting y ≡ true → (if is_open y then a else b) ≡ b
+awaits_alone : {A : Type 0} (y : SessionState) (a b : A) → is_awaiting y ≡ true → (if is_open y then a else b) ≡ b
 awaits_alone Open a b is = absurd (false≢true is)
 awaits_alone (Awaits what) a b is = refl
 awaits_alone Closed a b is = absurd (false≢true is)
@@ -115,7 +115,7 @@ live_asked x psk s a (inr k) is = awaits_alone x.standing x.brought [] k.stands.
 
 -- ---- A record for a session past its handshake.
 
-pub stepped_by : (psk : List ℕ) (s : Steps) (a : Ask) (sealed pad : List ℕ) (old new : ReqSession) (t : Told) (id : SessionId) → id ≡ session_id s → IsAwaiting old psk s a
+pub stepped_by : (psk : List ℕ) (s : Steps) (a : Ask) (sealed pad : List ℕ) (old new : ReqSession) (t : ResponseOutcome) (id : SessionId) → id ≡ session_id s → IsAwaiting old psk s a
     → IsToldOf old psk s a sealed pad new t → IsStepped psk s a sealed pad (settled (told_led id t) (slot.Live new)) (told_led id t)
 stepped_by psk s a sealed pad old new (told.Stay f) id is awaits p = (p.0, inr (record { ask = a; stands = subst (λ (x : ReqSession). IsAwaiting x psk s a) (sym p.1) awaits }))
 stepped_by psk s a sealed pad old new (told.Bad f) id is awaits p = (

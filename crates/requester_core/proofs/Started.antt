@@ -40,10 +40,10 @@ use Rattle.requester_core.specs.Negotiating as negotiating
 use Rattle.requester_core.specs.Negotiating.{IsShort, IsUpTo, IsUpToAsked, IsUpToSent}
 use Rattle.requester_core.specs.Outgoing as outgoing
 use Rattle.requester_core.specs.Outgoing.{IsKept, Sends, handle_after, tag_after}
-use Rattle.requester_core.specs.Talk.{Counts, Seen, Shows, StandsFor}
-use Rattle.requester_core.specs.declared.clear.waiting.Asked.TheVariants as asked_kinds
-use Rattle.requester_core.specs.declared.clear.waiting.Waiting.TheVariants as waits
-use Rattle.requester_core.specs.declared.clear.waiting.Way.TheVariants as ways
+use Rattle.requester_core.specs.ClearState.{Counts, Seen, Shows, StandsFor}
+use Rattle.requester_core.specs.declared.clear.outstanding.PendingRequest.TheVariants as asked_kinds
+use Rattle.requester_core.specs.declared.clear.outstanding.Outstanding.TheVariants as waits
+use Rattle.requester_core.specs.declared.clear.outstanding.TransferMode.TheVariants as modes
 use Rattle.requester_core.proofs.NoGets.{gathers_any, request_no_get}
 
 -- ---- Nothing was said.
@@ -120,7 +120,7 @@ connect_holds q h d = record { live = λ id live. absurd (false≢true live); kn
 
 pub connect_done : (q : ReqSetup) (h : History) (f : Free) (d : Draw) (tag : ℕ) (old : Seen) (begun : negotiating.Seen) (kept new : outgoing.Seen) (out : List ℕ) → Counts old h
     → begun ≡ fresh → kept ≡ record old.outgoing { request = canonical_request GetVersion } → tag ≡ kept.tag
-    → new ≡ record kept { tag = tag_after kept.tag; waiting = waits.InClear kept.tag asked_kinds.Version ways.Whole } → out ≡ kept.request
+    → new ≡ record kept { tag = tag_after kept.tag; waiting = waits.InClear kept.tag asked_kinds.Version modes.Whole } → out ≡ kept.request
     → IsDone q h Connect f d tag (record { negotiating = begun; outgoing = new; brought = old.brought }) out
 connect_done q h f d tag old begun kept new out counts begins keeps is sends written =
     let was : kept.tag ≡ next_tag h = ap (λ (s : outgoing.Seen). s.tag) keeps ∙ counts.tag in
@@ -139,7 +139,7 @@ connect_done q h f d tag old begun kept new out counts begins keeps is sends wri
           outgoing = record {
             tag = now ∙ ap tag_after was ∙ tag_more (sent_count h);
             handle = ap (λ (s : outgoing.Seen). s.handle) sends ∙ ap (λ (s : outgoing.Seen). s.handle) keeps ∙ counts.handle;
-            waiting = ap (λ (s : outgoing.Seen). s.waiting) sends ∙ ap (λ (n : ℕ). waits.InClear n asked_kinds.Version ways.Whole) was;
+            waiting = ap (λ (s : outgoing.Seen). s.waiting) sends ∙ ap (λ (n : ℕ). waits.InClear n asked_kinds.Version modes.Whole) was;
             request = ap (λ (s : outgoing.Seen). s.request) sends ∙ holds_request;
           };
           up_to = refl;

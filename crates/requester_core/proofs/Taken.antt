@@ -1,11 +1,11 @@
 -- A message in the clear, as an entry of the history.
 use Rattle.std.proofs.Common.{◌≡◌, ◌∙◌, ◌∷◌, ap, sym, subst, ℕ, List, Option, Some}
 use Rattle.std.specs.Prelude.{Result, Ok, Err}
-use Rattle.requester_core.specs.Led.{Follows, IsCarried, IsLed, IsTaken, SendsNext, Stands}
-use Rattle.requester_core.specs.Talk.{Seen, Shows}
+use Rattle.requester_core.specs.ReplyOutcome.{Follows, IsCarried, IsLed, IsTaken, SendsNext, Stands}
+use Rattle.requester_core.specs.ClearState.{Seen, Shows}
 use Rattle.requester_core.specs.declared.clear.reply_outcome.ReplyOutcome as seen_led
 use Rattle.requester_core.specs.declared.clear.reply_outcome.ReplyOutcome.TheVariants as seen
-use Rattle.requester_core.specs.declared.clear.waiting.Way.TheVariants as ways
+use Rattle.requester_core.specs.declared.clear.outstanding.TransferMode.TheVariants as modes
 use Rattle.requester_machine.proofs.ClearLeads.{clear_leads}
 use Rattle.requester_machine.proofs.Holds.{awaited}
 use Rattle.requester_machine.specs.Holds.{Holds, Waits}
@@ -21,12 +21,12 @@ use Rattle.requester_machine.specs.Message.Aim.{ByChunks, ForChunk, InSession, P
 use Rattle.requester_machine.specs.Setup.{ReqSetup}
 use Rattle.spdm_grammar.specs.Message.{ChunkMessage, RequestMessage}
 use Rattle.spdm_grammar.specs.declared.told.event.ReqIgnored.{ReqIgnored}
-use Rattle.requester_core.specs.Waiting.{kind_of, waiting_for, waiting_of, way_of}
+use Rattle.requester_core.specs.Outstanding.{kind_of, waiting_for, waiting_of, mode_of}
 use Rattle.requester_core.specs.Negotiating.{IsUpTo, IsUpToAsked, IsUpToSent}
 use Rattle.requester_core.specs.Outgoing.{IsCut, IsKept, IsKeptOf}
-use Rattle.requester_core.specs.declared.clear.waiting.Asked.{Asked}
-use Rattle.requester_core.specs.declared.clear.waiting.Waiting.TheVariants as waits
-use Rattle.requester_core.specs.declared.clear.waiting.Way.{Way}
+use Rattle.requester_core.specs.declared.clear.outstanding.PendingRequest.{PendingRequest}
+use Rattle.requester_core.specs.declared.clear.outstanding.Outstanding.TheVariants as waits
+use Rattle.requester_core.specs.declared.clear.outstanding.TransferMode.{TransferMode}
 use Rattle.requester_core.proofs.Awaited.{chunks_room}
 use Rattle.requester_machine.specs.Sending.{piece_of}
 use Rattle.requester_machine.specs.UnderWay.{HasSizes, IsAwaited, IsOutstanding}
@@ -34,36 +34,36 @@ use Rattle.spdm_grammar.specs.Requests.{canonical_request}
 
 -- ---- What the outstanding message asks.
 
-pub plain_aim : (aim : Aim) (request : RequestMessage) → asked_in aim ≡ Some request → way_of aim ≡ ways.Whole → aim ≡ Plain request
-plain_aim (Plain r) request asks way = (let same : r ≡ request = cc asks in ap (λ (x : RequestMessage). Plain x) same)
-plain_aim (ByChunks r handle number) request asks way = absurd (cc way)
-plain_aim (ForChunk r handle number before) request asks way = absurd (cc way)
-plain_aim (InSession id ask) request asks way = absurd (cc asks)
+pub plain_aim : (aim : Aim) (request : RequestMessage) → asked_in aim ≡ Some request → mode_of aim ≡ modes.Whole → aim ≡ Plain request
+plain_aim (Plain r) request asks mode = (let same : r ≡ request = cc asks in ap (λ (x : RequestMessage). Plain x) same)
+plain_aim (ByChunks r handle number) request asks mode = absurd (cc mode)
+plain_aim (ForChunk r handle number before) request asks mode = absurd (cc mode)
+plain_aim (InSession id ask) request asks mode = absurd (cc asks)
 
-pub pieces_aim : (aim : Aim) (request : RequestMessage) (handle number : ℕ) → asked_in aim ≡ Some request → way_of aim ≡ ways.ByChunks handle number → aim ≡ ByChunks request handle number
-pieces_aim (Plain r) request handle number asks way = absurd (cc way)
-pieces_aim (ByChunks r of at) request handle number asks way =
+pub pieces_aim : (aim : Aim) (request : RequestMessage) (handle number : ℕ) → asked_in aim ≡ Some request → mode_of aim ≡ modes.ByChunks handle number → aim ≡ ByChunks request handle number
+pieces_aim (Plain r) request handle number asks mode = absurd (cc mode)
+pieces_aim (ByChunks r of at) request handle number asks mode =
     (let same : r ≡ request = cc asks in
-    let a : of ≡ handle = cc way in
-    let b : at ≡ number = cc way in
+    let a : of ≡ handle = cc mode in
+    let b : at ≡ number = cc mode in
     ap (λ (x : RequestMessage). ByChunks x of at) same ∙ ap (λ (n : ℕ). ByChunks request n at) a ∙ ap (λ (n : ℕ). ByChunks request handle n) b)
-pieces_aim (ForChunk r of at before) request handle number asks way = absurd (cc way)
-pieces_aim (InSession id ask) request handle number asks way = absurd (cc asks)
+pieces_aim (ForChunk r of at before) request handle number asks mode = absurd (cc mode)
+pieces_aim (InSession id ask) request handle number asks mode = absurd (cc asks)
 
 -- It asks for a chunk after these.
 pub record AsksChunk (aim : Aim) (request : RequestMessage) (handle number : ℕ) : Type 0 where
   pub before : List ChunkMessage
   pub is : aim ≡ ForChunk request handle number before
 
-pub get_aim : (aim : Aim) (request : RequestMessage) (handle number : ℕ) → asked_in aim ≡ Some request → way_of aim ≡ ways.ForChunk handle number → AsksChunk aim request handle number
-get_aim (Plain r) request handle number asks way = absurd (cc way)
-get_aim (ByChunks r of at) request handle number asks way = absurd (cc way)
-get_aim (ForChunk r of at before) request handle number asks way =
+pub get_aim : (aim : Aim) (request : RequestMessage) (handle number : ℕ) → asked_in aim ≡ Some request → mode_of aim ≡ modes.ForChunk handle number → AsksChunk aim request handle number
+get_aim (Plain r) request handle number asks mode = absurd (cc mode)
+get_aim (ByChunks r of at) request handle number asks mode = absurd (cc mode)
+get_aim (ForChunk r of at before) request handle number asks mode =
     (let same : r ≡ request = cc asks in
-    let a : of ≡ handle = cc way in
-    let b : at ≡ number = cc way in
+    let a : of ≡ handle = cc mode in
+    let b : at ≡ number = cc mode in
     record { before = before; is = ap (λ (x : RequestMessage). ForChunk x of at before) same ∙ ap (λ (n : ℕ). ForChunk request n at before) a ∙ ap (λ (n : ℕ). ForChunk request handle n before) b })
-get_aim (InSession id ask) request handle number asks way = absurd (cc asks)
+get_aim (InSession id ask) request handle number asks mode = absurd (cc asks)
 
 -- ---- What comes of the message.
 
@@ -126,7 +126,7 @@ up_here seen h sent request shows waits asks =
     subst (λ (a : Option RequestMessage). IsUpToAsked a (negotiation_of h)) asks (subst (λ (w : Option Sent). IsUpToSent w (negotiation_of h)) waits shows.up_to)
 
 pub pieces_cut : (q : ReqSetup) (h : History) (sent : Sent) (request : RequestMessage) (handle number : ℕ) → HasSizes q → Holds q h → outstanding h ≡ Some sent → sent.aim ≡ ByChunks request handle number → IsAwaited q h request → IsUpTo request (negotiation_of h)
-    → IsCut (ways.ByChunks handle number) (connection_terms h).common.to_responder.transfer (canonical_request request)
+    → IsCut (modes.ByChunks handle number) (connection_terms h).common.to_responder.transfer (canonical_request request)
 pieces_cut q h sent request handle number sizes holds waits aim awaits up =
     let out = subst (IsOutstanding q h sent.content) aim (subst (Waits q h) waits holds.waits) in
     let piece = out.1 sizes in
@@ -147,11 +147,11 @@ pub ack_carried : (q : ReqSetup) (h : History) (m : List ℕ) (aim : Aim) (reque
 unfolding carried_by
 ack_carried q h m aim request handle number is = ap (carried_by q h m) is
 
-pub clear_way : (sent : Sent) (request : RequestMessage) (tag : ℕ) (asked : Asked) (way : Way) → asked_in sent.aim ≡ Some request → waits.InClear tag asked way ≡ waiting_of (Some sent) → (kind_of request ≡ asked) × (way_of sent.aim ≡ way)
-clear_way sent request tag asked way asks e = clear_aim sent.tag sent.aim request tag asked way asks e
+pub clear_way : (sent : Sent) (request : RequestMessage) (tag : ℕ) (asked : PendingRequest) (mode : TransferMode) → asked_in sent.aim ≡ Some request → waits.InClear tag asked mode ≡ waiting_of (Some sent) → (kind_of request ≡ asked) × (mode_of sent.aim ≡ mode)
+clear_way sent request tag asked mode asks e = clear_aim sent.tag sent.aim request tag asked mode asks e
   where
-    clear_aim : (of : ℕ) (aim : Aim) (request : RequestMessage) (tag : ℕ) (asked : Asked) (way : Way) → asked_in aim ≡ Some request → waits.InClear tag asked way ≡ waiting_for of aim → (kind_of request ≡ asked) × (way_of aim ≡ way)
-    clear_aim of (Plain r) request tag asked way asks e = (let same : r ≡ request = cc asks in let k : asked ≡ kind_of r = cc e in (ap kind_of (sym same) ∙ sym k, cc e))
-    clear_aim of (ByChunks r handle number) request tag asked way asks e = (let same : r ≡ request = cc asks in let k : asked ≡ kind_of r = cc e in (ap kind_of (sym same) ∙ sym k, cc e))
-    clear_aim of (ForChunk r handle number before) request tag asked way asks e = (let same : r ≡ request = cc asks in let k : asked ≡ kind_of r = cc e in (ap kind_of (sym same) ∙ sym k, cc e))
-    clear_aim of (InSession id ask) request tag asked way asks e = absurd (cc e)
+    clear_aim : (of : ℕ) (aim : Aim) (request : RequestMessage) (tag : ℕ) (asked : PendingRequest) (mode : TransferMode) → asked_in aim ≡ Some request → waits.InClear tag asked mode ≡ waiting_for of aim → (kind_of request ≡ asked) × (mode_of aim ≡ mode)
+    clear_aim of (Plain r) request tag asked mode asks e = (let same : r ≡ request = cc asks in let k : asked ≡ kind_of r = cc e in (ap kind_of (sym same) ∙ sym k, cc e))
+    clear_aim of (ByChunks r handle number) request tag asked mode asks e = (let same : r ≡ request = cc asks in let k : asked ≡ kind_of r = cc e in (ap kind_of (sym same) ∙ sym k, cc e))
+    clear_aim of (ForChunk r handle number before) request tag asked mode asks e = (let same : r ≡ request = cc asks in let k : asked ≡ kind_of r = cc e in (ap kind_of (sym same) ∙ sym k, cc e))
+    clear_aim of (InSession id ask) request tag asked mode asks e = absurd (cc e)

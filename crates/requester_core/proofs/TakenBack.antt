@@ -10,8 +10,8 @@ use Rattle.requester_core.specs.Outgoing as outgoing
 use Rattle.requester_core.specs.Outgoing.{handle_before, tag_before, taken_back}
 use Rattle.requester_core.specs.Owed.{TookAny, TookFor}
 use Rattle.requester_core.specs.OwnRecords.{is_in_session}
-use Rattle.requester_core.specs.Talk as talk
-use Rattle.requester_core.specs.Waiting.{is_first, waiting_of}
+use Rattle.requester_core.specs.ClearState as clear_state
+use Rattle.requester_core.specs.Outstanding.{is_first, waiting_of}
 use Rattle.requester_machine.specs.History.{History, begins_large, connection_terms, is_first_chunk, larges_of, negotiation_of, next_handle, next_tag, outstanding, phase_of, sent_count}
 use Rattle.requester_machine.specs.History.Entry.{Told, TookClear, TookRecord}
 use Rattle.requester_machine.specs.Holds.{Holds, LiveAt}
@@ -105,7 +105,7 @@ outgoing_before bare x seen took stands =
       request = subst (λ (o : Option Sent). outgoing.IsKeptOf o seen.request) (sym w.none) tt;
     }
 
-pub shows_before : (bare : History) (x : Sent) (seen : talk.Seen) → TookAny bare → talk.Shows seen (with_next (Some x) bare) → talk.Shows (record seen { outgoing = taken_back seen.outgoing }) bare
+pub shows_before : (bare : History) (x : Sent) (seen : clear_state.Seen) → TookAny bare → clear_state.Shows seen (with_next (Some x) bare) → clear_state.Shows (record seen { outgoing = taken_back seen.outgoing }) bare
 shows_before bare x seen took shows =
     let w = without bare x took in
     let h = with_next (Some x) bare in

@@ -36,15 +36,15 @@ use Rattle.spdm_grammar.specs.declared.names.TheConstants.{MAX_MESSAGE_SIZE}
 use Rattle.spdm_machine.specs.Keys.{Draw}
 use Rattle.requester_core.specs.Gathering.{Gathered}
 use Rattle.requester_core.specs.Hearing.{IsAtRest, IsEntered, IsExchangeFor, IsHeard, IsRegathered, LeadsTo, Regathers, exchange_id, heard_in, heard_of, rested}
-use Rattle.requester_core.specs.Led as led_specs
-use Rattle.requester_core.specs.Led.{IsExchange}
-use Rattle.requester_core.specs.Talk.{Seen}
-use Rattle.requester_core.specs.Waiting.{kind_of}
-use Rattle.requester_core.specs.declared.clear.heard.Heard.TheVariants as told
+use Rattle.requester_core.specs.ReplyOutcome as led_specs
+use Rattle.requester_core.specs.ReplyOutcome.{IsExchange}
+use Rattle.requester_core.specs.ClearState.{Seen}
+use Rattle.requester_core.specs.Outstanding.{kind_of}
+use Rattle.requester_core.specs.declared.clear.body_outcome.BodyOutcome.TheVariants as told
 use Rattle.requester_core.specs.declared.clear.reply_outcome.ReplyOutcome as seen_led
 use Rattle.requester_core.specs.declared.clear.reply_outcome.ReplyOutcome.TheVariants as seen
-use Rattle.requester_core.specs.declared.clear.waiting.Asked.{Asked}
-use Rattle.requester_core.specs.declared.clear.waiting.Asked.TheVariants as asks
+use Rattle.requester_core.specs.declared.clear.outstanding.PendingRequest.{PendingRequest}
+use Rattle.requester_core.specs.declared.clear.outstanding.PendingRequest.TheVariants as asks
 use Rattle.requester_core.proofs.Answered.{any_free}
 use Rattle.requester_core.proofs.SessionsKept.{rests_sessions, sends_sessions}
 use Rattle.requester_core.proofs.Taken.{awaited_here, carried_leads}
@@ -224,11 +224,11 @@ led_is : (tag : ℕ) (m : List ℕ) (d : Draw) (leads : Result Led ReqIgnored) (
 led_is tag m d (Err cause) led is = absurd (cc is)
 led_is tag m d (Ok its) led is = (let same : its ≡ led = cc is in ap (λ (l : Led). Ok l) same)
 
-rest_gathers : (q : ReqSetup) (h : History) (owner : Bool) (tag : ℕ) (body : List ℕ) (asked : Asked) (event : Event) (old new : keeping.Kept) → Regathers q h owner tag body new → IsRegathered q h owner tag body (rested asked event) old new
+rest_gathers : (q : ReqSetup) (h : History) (owner : Bool) (tag : ℕ) (body : List ℕ) (asked : PendingRequest) (event : Event) (old new : keeping.Kept) → Regathers q h owner tag body new → IsRegathered q h owner tag body (rested asked event) old new
 rest_gathers q h owner tag body (asks.Exchange id summary) event old new gathers = gathers
 rest_gathers q h owner tag body _ event old new gathers = gathers
 
-pub clear_gathers : (q : ReqSetup) (h : History) (owner : Bool) (tag : ℕ) (body : List ℕ) (sent : Sent) (request : RequestMessage) (asked : Asked) (led : seen_led.ReplyOutcome) (old new : keeping.Kept)
+pub clear_gathers : (q : ReqSetup) (h : History) (owner : Bool) (tag : ℕ) (body : List ℕ) (sent : Sent) (request : RequestMessage) (asked : PendingRequest) (led : seen_led.ReplyOutcome) (old new : keeping.Kept)
     → ((f : Free) (d : Draw) → hears q h owner tag body f d ≡ clear_outcome tag (drop 1 body) d (clear_led q h f sent.aim request (drop 1 body)))
     → Gathered q h sent request (drop 1 body) led old new → IsRegathered q h owner tag body (heard_of asked led) old new
 clear_gathers q h owner tag body sent request asked (seen.Ignored cause) old new is gathered = gathered

@@ -1,9 +1,9 @@
 -- What comes of a command.
 use Rattle.std.specs.Prelude.{◌≡◌, ◌∷◌, ℕ, List, false, Option, None, Some, Result, Ok, Err}
 use Rattle.requester_core.specs.Gathering.{Gathers}
-use Rattle.requester_core.specs.Talk as talk
-use Rattle.requester_core.specs.declared.clear.again.Again.{Again}
-use Rattle.requester_core.specs.declared.clear.again.Again.TheVariants as again
+use Rattle.requester_core.specs.ClearState as clear_state
+use Rattle.requester_core.specs.declared.clear.resend.Resend.{Resend}
+use Rattle.requester_core.specs.declared.clear.resend.Resend.TheVariants as again
 use Rattle.chunking.specs.Keeping as keeping
 use Rattle.requester_machine.specs.Asking.{asks}
 use Rattle.requester_machine.specs.Asking.Outcome.{Adds, Fails, Resends}
@@ -30,24 +30,24 @@ request_for q _ f = None
 -- The command is done: a message in the clear is sent with this tag and written, which asks for no chunk, and what is
 -- kept is that of the history after it.
 pub record IsDone (q : ReqSetup) (h : History) (command : Command) (f : Free) (d : Draw) (tag : ℕ)
-    (new : talk.Seen) (out : List ℕ) : Type 0 where
+    (new : clear_state.Seen) (out : List ℕ) : Type 0 where
   pub sent : Sent
   pub outcome : asks false q h command f d ≡ Adds (Told command sent d)
   pub tag_is : sent.tag ≡ tag
   pub content : sent.content ≡ Clear out
   pub asks : asked_in sent.aim ≡ request_for q command f
-  pub stands : talk.StandsFor new q (Told command sent d ∷ h)
+  pub stands : clear_state.StandsFor new q (Told command sent d ∷ h)
   pub gathers : (gathered : keeping.Kept) → gathered.max ≡ q.max → Gathers q (Some sent) gathered
 
 -- The command fails, and nothing changes.
 pub record IsFailed (q : ReqSetup) (h : History) (command : Command) (f : Free) (d : Draw) (fault
-    : CommandFault) (old new : talk.Seen) : Type 0 where
+    : CommandFault) (old new : clear_state.Seen) : Type 0 where
   pub outcome : asks false q h command f d ≡ Fails fault
   pub same : new ≡ old
 
 -- The one or the other. What makes an end worn is tested before it.
 abbrev pub IsTold : ReqSetup → History → Command → Free → Draw → Result ℕ CommandFault
-    → (old new : talk.Seen) → (out : List ℕ) → Type 0
+    → (old new : clear_state.Seen) → (out : List ℕ) → Type 0
 IsTold q h command f d (Ok tag) old new out = IsDone q h command f d tag new out
 IsTold q h command f d (Err fault) old new out = IsFailed q h command f d fault old new
 
@@ -62,7 +62,7 @@ abbrev pub IsOfSession : (id : ℕ) → Sent → Type 0
 IsOfSession id sent = (ask : Ask) × (sent.aim ≡ InSession id ask)
 
 -- It is a message in the clear, which is written; or a record of a session; or there is none.
-abbrev pub IsRetried : ReqSetup → History → Free → Draw → Result Again CommandFault
+abbrev pub IsRetried : ReqSetup → History → Free → Draw → Result Resend CommandFault
     → (out : List ℕ) → Type 0
 IsRetried q h f d (Ok (again.InClear tag)) out = (r : IsResent q h f d tag)
     × (r.sent.content ≡ Clear out)

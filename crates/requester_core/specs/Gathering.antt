@@ -1,8 +1,8 @@
 -- What a requester gathers of a large response in the clear.
 use Rattle.std.specs.Prelude.{⊤, ◌≡◌, ◌==◌, not, if◌then◌else◌, ℕ, List, Option, Some, None, Ok}
 use Rattle.chunking.specs.Keeping as keeping
-use Rattle.requester_core.specs.Led.{IsCarried}
-use Rattle.requester_core.specs.Talk.{Seen}
+use Rattle.requester_core.specs.ReplyOutcome.{IsCarried}
+use Rattle.requester_core.specs.ClearState.{Seen}
 use Rattle.requester_core.specs.declared.clear.reply_outcome.ReplyOutcome as seen_led
 use Rattle.requester_core.specs.declared.clear.reply_outcome.ReplyOutcome.TheVariants as seen
 use Rattle.requester_machine.specs.ClearAnswers.{Carried, clear_led}

@@ -1,13 +1,13 @@
 -- What comes of a whole body.
 use Rattle.std.specs.Prelude.{◌≡◌, ◌∷◌, [], ◌==◌, drop, if◌then◌else◌, unwrap_or, ℕ, List, Bool, false, Some, None, Ok}
 use Rattle.requester_core.specs.Gathering.{Gathers}
-use Rattle.requester_core.specs.Talk.{Seen, StandsFor}
-use Rattle.requester_core.specs.declared.clear.heard.Heard as seen_heard
-use Rattle.requester_core.specs.declared.clear.heard.Heard.TheVariants as heard
+use Rattle.requester_core.specs.ClearState.{Seen, StandsFor}
+use Rattle.requester_core.specs.declared.clear.body_outcome.BodyOutcome as seen_heard
+use Rattle.requester_core.specs.declared.clear.body_outcome.BodyOutcome.TheVariants as heard
 use Rattle.requester_core.specs.declared.clear.reply_outcome.ReplyOutcome as seen_led
 use Rattle.requester_core.specs.declared.clear.reply_outcome.ReplyOutcome.TheVariants as seen
-use Rattle.requester_core.specs.declared.clear.waiting.Asked.{Asked}
-use Rattle.requester_core.specs.declared.clear.waiting.Asked.TheVariants as asks
+use Rattle.requester_core.specs.declared.clear.outstanding.PendingRequest.{PendingRequest}
+use Rattle.requester_core.specs.declared.clear.outstanding.PendingRequest.TheVariants as asks
 use Rattle.chunking.specs.Keeping as keeping
 use Rattle.requester_machine.specs.Answers.{exchange_led}
 use Rattle.requester_machine.specs.Asking.{Outcome}
@@ -34,18 +34,18 @@ use Rattle.spdm_grammar.specs.declared.told.event.Event.TheVariants as event
 use Rattle.spdm_machine.specs.Keys.{Draw}
 
 -- The ReqSessionID of the PSK_EXCHANGE that is outstanding, and 0 where another request is.
-abbrev pub exchange_id : Asked → ℕ
+abbrev pub exchange_id : PendingRequest → ℕ
 exchange_id (asks.Exchange id summary) = id
 exchange_id _ = 0
 
 -- What is reported where nothing is sent on a message to a request that asks this: one that rests on PSK_EXCHANGE
 -- refuses it.
-abbrev pub rested : Asked → Event → seen_heard.Heard
+abbrev pub rested : PendingRequest → Event → seen_heard.BodyOutcome
 rested (asks.Exchange id summary) told = heard.Closes id told
 rested _ told = heard.Rests told
 
 -- What is reported of a body that is a message in the clear to a request that asks this.
-abbrev pub heard_of : Asked → seen_led.ReplyOutcome → seen_heard.Heard
+abbrev pub heard_of : PendingRequest → seen_led.ReplyOutcome → seen_heard.BodyOutcome
 heard_of asked (seen.Ignored cause) = heard.Ignored cause
 heard_of asked (seen.Rests told) = rested asked told
 heard_of asked (seen.Sends tag) = heard.Sends tag
@@ -55,7 +55,7 @@ heard_of asked seen.Exchange = heard.Exchange (exchange_id asked)
 
 -- What is reported of a body that no test refuses, while a record of the session with this ReqSessionID is outstanding:
 -- a clear one encodes an ERROR.
-abbrev pub heard_in : (id : ℕ) → List ℕ → seen_heard.Heard
+abbrev pub heard_in : (id : ℕ) → List ℕ → seen_heard.BodyOutcome
 heard_in id body = if is_clear body then heard.Warned (unwrap_or (error_in (drop 1 body)) 0)
     else heard.Record id
 
@@ -133,7 +133,7 @@ pub record IsRecordFor (q : ReqSetup) (h : History) (owner : Bool) (tag : ℕ) (
   pub same : new ≡ old
 
 -- What is reported of a body is what it leads to in the definitions.
-abbrev pub IsHeard : ReqSetup → History → (owner : Bool) → ℕ → List ℕ → seen_heard.Heard
+abbrev pub IsHeard : ReqSetup → History → (owner : Bool) → ℕ → List ℕ → seen_heard.BodyOutcome
     → (old new : Seen) → (out : List ℕ) → Type 0
 IsHeard q h owner tag body (heard.Ignored cause) old new out =
     LeadsTo q h owner tag body (Ignores cause) × (new ≡ old)
@@ -157,7 +157,7 @@ Regathers q h owner tag body new = (f : Free) (d : Draw) (led : Led)
     → Gathers q led.next new
 
 -- What is left of what was gathered: all of it where nothing changed.
-abbrev pub IsRegathered : ReqSetup → History → (owner : Bool) → ℕ → List ℕ → seen_heard.Heard
+abbrev pub IsRegathered : ReqSetup → History → (owner : Bool) → ℕ → List ℕ → seen_heard.BodyOutcome
     → (old new : keeping.Kept) → Type 0
 IsRegathered q h owner tag body (heard.Rests told) old new = Regathers q h owner tag body new
 IsRegathered q h owner tag body (heard.Closes id told) old new = Regathers q h owner tag body new

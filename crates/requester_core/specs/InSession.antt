@@ -2,7 +2,7 @@
 use Rattle.std.specs.Prelude.{◌≡◌, ◌∷◌, [], ℕ, List, Bool, false, Option, Some, None}
 use Rattle.std.specs.Option.{option_or}
 use Rattle.requester_core.specs.Gathering.{Gathers}
-use Rattle.requester_core.specs.Talk.{Seen, StandsFor}
+use Rattle.requester_core.specs.ClearState.{Seen, StandsFor}
 use Rattle.requester_machine.specs.Asking.Outcome.{Adds}
 use Rattle.chunking.specs.Keeping as keeping
 use Rattle.requester_machine.specs.Bodies.{is_clear}

@@ -2,10 +2,10 @@
 use Rattle.std.specs.Prelude.{◌≡◌, ◌∷◌, ℕ, List, Bool, true, false, Option, Some, None, Result, Ok, Err}
 use Rattle.requester_core.specs.Gathering.{Gathers}
 use Rattle.requester_core.specs.Sessions as sessions
-use Rattle.requester_core.specs.Talk as talk
+use Rattle.requester_core.specs.ClearState as clear_state
 use Rattle.requester_core.specs.declared.command.Command as declared
 use Rattle.requester_core.specs.declared.command.Command.TheVariants as tell
-use Rattle.requester_core.specs.declared.joined.Asking.{Asking}
+use Rattle.requester_core.specs.declared.joined.RequesterCore.{RequesterCore}
 use Rattle.requester_core.specs.declared.reaction.Reaction.{Reaction}
 use Rattle.requester_machine.specs.Asking.{Outcome}
 use Rattle.requester_machine.specs.Asking.Outcome.{Fails}
@@ -24,8 +24,8 @@ use Rattle.spdm_grammar.specs.declared.told.event.Finished.TheVariants as finish
 
 -- It is kept of this history, which a requester with this set-up made under some free values: the clear part, the
 -- sessions, and what is gathered of a large response.
-pub record StandsFor (seen : Asking) (q : ReqSetup) (h : History) : Type 0 where
-  pub talk : talk.StandsFor seen.talk q h
+pub record StandsFor (seen : RequesterCore) (q : ReqSetup) (h : History) : Type 0 where
+  pub clear_state : clear_state.StandsFor seen.clear_state q h
   pub sessions : sessions.StandsFor seen.sessions q h
   pub gathers : Gathers q (outstanding h) seen.gathered
 
@@ -45,7 +45,7 @@ command_of tell.Retry = Retry
 -- It is done: the message that the outcome sends has this tag and this body, and what is kept is that of the history
 -- after it.
 pub record IsDone (q : ReqSetup) (h : History) (outcome : Outcome) (tag : ℕ) (body : List ℕ)
-    (new : Asking) : Type 0 where
+    (new : RequesterCore) : Type 0 where
   pub sent : Sent
   pub fault : fault_of outcome ≡ None
   pub sends : sent_by outcome ≡ Some sent
@@ -55,7 +55,7 @@ pub record IsDone (q : ReqSetup) (h : History) (outcome : Outcome) (tag : ℕ) (
 
 -- Or it fails, and what is kept is that of the same history.
 abbrev pub IsCommanded : ReqSetup → History → Outcome → Result ℕ CommandFault → (body : List ℕ)
-    → (new : Asking) → Type 0
+    → (new : RequesterCore) → Type 0
 IsCommanded q h outcome (Ok tag) body new = IsDone q h outcome tag body new
 IsCommanded q h outcome (Err fault) body new = (outcome ≡ Fails fault) × StandsFor new q h
 
@@ -78,14 +78,14 @@ sent tag = record { event = event.Progress; tag = Some tag }
 -- What is reported and sent of a body is what the outcome tells and sends, and what is kept is that of the history
 -- after it.
 pub record IsAnswered (q : ReqSetup) (h : History) (outcome : Outcome) (reaction : Reaction)
-    (body : List ℕ) (new : Asking) : Type 0 where
+    (body : List ℕ) (new : RequesterCore) : Type 0 where
   pub event : event_of outcome ≡ Some reaction.event
   pub sends : IsSentAs (sent_by outcome) reaction.tag body
   pub stands : StandsFor new q (after h outcome)
 
 -- The sessions are those of the history with an entry, and the clear part is that of the history without it.
-pub record IsBeside (seen : Asking) (q : ReqSetup) (h : History) (entry : Entry) : Type 0 where
-  pub talk : talk.StandsFor seen.talk q h
+pub record IsBeside (seen : RequesterCore) (q : ReqSetup) (h : History) (entry : Entry) : Type 0 where
+  pub clear_state : clear_state.StandsFor seen.clear_state q h
   pub sessions : sessions.StandsFor seen.sessions q (entry ∷ h)
   pub max : seen.gathered.max ≡ q.max
 

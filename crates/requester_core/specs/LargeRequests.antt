@@ -2,8 +2,8 @@
 -- and is broken off by GET_VERSION whatever its bytes were. This project's own.
 use Rattle.std.specs.Prelude.{◌≡◌, ◌⊎◌, ◌+◌, ◌==◌, zero, suc, ℕ, List, ◌∷◌, if◌then◌else◌, false, Option, Some, None}
 use Rattle.requester_core.specs.Joined.{StandsFor}
-use Rattle.requester_core.specs.Talk as talk
-use Rattle.requester_core.specs.declared.joined.Asking.{Asking}
+use Rattle.requester_core.specs.ClearState as clear_state
+use Rattle.requester_core.specs.declared.joined.RequesterCore.{RequesterCore}
 use Rattle.chunking.specs.Cutting.{chunk_count}
 use Rattle.requester_machine.specs.Answers.{goes_on}
 use Rattle.requester_machine.specs.History.{History, begins_large, connection_terms, outstanding}
@@ -39,17 +39,17 @@ next_piece h = piece_behind_sent h (outstanding h)
 -- The next chunk is sent and written, and what is kept is that of the history in which any message called for it, under
 -- any tag. Where there is none, nothing changes.
 abbrev pub SendsPiece : ReqSetup → History → Option Sent → Option ℕ → (out : List ℕ)
-    → (old new : talk.Seen) → Type 0
+    → (old new : clear_state.Seen) → Type 0
 SendsPiece q h None None out old new = new ≡ old
 SendsPiece q h (Some next) (Some tag) out old new =
     (next.tag ≡ tag) × (next.content ≡ Clear out)
     × ((of : ℕ) (m : List ℕ) (d : Draw)
-    → talk.StandsFor new q (TookClear of m (goes_on Nothing next) d ∷ h))
+    → clear_state.StandsFor new q (TookClear of m (goes_on Nothing next) d ∷ h))
 SendsPiece q h _ _ out old new = ⊥
 
 -- The same of the whole requester.
 abbrev pub IsAcknowledged : ReqSetup → History → Option Sent → Option ℕ → (body : List ℕ)
-    → (new : Asking) → Type 0
+    → (new : RequesterCore) → Type 0
 IsAcknowledged q h None None body new = StandsFor new q h
 IsAcknowledged q h (Some next) (Some tag) body new =
     (next.tag ≡ tag) × (body ≡ body_of next.content)

@@ -1,16 +1,16 @@
 pub mod Setup
 pub mod Free
-pub mod Waiting
+pub mod Outstanding
 pub mod Negotiating
 pub mod Outgoing
-pub mod Talk
+pub mod ClearState
 pub mod Commands
-pub mod Led
+pub mod ReplyOutcome
 pub mod Gathering
 pub mod Hearing
 pub mod InSession
 pub mod Slot
-pub mod SessionLed
+pub mod RecordOutcome
 pub mod SlotSteps
 pub mod Sessions
 pub mod SessionSteps
@@ -18,3 +18,4 @@ pub mod Joined
 pub mod OwnRecords
 pub mod Owed
 pub mod LargeRequests
+pub mod Wiped

@@ -1,11 +1,11 @@
 -- What a requester sends, as the program represents it: the next tag and handle, what is waited for, and the request in
 -- the clear that is outstanding.
 use Rattle.std.specs.Prelude.{⊤, ◌≡◌, ◌≤◌, ◌<◌, ◌+◌, ◌%◌, ℕ, List, if◌then◌else◌, Option, Some, None}
-use Rattle.requester_core.specs.Waiting.{is_first, waiting_of}
-use Rattle.requester_core.specs.declared.clear.waiting.Waiting.{Waiting}
-use Rattle.requester_core.specs.declared.clear.waiting.Waiting.TheVariants as waits
-use Rattle.requester_core.specs.declared.clear.waiting.Way.{Way}
-use Rattle.requester_core.specs.declared.clear.waiting.Way.TheVariants as ways
+use Rattle.requester_core.specs.Outstanding.{is_first, waiting_of}
+use Rattle.requester_core.specs.declared.clear.outstanding.Outstanding.{Outstanding}
+use Rattle.requester_core.specs.declared.clear.outstanding.Outstanding.TheVariants as waits
+use Rattle.requester_core.specs.declared.clear.outstanding.TransferMode.{TransferMode}
+use Rattle.requester_core.specs.declared.clear.outstanding.TransferMode.TheVariants as modes
 use Rattle.chunking.specs.Cutting.{chunk_count, nth_chunk}
 use Rattle.requester_machine.specs.History.{begins_large}
 use Rattle.requester_machine.specs.Message.{Sent, asked_in}
@@ -19,7 +19,7 @@ use Rattle.spdm_grammar.specs.declared.names.TheConstants.{MAX_MESSAGE_SIZE, MIN
 pub record Seen : Type 0 where
   pub tag : ℕ
   pub handle : ℕ
-  pub waiting : Waiting
+  pub waiting : Outstanding
   pub request : List ℕ
 
 -- The bytes of the request that is outstanding in the clear are kept.
@@ -79,16 +79,16 @@ pub record Sends (sent : Sent) (old new : Seen) (tag : ℕ) (out : List ℕ) : T
   pub request : new.request ≡ old.request
 
 -- The message that is sent for a request, to a responder of this DataTransferSize.
-abbrev pub message_for : Way → (transfer : ℕ) → (request : List ℕ) → List ℕ
-message_for ways.Whole transfer request = request
-message_for (ways.ByChunks handle number) transfer request = canonical_request (ChunkSend
+abbrev pub message_for : TransferMode → (transfer : ℕ) → (request : List ℕ) → List ℕ
+message_for modes.Whole transfer request = request
+message_for (modes.ByChunks handle number) transfer request = canonical_request (ChunkSend
     (nth_chunk transfer handle request number))
-message_for (ways.ForChunk handle number) transfer request = canonical_request (ChunkGet handle
+message_for (modes.ForChunk handle number) transfer request = canonical_request (ChunkGet handle
     number)
 
 -- There is such a chunk of the request.
-abbrev pub IsCut : Way → (transfer : ℕ) → (request : List ℕ) → Type 0
-IsCut (ways.ByChunks handle number) transfer request =
+abbrev pub IsCut : TransferMode → (transfer : ℕ) → (request : List ℕ) → Type 0
+IsCut (modes.ByChunks handle number) transfer request =
     (MIN_DATA_TRANSFER_SIZE ≤ transfer) × (transfer ≤ MAX_MESSAGE_SIZE)
     × (number < chunk_count transfer request)
 IsCut _ transfer request = ⊤

@@ -3,7 +3,7 @@
 use Rattle.std.specs.Prelude.{◌≡◌, ◌≤◌, ℕ, List, [], ◌∷◌, Bool, true, false, Some, None, length}
 use Rattle.requester_core.specs.Joined.{StandsFor}
 use Rattle.requester_core.specs.Sessions as sessions
-use Rattle.requester_core.specs.declared.joined.Asking.{Asking}
+use Rattle.requester_core.specs.declared.joined.RequesterCore.{RequesterCore}
 use Rattle.requester_core.specs.declared.in_sessions.sessions.Sessions.{Sessions}
 use Rattle.requester_machine.specs.History.{History}
 use Rattle.requester_machine.specs.History.Entry.{Told, TookClear, TookRecord}
@@ -64,7 +64,7 @@ AreRepaddedIn q bare whole id sent sealed new false =
 
 -- The same of the requester.
 abbrev pub IsRepaddedIn : ReqSetup → (bare : History) → (whole : Sent → History) → (id : ℕ) → Sent
-    → (sealed : List ℕ) → (new : Asking) → Bool → Type 0
+    → (sealed : List ℕ) → (new : RequesterCore) → Bool → Type 0
 IsRepaddedIn q bare whole id sent sealed new true =
     (pad : List ℕ) × (length pad ≤ MAX_PADDING) × IsOwedAs q bare id pad sent sealed
     × StandsFor new q (whole (owed_with q bare id pad sent))
@@ -77,7 +77,7 @@ abbrev pub AreRepadded : ReqSetup → History → (id : ℕ) → Sent → (seale
 AreRepadded q bare id sent sealed new told =
     AreRepaddedIn q bare (λ x. with_next (Some x) bare) id sent sealed new told
 
-abbrev pub IsRepadded : ReqSetup → History → (id : ℕ) → Sent → (sealed : List ℕ) → (new : Asking)
+abbrev pub IsRepadded : ReqSetup → History → (id : ℕ) → Sent → (sealed : List ℕ) → (new : RequesterCore)
     → Bool → Type 0
 IsRepadded q bare id sent sealed new told =
     IsRepaddedIn q bare (λ x. with_next (Some x) bare) id sent sealed new told
@@ -89,6 +89,6 @@ AreRetold q older command d id sent sealed new told =
     AreRepaddedIn q older (λ x. Told command x d ∷ older) id sent sealed new told
 
 abbrev pub IsRetold : ReqSetup → History → Command → Draw → (id : ℕ) → Sent → (sealed : List ℕ)
-    → (new : Asking) → Bool → Type 0
+    → (new : RequesterCore) → Bool → Type 0
 IsRetold q older command d id sent sealed new told =
     IsRepaddedIn q older (λ x. Told command x d ∷ older) id sent sealed new told

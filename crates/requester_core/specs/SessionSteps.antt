@@ -2,8 +2,8 @@
 use Rattle.std.specs.Prelude.{◌≡◌, ◌∷◌, ℕ, List, Bool, true, false, Some, None, drop, is_some, Result, Ok, Err}
 use Rattle.requester_core.specs.Hearing.{KeepsSessions}
 use Rattle.requester_core.specs.Sessions.{StandsFor}
-use Rattle.requester_core.specs.declared.in_sessions.session_led.SessionLed.{SessionLed}
-use Rattle.requester_core.specs.declared.in_sessions.session_led.SessionLed.TheVariants as seen
+use Rattle.requester_core.specs.declared.in_sessions.record_outcome.RecordOutcome.{RecordOutcome}
+use Rattle.requester_core.specs.declared.in_sessions.record_outcome.RecordOutcome.TheVariants as seen
 use Rattle.requester_core.specs.declared.in_sessions.sessions.Sessions.{Sessions}
 use Rattle.requester_machine.specs.Asking.{Outcome, asks}
 use Rattle.requester_machine.specs.Asking.Outcome.{Adds, Fails, Ignores}
@@ -43,19 +43,19 @@ IsToldTo q h command f d (Err fault) new =
 -- ---- A record that comes.
 
 -- What is reported.
-abbrev pub event_by : SessionLed → Event
+abbrev pub event_by : RecordOutcome → Event
 event_by (seen.Ignored fault) = event.Ignored (ignored.Record fault)
 event_by (seen.Rests told) = told
 event_by (seen.Ends told) = told
 event_by seen.Sends = event.Progress
 
 -- A further record is sent.
-abbrev pub is_sent : SessionLed → Bool
+abbrev pub is_sent : RecordOutcome → Bool
 is_sent seen.Sends = true
 is_sent _ = false
 
 -- The outcome adds an entry of which this is told, and the sessions are those of the history with it.
-pub record IsAdded (q : ReqSetup) (h : History) (outcome : Outcome) (led : SessionLed)
+pub record IsAdded (q : ReqSetup) (h : History) (outcome : Outcome) (led : RecordOutcome)
     (new : Sessions) : Type 0 where
   pub entry : Entry
   pub adds : outcome ≡ Adds entry
@@ -64,7 +64,7 @@ pub record IsAdded (q : ReqSetup) (h : History) (outcome : Outcome) (led : Sessi
   pub stands : StandsFor new q (entry ∷ h)
 
 -- A record that does not open is ignored, and the sessions are the same; any other is added.
-abbrev pub IsRecorded : ReqSetup → History → Outcome → SessionLed → (new : Sessions) → Type 0
+abbrev pub IsRecorded : ReqSetup → History → Outcome → RecordOutcome → (new : Sessions) → Type 0
 IsRecorded q h outcome (seen.Ignored fault) new =
     (outcome ≡ Ignores (ignored.Record fault)) × StandsFor new q h
 IsRecorded q h outcome led new = IsAdded q h outcome led new

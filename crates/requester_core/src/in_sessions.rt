@@ -1,7 +1,7 @@
 //! The sessions of a requester.
 
 pub mod in_session;
+pub mod record_outcome;
 pub mod session_laws;
-pub mod session_led;
 pub mod sessions;
 pub mod slot;

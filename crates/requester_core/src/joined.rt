@@ -1,4 +1,4 @@
-use crate::{Sessions, Talk};
+use crate::{ClearState, Sessions};
 use chunking::Collector;
 use negotiate::Common;
 use spdm_basis::Frame;
@@ -7,18 +7,19 @@ use spdm_grammar::{Choice, Phase, SessionList, SessionView};
 /// A requester (DSP0274, section 10), with every free value handed in: the clear part, the part received so far of a
 /// large response in the clear, and the sessions. Fixed size; never allocates.
 #[derive(Drop)]
-pub struct Asking {
-    pub(crate) talk: Talk,
+pub struct RequesterCore {
+    pub(crate) clear_state: ClearState,
     pub(crate) gathered: Collector,
     pub(crate) sessions: Sessions,
     // Scratch space for the clear message last sent or received, so that no call zeroes a buffer of its own.
     pub(crate) message: Frame,
 }
 
-impl Asking {
+impl RequesterCore {
     ghost use Rattle.std.specs.Prelude.{◌≡◌, ◌≤◌, ◌<◌, ◌^◌, ◌-◌, [], length};
     ghost use Rattle.requester_core.specs.Joined.{StandsFor};
     ghost use Rattle.requester_core.specs.Slot.{shown_of};
+    ghost use Rattle.requester_core.specs.Wiped.{IsWiped};
     ghost use Rattle.requester_machine.specs.Commands.{live_count};
     ghost use Rattle.requester_machine.specs.Does.{free_id};
     ghost use Rattle.requester_machine.specs.History.{History, connection_terms, next_handle, phase_of};
@@ -27,22 +28,29 @@ impl Asking {
     ghost use Rattle.requester_machine.specs.Shown.{last_data, views_of};
 
     /// The initial state of a requester with this MaxSPDMmsgSize.
-    pub fn new(max: u32) -> Asking
+    pub fn new(max: u32) -> RequesterCore
         ensures { (q : ReqSetup) → q.max ≡ max → StandsFor result q [] }
     {
-        Asking {
-            talk: Talk::new(),
+        RequesterCore {
+            clear_state: ClearState::new(),
             gathered: Collector::new(max),
             sessions: Sessions::new(),
             message: Frame::new(),
         }
     }
 
+    /// Overwrites the keys and the plaintexts of each session in place. Not to be gone on with.
+    pub fn wipe(&mut self)
+        ensures { IsWiped self.new.sessions }
+    {
+        self.sessions.wipe();
+    }
+
     /// The phase of the negotiation.
     pub fn phase(&self) -> Phase
         ensures { (q : ReqSetup) (h : History) → StandsFor self.now q h → result ≡ phase_of h }
     {
-        self.talk.phase()
+        self.clear_state.phase()
     }
 
     /// The algorithms negotiated so far.
@@ -50,7 +58,7 @@ impl Asking {
         ensures { (q : ReqSetup) (h : History) → StandsFor self.now q h
             → result ≡ (connection_terms h).choice }
     {
-        self.talk.choice()
+        self.clear_state.choice()
     }
 
     /// The common capabilities negotiated so far.
@@ -58,14 +66,14 @@ impl Asking {
         ensures { (q : ReqSetup) (h : History) → StandsFor self.now q h
             → result.now ≡ (connection_terms h).common }
     {
-        self.talk.common()
+        self.clear_state.common()
     }
 
     /// The handle of the next large request.
     pub fn next_handle(&self) -> u8
         ensures { (q : ReqSetup) (h : History) → StandsFor self.now q h → result ≡ next_handle h }
     {
-        self.talk.next_handle()
+        self.clear_state.next_handle()
     }
 
     /// The least unused ReqSessionID; 4 if there is none.
@@ -99,6 +107,6 @@ impl Asking {
         ensures { (q : ReqSetup) (h : History) → StandsFor self.now q h
             → result.now ≡ last_data h }
     {
-        self.talk.last_data()
+        self.clear_state.last_data()
     }
 }

@@ -2,11 +2,12 @@
 //! negotiation has come, what was settled, and what is outstanding; its sessions by ReqSessionID; and the requester of
 //! both.
 //!
-//! Read first: `StandsFor` in `specs/Talk.antt`, which history the clear part stands for. The call to begin with is
-//! `Asking::command`.
+//! Read first: `StandsFor` in `specs/ClearState.antt`, which history the clear part stands for. The call to begin with is
+//! `RequesterCore::command`.
 #![tactic(auto)]
 
 mod body;
+mod busy;
 mod clear;
 mod command;
 mod free_values;
@@ -19,19 +20,20 @@ mod setup;
 mod telling;
 
 pub use body::Body;
-pub use clear::again::Again;
-pub use clear::heard::Heard;
+pub use clear::body_outcome::BodyOutcome;
+pub use clear::clear_state::ClearState;
 pub use clear::negotiating::Negotiating;
 pub use clear::outgoing::Outgoing;
+pub use clear::outstanding::{Outstanding, PendingRequest, TransferMode};
 pub use clear::reply_outcome::ReplyOutcome;
-pub use clear::talk::Talk;
-pub use clear::waiting::{Asked, Waiting, Way};
+pub use clear::resend::Resend;
 pub use command::Command;
 pub use free_values::FreeValues;
+pub use in_sessions::record_outcome::RecordOutcome;
 pub use in_sessions::session_laws::{clear_passes, measure_passes};
-pub use in_sessions::session_led::SessionLed;
 pub use in_sessions::sessions::Sessions;
 pub use in_sessions::slot::Slot;
-pub use joined::Asking;
+pub use joined::RequesterCore;
+pub use psk_session::wipe_psk;
 pub use reaction::Reaction;
 pub use setup::Setup;

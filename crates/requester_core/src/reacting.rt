@@ -19,7 +19,7 @@ ghost use Rattle.spdm_grammar.specs.declared.names.TheConstants.{MAX_PADDING};
 
 use crate::body::{write_clear, write_record};
 use crate::clear::bodies::message_in;
-use crate::{Asking, Body, Heard, Reaction, SessionLed, Setup};
+use crate::{Body, BodyOutcome, Reaction, RecordOutcome, RequesterCore, Setup};
 use spdm_grammar::{Event, Finished, ReqIgnored};
 
 // Whether data came with it.
@@ -49,7 +49,7 @@ fn sent(tag: u8) -> Reaction
     }
 }
 
-impl Asking {
+impl RequesterCore {
     // The session with this ReqSessionID, which took the body, sent a record.
     fn follow(&mut self, id: u16, out: &mut Body) -> Reaction
         ensures { (q : ReqSetup) (h : History) (owner : Bool) (tag : ℕ) (body : List ℕ) (f : Free)
@@ -58,7 +58,7 @@ impl Asking {
             → sent_in entry ≡ Some next → next.aim ≡ InSession id ask
             → IsAnswered q h (Adds entry) result out.new self.new }
     {
-        let tag = self.talk.send_record(id);
+        let tag = self.clear_state.send_record(id);
         write_record(self.sessions.record(), out);
         sent(tag)
     }
@@ -72,9 +72,9 @@ impl Asking {
             → StandsFor self.new q (entry ∷ h) }
     {
         if is_bringing(event) {
-            self.talk.bring(self.sessions.data(id));
+            self.clear_state.bring(self.sessions.data(id));
         } else {
-            self.talk.rest();
+            self.clear_state.clear_outstanding();
         }
     }
 
@@ -83,7 +83,7 @@ impl Asking {
         requires pad { length pad.now ≤ MAX_PADDING }
         ensures { (q : ReqSetup) (h : History) (owner : Bool) (tag : ℕ) (body : List ℕ) (f : Free)
             (d : Draw) → f.pad ≡ pad.now
-            → IsExchangeFor q h owner tag body id self.old.talk self.old.talk self.old.message
+            → IsExchangeFor q h owner tag body id self.old.clear_state self.old.clear_state self.old.message
             → StandsFor self.old q h
             → IsAnswered q h (hears q h owner tag body f d) result out.new self.new }
     {
@@ -99,18 +99,18 @@ impl Asking {
         ensures { (q : ReqSetup) (h : History) (owner : Bool) (tag : ℕ) (body : List ℕ) (f : Free)
             (d : Draw) → HasSizes q → f.pad ≡ pad.now → length h < 2 ^ 64 - 1
             → sealed.now ≡ drop 1 body
-            → IsRecordFor q h owner tag body id self.old.talk self.old.talk
+            → IsRecordFor q h owner tag body id self.old.clear_state self.old.clear_state
             → StandsFor self.old q h
             → IsAnswered q h (hears q h owner tag body f d) result out.new self.new }
     {
         match self.sessions.on_record(sealed, pad) {
-            SessionLed::Ignored(fault) => told(Event::Ignored(ReqIgnored::Record(fault))),
-            SessionLed::Sends => self.follow(id, out),
-            SessionLed::Rests(event) => {
+            RecordOutcome::Ignored(fault) => told(Event::Ignored(ReqIgnored::Record(fault))),
+            RecordOutcome::Sends => self.follow(id, out),
+            RecordOutcome::Rests(event) => {
                 self.settle(id, event);
                 told(event)
             }
-            SessionLed::Ends(event) => {
+            RecordOutcome::Ends(event) => {
                 self.settle(id, event);
                 told(event)
             }
@@ -134,7 +134,7 @@ impl Asking {
             → f.pad ≡ pad.now → length h < 2 ^ 64 - 1 → StandsFor self.old q h
             → IsAnswered q h (hears q h owner tag body.now f d) result out.new self.new }
     {
-        let heard = self.talk.on_body(
+        let heard = self.clear_state.on_body(
             setup,
             &mut self.gathered,
             owner,
@@ -143,19 +143,19 @@ impl Asking {
             &mut self.message,
         );
         match heard {
-            Heard::Ignored(cause) => told(Event::Ignored(cause)),
-            Heard::Warned(code) => told(Event::Warned(code)),
-            Heard::Rests(event) => told(event),
-            Heard::Closes { id, told: event } => {
+            BodyOutcome::Ignored(cause) => told(Event::Ignored(cause)),
+            BodyOutcome::Warned(code) => told(Event::Warned(code)),
+            BodyOutcome::Rests(event) => told(event),
+            BodyOutcome::Closes { id, told: event } => {
                 self.sessions.close(id);
                 told(event)
             }
-            Heard::Sends { tag } => {
+            BodyOutcome::Sends { tag } => {
                 write_clear(self.message.as_slice(), out);
                 sent(tag)
             }
-            Heard::Exchange { id } => self.begin(id, pad, out),
-            Heard::Record { id } => self.on_record(id, message_in(body), pad, out),
+            BodyOutcome::Exchange { id } => self.begin(id, pad, out),
+            BodyOutcome::Record { id } => self.on_record(id, message_in(body), pad, out),
         }
     }
 }

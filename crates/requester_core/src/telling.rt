@@ -2,7 +2,7 @@ ghost use Rattle.std.specs.Prelude.{◌≡◌, ◌≤◌, ◌<◌, ◌^◌, ◌-
 ghost use Rattle.requester_core.specs.Free.{IsFree};
 ghost use Rattle.requester_core.specs.Joined.{IsCommanded, IsDone, StandsFor, command_of};
 ghost use Rattle.requester_core.specs.Setup.{IsSetUp};
-ghost use Rattle.requester_core.specs.Talk as talk;
+ghost use Rattle.requester_core.specs.ClearState as clear_state;
 ghost use Rattle.psk_session.specs.AskLaws.{command_at};
 ghost use Rattle.requester_machine.specs.Asking.{asks};
 ghost use Rattle.requester_machine.specs.Commands.{Free};
@@ -15,19 +15,19 @@ ghost use Rattle.spdm_machine.specs.Keys.{Draw};
 ghost use Rattle.spdm_grammar.specs.declared.names.TheConstants.{MAX_PADDING, MAX_SESSIONS};
 
 use crate::body::{write_clear, write_record};
-use crate::{Again, Asking, Body, Command, FreeValues, Setup};
-use psk_session::Ask;
+use crate::{Body, Command, FreeValues, RequesterCore, Resend, Setup};
+use psk_session::SessionRequest;
 use spdm_basis::Psk;
 use spdm_grammar::CommandFault;
 
-impl Asking {
+impl RequesterCore {
     // Starts the negotiation over, whatever the sessions.
     pub(crate) fn connect(&mut self, out: &mut Body) -> u8
         ensures { (q : ReqSetup) (h : History) (f : Free) (d : Draw)
-            → talk.Counts self.old.talk h → self.old.gathered.max ≡ q.max
+            → clear_state.Counts self.old.clear_state h → self.old.gathered.max ≡ q.max
             → IsDone q h (asks false q h Connect f d) result out.new self.new }
     {
-        let tag = self.talk.connect(&mut self.message);
+        let tag = self.clear_state.connect(&mut self.message);
         self.sessions.clear();
         write_clear(self.message.as_slice(), out);
         tag
@@ -50,12 +50,12 @@ impl Asking {
     {
         let live = self.sessions.count();
         match self
-            .talk
+            .clear_state
             .open(setup, live, summary, free, &mut self.message)
         {
             Err(fault) => Err(fault),
             Ok(tag) => {
-                self.sessions.open(&self.talk, psk, free.id, summary);
+                self.sessions.open(&self.clear_state, psk, free.id, summary);
                 write_clear(self.message.as_slice(), out);
                 Ok(tag)
             }
@@ -68,7 +68,7 @@ impl Asking {
             → StandsFor self.old q h
             → IsCommanded q h (asks false q h (Measure None op) f d) result out.new self.new }
     {
-        match self.talk.measure(op, &mut self.message) {
+        match self.clear_state.measure(op, &mut self.message) {
             Err(fault) => Err(fault),
             Ok(tag) => {
                 write_clear(self.message.as_slice(), out);
@@ -78,20 +78,26 @@ impl Asking {
     }
 
     // Sends a request in the session with this ReqSessionID, in a record with this padding.
-    fn ask(&mut self, id: u16, ask: Ask<'_>, pad: &[u8], out: &mut Body) -> Result<u8, CommandFault>
+    fn ask(
+        &mut self,
+        id: u16,
+        ask: SessionRequest<'_>,
+        pad: &[u8],
+        out: &mut Body,
+    ) -> Result<u8, CommandFault>
         requires pad { length pad.now ≤ MAX_PADDING }
         ensures { (q : ReqSetup) (h : History) (f : Free) (d : Draw) → f.pad ≡ pad.now
             → length h < 2 ^ 64 - 1 → StandsFor self.old q h
             → IsCommanded q h (asks false q h (command_at id ask.entry) f d) result out.new
             self.new }
     {
-        if let Some(fault) = self.talk.session_fault() {
+        if let Some(fault) = self.clear_state.session_fault() {
             return Err(fault);
         }
         match self.sessions.ask(id, ask, pad) {
             Err(fault) => Err(fault),
             Ok(()) => {
-                let tag = self.talk.send_record(id);
+                let tag = self.clear_state.send_record(id);
                 write_record(self.sessions.record(), out);
                 Ok(tag)
             }
@@ -104,13 +110,13 @@ impl Asking {
             → StandsFor self.old q h
             → IsCommanded q h (asks false q h Retry f d) result out.new self.new }
     {
-        let again = self.talk.retry(&mut self.message)?;
+        let again = self.clear_state.retry(&mut self.message)?;
         match again {
-            Again::InClear { tag } => {
+            Resend::InClear { tag } => {
                 write_clear(self.message.as_slice(), out);
                 Ok(tag)
             }
-            Again::InSession { tag, .. } => {
+            Resend::InSession { tag, .. } => {
                 write_record(self.sessions.record(), out);
                 Ok(tag)
             }
@@ -143,21 +149,26 @@ impl Asking {
             Command::Measure { session: None, op } => self.measure(op, out),
             Command::Retry => self.retry(out),
             Command::Send { session, bytes } => {
-                self.ask(u16::from(session), Ask::Data(bytes), pad, out)
+                self.ask(u16::from(session), SessionRequest::Data(bytes), pad, out)
             }
-            Command::Beat { session } => self.ask(u16::from(session), Ask::Beat, pad, out),
+            Command::Beat { session } => self.ask(
+                u16::from(session),
+                SessionRequest::Beat,
+                pad,
+                out,
+            ),
             Command::Update { session, all: true } => {
-                self.ask(u16::from(session), Ask::UpdateAll, pad, out)
+                self.ask(u16::from(session), SessionRequest::UpdateAll, pad, out)
             }
             Command::Update {
                 session,
                 all: false,
-            } => self.ask(u16::from(session), Ask::UpdateKey, pad, out),
+            } => self.ask(u16::from(session), SessionRequest::UpdateKey, pad, out),
             Command::Measure {
                 session: Some(session),
                 op,
-            } => self.ask(u16::from(session), Ask::Measure { op }, pad, out),
-            Command::End { session } => self.ask(u16::from(session), Ask::End, pad, out),
+            } => self.ask(u16::from(session), SessionRequest::Measure { op }, pad, out),
+            Command::End { session } => self.ask(u16::from(session), SessionRequest::End, pad, out),
         }
     }
 }

@@ -10,3 +10,6 @@ pub mod Taking
 pub mod Making
 pub mod Waiting
 pub mod Harmless
+pub mod Brings
+pub mod Caused
+pub mod Marked

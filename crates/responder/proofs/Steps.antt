@@ -234,7 +234,7 @@ unknown_step r packet fields out old new stands counted empty is own none =
     (for_us r (next_draw r) packet fields None is here unknown.1)
 
 -- A packet of a requester.
-gathers : (r : Responding) (c : Connection) (fields : PacketFields) → c.setup.eid ≡ r.part.eid → gathered_from c.setup.eid c.setup.peer r.given fields ≡ gathered_at r.part (fields_in r.given) c fields
+pub gathers : (r : Responding) (c : Connection) (fields : PacketFields) → c.setup.eid ≡ r.part.eid → gathered_from c.setup.eid c.setup.peer r.given fields ≡ gathered_at r.part (fields_in r.given) c fields
 unfolding gathered_from
 gathers r c fields own = ap (λ (n : ℕ). gathered (receiver_of n c.setup.peer) (fields_in r.given) fields) own
 

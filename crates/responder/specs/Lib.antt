@@ -4,3 +4,8 @@ pub mod Peers
 pub mod SetUp
 pub mod Standing
 pub mod Unharmed
+pub mod Peeking
+pub mod SessionTimes
+pub mod Changes
+pub mod ChangeLaws
+pub mod Wiped

@@ -13,7 +13,7 @@ use crate::body::{write_body, write_reply};
 use crate::room::Room;
 use hmac_hkdf::Drawn;
 use responder_core::{Connection, FreeValues, Setup, record_id};
-use responder_session::RecordFree;
+use responder_session::ResponseValues;
 use session_keys::context_of;
 use spdm_basis::Buffer;
 use spdm_grammar::Heard;
@@ -86,7 +86,7 @@ pub(crate) fn hear_record(
     ensures filled { 0 < length room.new.body }
 {
     write_next_reply(connection, &mut room.reply);
-    let free = RecordFree {
+    let free = ResponseValues {
         nonce: &drawn.bytes,
         opaque: &[],
         handle: connection.next_handle_in(record_id(sealed).rsp),

@@ -5,20 +5,29 @@
 #![tactic(auto)]
 
 mod body;
+mod change_laws;
+mod changes;
 mod checks;
 mod config;
 mod fault;
 mod hearing;
 mod part;
+mod peeking;
 mod peer;
 mod queueing;
 mod room;
 mod serving;
+mod session_times;
 mod shared;
 mod views;
 mod whole;
+mod wiping;
 
+pub use change_laws::changes_are_caused;
+pub use changes::{SessionChange, SessionMark, SessionWatch, change_between};
 pub use config::{Known, RspConfig};
 pub use fault::RspConfigFault;
+pub use peeking::{PeekRoom, Peeked};
+pub use responder_core::Silence;
 pub use serving::Responder;
 pub use spdm_grammar::{Heard, Phase, ReplyFault, RspIgnored};

@@ -16,7 +16,7 @@ use spdm_grammar::{Heard, RspIgnored};
 use std::alloc::Global;
 
 // The lifetime limit of a responder, in packets.
-const WEAR_LIMIT: u64 = 1_099_511_627_776;
+pub(crate) const WEAR_LIMIT: u64 = 1_099_511_627_776;
 
 /// A responder with a connection for each known requester. Allocates only when constructed (read, not proved).
 #[derive(Drop)]

@@ -3,11 +3,11 @@ use Rattle.std.proofs.Common.{refl, ◌∙◌, ◌≡◌, ◌<◌, ℕ, List, []
 use Rattle.std.proofs.lemmas.Bool.Decides.{nat_tests}
 use Rattle.std.specs.Prelude.{◌==◌, ◌&&◌, not, MatchOption, OnOk, Result, Ok, Err, is_none, is_ok}
 use Rattle.responder_core.proofs.Shown.{in_slot, no_slot}
-use Rattle.responder_core.specs.Live as lives
-use Rattle.responder_core.specs.Live.{IsSlotOf}
+use Rattle.responder_core.specs.LiveSession as lives
+use Rattle.responder_core.specs.LiveSession.{IsSlotOf}
 use Rattle.responder_core.specs.OwnAnswers.{IsNextKey, IsReplyKey, has_next, opens_in}
 use Rattle.responder_core.specs.Sessions.{StandsFor, slot_of}
-use Rattle.responder_core.specs.declared.in_sessions.live.Live.{Live}
+use Rattle.responder_core.specs.declared.in_sessions.live_session.LiveSession.{LiveSession}
 use Rattle.responder_core.specs.declared.in_sessions.sessions.Sessions.{Sessions}
 use Rattle.responder_machine.specs.Answer.{Free}
 use Rattle.responder_machine.specs.History.{History}
@@ -23,7 +23,7 @@ use Rattle.responder_session.specs.declared.answer_key.AnswerKey.{AnswerKey}
 named : (old : Sessions) (r : RspSetup) (h : History) (sealed : List ℕ) (id : ℕ) → StandsFor old r h → id ≡ id_in_record sealed → IsSlotOf (slot_of old id) r (session_of (id_in_record sealed) h)
 named old r h sealed id stands is = subst (λ (n : ℕ). IsSlotOf (slot_of old n) r (session_of (id_in_record sealed) h)) (sym is) (stands.slots (id_in_record sealed))
 
-pub slot_named : (old : Sessions) (r : RspSetup) (h : History) (sealed : List ℕ) (id : ℕ) (live : Live) → StandsFor old r h → id ≡ id_in_record sealed → slot_of old id ≡ Some live
+pub slot_named : (old : Sessions) (r : RspSetup) (h : History) (sealed : List ℕ) (id : ℕ) (live : LiveSession) → StandsFor old r h → id ≡ id_in_record sealed → slot_of old id ≡ Some live
     → lives.StandsFor live r (session_of (id_in_record sealed) h)
 slot_named old r h sealed id live stands is found = in_slot r (session_of (id_in_record sealed) h) (slot_of old id) live found (named old r h sealed id stands is)
 

@@ -32,8 +32,8 @@ use Rattle.responder_core.proofs.Table.{phase_allowed}
 use Rattle.responder_core.specs.Coming.{Completes, IsTurned, Seen, StandsFor}
 use Rattle.responder_core.specs.Negotiating.{IsSized}
 use Rattle.responder_core.specs.Refused.{IsClear, chunk_refusal}
-use Rattle.responder_core.specs.Standing as standing
-use Rattle.responder_core.specs.Standing.{IsSettledAt, place_at}
+use Rattle.responder_core.specs.ClearState as standing
+use Rattle.responder_core.specs.ClearState.{IsSettledAt, place_at}
 use Rattle.responder_core.proofs.Taken.{nothing_unmoved}
 
 -- ---- What stands after a turn.

@@ -14,11 +14,11 @@ use Rattle.responder_core.specs.Coming.{IsBegun, exchange_bytes, exchange_place}
 use Rattle.responder_core.specs.Connected.{HasSizesAt}
 use Rattle.responder_core.specs.Negotiating.{IsSettled, IsSized}
 use Rattle.responder_core.specs.Refused.{IsClear}
-use Rattle.responder_core.specs.Standing as standing
-use Rattle.responder_core.specs.Standing.{IsSettledAt, place_at}
+use Rattle.responder_core.specs.ClearState as standing
+use Rattle.responder_core.specs.ClearState.{IsSettledAt, place_at}
 use Rattle.responder_core.specs.Starting.{IsStarted, IsStartedAt}
-use Rattle.responder_core.specs.declared.clear.came.Begun.{Begun}
-use Rattle.responder_core.specs.declared.clear.came.Begun.TheVariants as begins
+use Rattle.responder_core.specs.declared.clear.request_outcome.ExchangeOrigin.{ExchangeOrigin}
+use Rattle.responder_core.specs.declared.clear.request_outcome.ExchangeOrigin.TheVariants as begins
 use Rattle.negotiate.specs.declared.shared.Common.{Common}
 use Rattle.responder_machine.proofs.Fresh.{exchange-fresh, turn_of-fresh}
 use Rattle.responder_machine.proofs.Settled.{answer_is}
@@ -69,7 +69,7 @@ pub record IsExchange (r : RspSetup) (p : Place) (bytes : List ℕ) (f : Free) (
   pub effect : turn.effect ≡ Took (PskExchange asked) bytes (answer_bytes r p bytes f) large
   pub standing : standing.StandsFor seen turns
 
-pub exchange_shown : (r : RspSetup) (p : Place) (m : List ℕ) (f : Free) (begun : Begun) (seen : coming.Seen) → IsClear p.at → IsBegun r p m f begun seen
+pub exchange_shown : (r : RspSetup) (p : Place) (m : List ℕ) (f : Free) (begun : ExchangeOrigin) (seen : coming.Seen) → IsClear p.at → IsBegun r p m f begun seen
     → IsExchange r (exchange_place begun p) (exchange_bytes begun m seen) f (turn_of r p m f) p.turns seen.standing
 exchange_shown r p m f begins.InClear seen clear b = record {
   asked = b.exchange;
@@ -119,7 +119,7 @@ Starts r h bytes f session answer =
     → length (answer_bytes r (place_at at (clear_turns h) (held_of h)) bytes f) ≤ MAX_MESSAGE_SIZE
     → IsStarted r (negotiation_of (clear_turns h)) bytes (answer_bytes r (place_at at (clear_turns h) (held_of h)) bytes f) session answer
 
-pub started_at : (r : RspSetup) (h : History) (m : List ℕ) (f : Free) (begun : Begun) (seen : coming.Seen) (session : RspSession) (answer : List ℕ)
+pub started_at : (r : RspSetup) (h : History) (m : List ℕ) (f : Free) (begun : ExchangeOrigin) (seen : coming.Seen) (session : RspSession) (answer : List ℕ)
     → IsBegun r (clear_place h) m f begun seen → Starts r h (exchange_bytes begun m seen) f session answer → IsStartedAt r h m f begun seen session answer
 started_at r h m f begins.InClear seen session answer b starts =
     let shown = exchange_shown r (clear_place h) m f begins.InClear seen tt b in
@@ -150,11 +150,11 @@ exchange_knows Versioned pending h = absurd (false≢true h)
 exchange_knows Capable pending h = refl
 exchange_knows Negotiated pending h = refl
 
-same_phase : (begun : Begun) (p : Place) → (exchange_place begun p).phase ≡ p.phase
+same_phase : (begun : ExchangeOrigin) (p : Place) → (exchange_place begun p).phase ≡ p.phase
 same_phase begins.InClear p = refl
 same_phase (begins.InChunks handle number) p = refl
 
-pub beginning_at : (r : RspSetup) (h : History) (m : List ℕ) (f : Free) (begun : Begun) (seen : coming.Seen) (session : RspSession) (answer : List ℕ) → f.id ≤ 4 → IsBegun r (clear_place h) m f begun seen
+pub beginning_at : (r : RspSetup) (h : History) (m : List ℕ) (f : Free) (begun : ExchangeOrigin) (seen : coming.Seen) (session : RspSession) (answer : List ℕ) → f.id ≤ 4 → IsBegun r (clear_place h) m f begun seen
     → IsStartedAt r h m f begun seen session answer → HasSizesAt r (clear_turns h) → IsBeginningAt r h (turn_of r (clear_place h) m f) f.id session answer
 beginning_at r h m f begun seen session answer few b started sizes =
     let t : Turn = turn_of r (clear_place h) m f in

@@ -26,3 +26,4 @@ pub mod Unseen
 pub mod UnseenRequests
 pub mod LateFetch
 mod PutBack
+pub mod WipedQueue

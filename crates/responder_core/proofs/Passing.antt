@@ -35,7 +35,7 @@ use Rattle.responder_core.proofs.Table.{IsShort, outside_session, pending_for, p
 use Rattle.responder_core.specs.Answering.{IsAnswerable, is_made_here}
 use Rattle.responder_core.specs.Negotiating.{IsSettled, IsSized}
 use Rattle.responder_core.specs.Refused.{IsClear, IsPassed, IsRefused, chunk_refusal, tests_of_answer, tests_of_request}
-use Rattle.responder_core.specs.Standing.{IsSettledAt, Seen, StandsFor, place_at}
+use Rattle.responder_core.specs.ClearState.{IsSettledAt, Seen, StandsFor, place_at}
 use Rattle.responder_core.specs.declared.clear.refused.Refused.{Refused}
 use Rattle.responder_session.proofs.Contents.{AreOther, form_codes, other_code}
 

@@ -5,12 +5,12 @@ use Rattle.std.specs.Prelude.{◌==◌, ◌&&◌, ◌||◌, not, nat_le, slice_i
 use Rattle.responder_core.proofs.Recorded.{standing_with}
 use Rattle.responder_core.specs.Coming as coming
 use Rattle.responder_core.specs.Connected as connected
-use Rattle.responder_core.specs.Live.{IsSlotOf}
-use Rattle.responder_core.specs.Live as live
+use Rattle.responder_core.specs.LiveSession.{IsSlotOf}
+use Rattle.responder_core.specs.LiveSession as live
 use Rattle.responder_core.specs.Pending.{history_changed, passes}
 use Rattle.responder_core.specs.Sessions.{StandsFor, slot_of}
 use Rattle.responder_core.specs.declared.connected.Connection.{Connection}
-use Rattle.responder_core.specs.declared.in_sessions.live.Live.{Live}
+use Rattle.responder_core.specs.declared.in_sessions.live_session.LiveSession.{LiveSession}
 use Rattle.responder_core.specs.declared.in_sessions.sessions.Sessions.{Sessions}
 use Rattle.responder_rules.proofs.Replaced.{takes_unseen, takes_with}
 use Rattle.responder_rules.specs.LargeAnswer.{effect_unseen, effect_with, last_takes, turn_unseen, turn_with}
@@ -254,7 +254,7 @@ module _ (change : Turn → Turn) (keeps : Keeps change) where
 
   -- ---- What is kept.
 
-  pub live_changes : (r : RspSetup) (s : Events) (old new : Live) → last_takes GET_MEASUREMENTS (turns_of s) ≡ true → live.StandsFor old r s → sessions.StandsFor new.session r.psk (events_changed change s)
+  pub live_changes : (r : RspSetup) (s : Events) (old new : LiveSession) → last_takes GET_MEASUREMENTS (turns_of s) ≡ true → live.StandsFor old r s → sessions.StandsFor new.session r.psk (events_changed change s)
       → new.idle ≡ old.idle → new.period ≡ old.period → live.StandsFor new r (events_changed change s)
   live_changes r s old new measures x session idle period =
       let a = keeps.alike s measures in
@@ -270,7 +270,7 @@ module _ (change : Turn → Turn) (keeps : Keeps change) where
   sessions_change r h id old new measures x own others ended =
       standing_with new r (history_changed change id h) id
       (subst (IsSlotOf (slot_of new id) r) (sym (own_same id h measures)) own)
-      (λ i other. subst (IsSlotOf (slot_of new i) r) (sym (others_same id i other h)) (subst (λ (y : Option Live). IsSlotOf y r (session_of i h)) (sym (others i other)) (x.slots i)))
+      (λ i other. subst (IsSlotOf (slot_of new i) r) (sym (others_same id i other h)) (subst (λ (y : Option LiveSession). IsSlotOf y r (session_of i h)) (sym (others i other)) (x.slots i)))
       (ended ∙ x.ended ∙ sym (ended_same id h))
 
   pub connection_changes : (r : RspSetup) (h : History) (id : ℕ) (old : Connection) (now : Sessions) → connected.StandsFor old r h → StandsFor now r (history_changed change id h)

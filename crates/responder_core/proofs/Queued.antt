@@ -1,7 +1,7 @@
 -- Application data that is queued.
 use Rattle.std.proofs.Common.{refl, ◌∙◌, ◌≡◌, ℕ, List, [], ◌∷◌, ◌++◌, Result, Ok, Err, MatchResult, ap, subst}
 use Rattle.responder_core.specs.Connected.{StandsFor}
-use Rattle.responder_core.specs.Live.{IsSlotOf}
+use Rattle.responder_core.specs.LiveSession.{IsSlotOf}
 use Rattle.responder_core.specs.Sessions as sessions
 use Rattle.responder_core.specs.Sessions.{slot_of}
 use Rattle.responder_core.specs.declared.connected.Connection.{Connection}

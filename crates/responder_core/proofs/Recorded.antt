@@ -4,10 +4,10 @@ use Rattle.std.proofs.lemmas.Bool.{false≢true}
 use Rattle.std.proofs.lemmas.Bool.Decides.{nat_tests}
 use Rattle.std.proofs.lemmas.Option.{none-some}
 use Rattle.std.specs.Prelude.{◌==◌, ◌<◌, ◌-◌, ◌^◌, ◌||◌, nat_lt, slice_index_or, if◌then◌else◌}
-use Rattle.responder_core.specs.Live as lives
-use Rattle.responder_core.specs.Live.{IsSlotOf, IsTaken, IsTakenIn}
+use Rattle.responder_core.specs.LiveSession as lives
+use Rattle.responder_core.specs.LiveSession.{IsSlotOf, IsTaken, IsTakenIn}
 use Rattle.responder_core.specs.Sessions.{IsAnswered, IsDelivered, IsSettled, StandsFor, body_by, slot_of}
-use Rattle.responder_core.specs.declared.in_sessions.live.Live.{Live}
+use Rattle.responder_core.specs.declared.in_sessions.live_session.LiveSession.{LiveSession}
 use Rattle.responder_core.specs.declared.in_sessions.sessions.Sessions.{Sessions}
 use Rattle.responder_machine.proofs.Entries.{others_kept}
 use Rattle.responder_machine.proofs.Within.{session_within}
@@ -98,12 +98,12 @@ unopened_by r h tag sealed f d new out is stands written = record {
 
 -- ---- The slot of the session that took a record.
 
-taken_slot : (r : RspSetup) (s : Events) (f : Free) (sealed : List ℕ) (x : Option Live) (result : RspTold) (out : List ℕ) → IsTakenIn r s f sealed x (Some result) out
-    → (kept : Live) × (x ≡ Some kept) × IsTaken r s f sealed kept result out
+taken_slot : (r : RspSetup) (s : Events) (f : Free) (sealed : List ℕ) (x : Option LiveSession) (result : RspTold) (out : List ℕ) → IsTakenIn r s f sealed x (Some result) out
+    → (kept : LiveSession) × (x ≡ Some kept) × IsTaken r s f sealed kept result out
 taken_slot r s f sealed None result out taken = absurd taken
 taken_slot r s f sealed (Some kept) result out taken = (kept, refl, taken)
 
-empty_slot : (r : RspSetup) (s : Events) (f : Free) (sealed : List ℕ) (x : Option Live) (out : List ℕ) → IsTakenIn r s f sealed x None out → (x ≡ None) × (s ≡ [])
+empty_slot : (r : RspSetup) (s : Events) (f : Free) (sealed : List ℕ) (x : Option LiveSession) (out : List ℕ) → IsTakenIn r s f sealed x None out → (x ≡ None) × (s ≡ [])
 empty_slot r s f sealed None out taken = (refl, taken)
 empty_slot r s f sealed (Some kept) out taken = absurd taken
 
@@ -114,7 +114,7 @@ no_session r h tag sealed f d new scratch out given written =
     let id = id_in_record sealed in
     let empty = empty_slot r (session_of id h) f sealed (slot_of new id) scratch given.taken in
     unopened_by r h tag sealed f d new out (nothing_is r h tag sealed f d given.anew empty.1)
-    (standing_with new r h id (subst (λ (x : Option Live). IsSlotOf x r (session_of id h)) (sym empty.0) empty.1) given.others given.ended) written
+    (standing_with new r h id (subst (λ (x : Option LiveSession). IsSlotOf x r (session_of id h)) (sym empty.0) empty.1) given.others given.ended) written
 
 -- The session does not open it.
 pub not_opened : (r : RspSetup) (h : History) (tag : ℕ) (sealed : List ℕ) (f : Free) (d : Draw) (new : Sessions) (fault : RecordFault) (scratch out : List ℕ)
@@ -123,10 +123,10 @@ pub not_opened : (r : RspSetup) (h : History) (tag : ℕ) (sealed : List ℕ) (f
 not_opened r h tag sealed f d new fault scratch out given written =
     let id = id_in_record sealed in
     let slot = taken_slot r (session_of id h) f sealed (slot_of new id) (told.Unopened fault) scratch given.taken in
-    let kept : Live = slot.0 in
+    let kept : LiveSession = slot.0 in
     let own : lives.StandsFor kept r (session_of id h) = record { session = slot.2.told.2; idle = slot.2.idle; period = slot.2.period; sizes = slot.2.sizes } in
     unopened_by r h tag sealed f d new out (told_is_record r h tag sealed f d kept.session (told.Unopened fault) slot.2.live given.anew slot.2.told)
-    (standing_with new r h id (subst (λ (x : Option Live). IsSlotOf x r (session_of id h)) (sym slot.1) own) given.others given.ended) written
+    (standing_with new r h id (subst (λ (x : Option LiveSession). IsSlotOf x r (session_of id h)) (sym slot.1) own) given.others given.ended) written
 
 -- It is the last record that the session took.
 pub session_again : (r : RspSetup) (h : History) (tag : ℕ) (sealed : List ℕ) (f : Free) (d : Draw) (new : Sessions) (out : List ℕ) → IsDelivered r h sealed f (Some told.Same) new out
@@ -134,9 +134,9 @@ pub session_again : (r : RspSetup) (h : History) (tag : ℕ) (sealed : List ℕ)
 session_again r h tag sealed f d new out given =
     let id = id_in_record sealed in
     let slot = taken_slot r (session_of id h) f sealed (slot_of new id) told.Same out given.taken in
-    let kept : Live = slot.0 in
+    let kept : LiveSession = slot.0 in
     let own : lives.StandsFor kept r (session_of id h) = record { session = slot.2.told.1; idle = slot.2.idle; period = slot.2.period; sizes = slot.2.sizes } in
-    let now = standing_with new r h id (subst (λ (x : Option Live). IsSlotOf x r (session_of id h)) (sym slot.1) own) given.others given.ended in
+    let now = standing_with new r h id (subst (λ (x : Option LiveSession). IsSlotOf x r (session_of id h)) (sym slot.1) own) given.others given.ended in
     let is = told_is_record r h tag sealed f d kept.session told.Same slot.2.live given.anew slot.2.told in
     record {
       told = ap heard_of (sym is);
@@ -175,7 +175,7 @@ opens_short psk s sealed h = header_fits (id_bytes s) (request_next s) sealed (h
 -- ---- The history after a record that a session took.
 
 -- What a session that took a record shows of the slot.
-record IsMoved (r : RspSetup) (s : Events) (sealed : List ℕ) (t : Turn) (reply : List ℕ) (kept : Live) (out : List ℕ) : Type 0 where
+record IsMoved (r : RspSetup) (s : Events) (sealed : List ℕ) (t : Turn) (reply : List ℕ) (kept : LiveSession) (out : List ℕ) : Type 0 where
   idle : kept.idle ≡ 0
   period : kept.period ≡ period_of s
   sizes : HasSizes r (session_terms s).common
@@ -183,7 +183,7 @@ record IsMoved (r : RspSetup) (s : Events) (sealed : List ℕ) (t : Turn) (reply
   written : out ≡ reply
   short : length sealed ≤ 4160
 
-later_stands : (r : RspSetup) (h : History) (tag : ℕ) (sealed : List ℕ) (t : Turn) (reply : List ℕ) (d : Draw) (mid new : Sessions) (kept : Live) (out : List ℕ)
+later_stands : (r : RspSetup) (h : History) (tag : ℕ) (sealed : List ℕ) (t : Turn) (reply : List ℕ) (d : Draw) (mid new : Sessions) (kept : LiveSession) (out : List ℕ)
     → slot_of mid (id_in_record sealed) ≡ Some kept → IsMoved r (session_of (id_in_record sealed) h) sealed t reply kept out
     → ((i : ℕ) → i ≢ id_in_record sealed → IsSlotOf (slot_of mid i) r (session_of i h)) → mid.ended ≡ ended_of h
     → IsSettled r sealed out mid new (id_in_record sealed)
@@ -195,7 +195,7 @@ later_stands r h tag sealed t reply d mid new kept out slot is others ended sett
     let s = session_of id h in
     let later : History = Sealed tag sealed t reply d ∷ h in
     let own : lives.StandsFor kept r (HeardIn sealed t reply ∷ s) = record { session = session; idle = is.idle; period = is.period; sizes = is.sizes } in
-    let in_mid : IsSlotOf (slot_of mid id) r (HeardIn sealed t reply ∷ s) = subst (λ (x : Option Live). IsSlotOf x r (HeardIn sealed t reply ∷ s)) (sym slot) own in
+    let in_mid : IsSlotOf (slot_of mid id) r (HeardIn sealed t reply ∷ s) = subst (λ (x : Option LiveSession). IsSlotOf x r (HeardIn sealed t reply ∷ s)) (sym slot) own in
     let events : session_of id later ≡ HeardIn sealed t reply ∷ s = own_is ∙ heard_live s sealed t reply is.live stays in
     subst (λ (n : Sessions). StandsFor n r later) (sym (settled.live (HeardIn sealed t reply ∷ s) in_mid))
     (standing_with mid r later id (subst (λ (e : Events). IsSlotOf (slot_of mid id) r e) (sym events) in_mid)
@@ -207,8 +207,8 @@ later_stands r h tag sealed t reply d mid new kept out slot is others ended sett
     let later : History = Sealed tag sealed t reply d ∷ h in
     let gone = settled.gone kept (id_bytes s) slot (subst (λ (x : List ℕ). sessions.IsEnded kept.session (id_bytes s) sealed x) (sym is.written) last) is.short in
     let events : session_of id later ≡ [] = own_is ∙ ap (λ (b : Bool). if b then [] else when_live s (HeardIn sealed t reply)) ends in
-    standing_with new r later id (subst (λ (x : Option Live). IsSlotOf x r (session_of id later)) (sym gone.0) events)
-    (λ i other. subst (λ (x : Option Live). IsSlotOf x r (session_of i later)) (sym (settled.others i other))
+    standing_with new r later id (subst (λ (x : Option LiveSession). IsSlotOf x r (session_of id later)) (sym gone.0) events)
+    (λ i other. subst (λ (x : Option LiveSession). IsSlotOf x r (session_of i later)) (sym (settled.others i other))
     (subst (λ (e : Events). IsSlotOf (slot_of mid i) r e) (sym (others_kept h tag sealed t reply d i (λ e. other (sym e)))) (others i other)))
     (gone.1 ∙ ap (λ (x : List ℕ). Some (record { sealed = sealed; reply = x })) is.written ∙ sym (ap (λ (b : Bool). if b then Some (record { sealed = sealed; reply = reply }) else ended_of h) ends))
 
@@ -228,7 +228,7 @@ moved r h tag sealed f d mid new told_act out told_heard given settled heard_is 
     let t = turn_in r s f sealed in
     let reply = reply_in r s f sealed in
     let slot = taken_slot r s f sealed (slot_of mid id) (told.Moved told_act) out given.taken in
-    let kept : Live = slot.0 in
+    let kept : LiveSession = slot.0 in
     let outcome = told_is_record r h tag sealed f d kept.session (told.Moved told_act) slot.2.live given.anew slot.2.told in
     let is : IsMoved r s sealed t reply kept out = record { idle = slot.2.idle; period = slot.2.period; sizes = slot.2.sizes; live = slot.2.live; written = slot.2.written; short = opens_short r.psk s sealed slot.2.told.1 } in
     record {
@@ -250,13 +250,13 @@ delivered r h sealed f result old mid out id stands anew few is taken others end
     record {
       anew = anew;
       taken = subst (λ (n : ℕ). IsTakenIn r s f sealed (slot_of mid n) result out) is (taken s (epochs h (id_in_record sealed) few) slot);
-      others = λ i other. subst (λ (x : Option Live). IsSlotOf x r (session_of i h)) (sym (others i (λ e. other (e ∙ is)))) (stands.slots i);
+      others = λ i other. subst (λ (x : Option LiveSession). IsSlotOf x r (session_of i h)) (sym (others i (λ e. other (e ∙ is)))) (stands.slots i);
       ended = ended ∙ stands.ended;
     }
 
 -- ---- No session.
 
-abbrev no_live : Option Live
+abbrev no_live : Option LiveSession
 no_live = None
 
 at_any : (b : Bool) (n : ℕ) → (if b then no_live else slice_index_or (no_live ∷ no_live ∷ no_live ∷ no_live ∷ []) n no_live) ≡ no_live
@@ -274,8 +274,18 @@ none_yet : (id : ℕ) → session_of id [] ≡ []
 unfolding session_of
 none_yet id = refl
 
-pub no_sessions : (r : RspSetup) (ended : Option KeptRecord) → ended ≡ None → StandsFor (record { slots = None ∷ None ∷ None ∷ None ∷ []; ended = ended }) r []
+no_sessions : (r : RspSetup) (ended : Option KeptRecord) → ended ≡ None → StandsFor (record { slots = None ∷ None ∷ None ∷ None ∷ []; ended = ended }) r []
 no_sessions r ended none = record {
-  slots = λ id. subst (λ (x : Option Live). IsSlotOf x r (session_of id [])) (sym (empty_slots ended id)) (none_yet id);
+  slots = λ id. subst (λ (x : Option LiveSession). IsSlotOf x r (session_of id [])) (sym (empty_slots ended id)) (none_yet id);
   ended = none;
 }
+
+pub no_sessions_in : (r : RspSetup) (first second third fourth : Option LiveSession) (ended : Option KeptRecord)
+    → first ≡ None → second ≡ None → third ≡ None → fourth ≡ None → ended ≡ None
+    → StandsFor (record { slots = first ∷ second ∷ third ∷ fourth ∷ []; ended = ended }) r []
+no_sessions_in r first second third fourth ended is_first is_second is_third is_fourth none =
+    subst (λ (x : Option LiveSession). StandsFor (record { slots = x ∷ second ∷ third ∷ fourth ∷ []; ended = ended }) r []) (sym is_first)
+    (subst (λ (x : Option LiveSession). StandsFor (record { slots = None ∷ x ∷ third ∷ fourth ∷ []; ended = ended }) r []) (sym is_second)
+    (subst (λ (x : Option LiveSession). StandsFor (record { slots = None ∷ None ∷ x ∷ fourth ∷ []; ended = ended }) r []) (sym is_third)
+    (subst (λ (x : Option LiveSession). StandsFor (record { slots = None ∷ None ∷ None ∷ x ∷ []; ended = ended }) r []) (sym is_fourth)
+    (no_sessions r ended none))))

@@ -1,9 +1,9 @@
 -- What is seen of the sessions.
 use Rattle.std.proofs.Common.{refl, ◌≡◌, ◌+◌, ◌<◌, ◌^◌, ℕ, [], true, false, Bool, Option, Some, None, ap, sym, subst, arith}
 use Rattle.std.specs.Prelude.{◌&&◌, if◌then◌else◌, not}
-use Rattle.responder_core.specs.Live.{IsSlotOf, StandsFor}
+use Rattle.responder_core.specs.LiveSession.{IsSlotOf, StandsFor}
 use Rattle.responder_core.specs.Sessions.{IsViewOf, is_held_in, is_timed_in}
-use Rattle.responder_core.specs.declared.in_sessions.live.Live.{Live}
+use Rattle.responder_core.specs.declared.in_sessions.live_session.LiveSession.{LiveSession}
 use Rattle.responder_machine.proofs.Within.{session_within}
 use Rattle.responder_machine.specs.BoundLaws.{messages_of}
 use Rattle.responder_machine.specs.Heard.{view_of}
@@ -14,11 +14,11 @@ use Rattle.spdm_grammar.specs.declared.told.session_view.SessionView.{SessionVie
 use Rattle.spdm_machine.specs.Sessions.{is_past_handshake, one_if}
 
 -- The session of a slot.
-pub in_slot : (r : RspSetup) (s : Events) (x : Option Live) (live : Live) → x ≡ Some live → IsSlotOf x r s → StandsFor live r s
-in_slot r s x live is slot = subst (λ (y : Option Live). IsSlotOf y r s) is slot
+pub in_slot : (r : RspSetup) (s : Events) (x : Option LiveSession) (live : LiveSession) → x ≡ Some live → IsSlotOf x r s → StandsFor live r s
+in_slot r s x live is slot = subst (λ (y : Option LiveSession). IsSlotOf y r s) is slot
 
-pub no_slot : (r : RspSetup) (s : Events) (x : Option Live) → x ≡ None → IsSlotOf x r s → s ≡ []
-no_slot r s x is slot = subst (λ (y : Option Live). IsSlotOf y r s) is slot
+pub no_slot : (r : RspSetup) (s : Events) (x : Option LiveSession) → x ≡ None → IsSlotOf x r s → s ≡ []
+no_slot r s x is slot = subst (λ (y : Option LiveSession). IsSlotOf y r s) is slot
 
 pub held_live : (s : Events) → is_live s ≡ true → is_past_handshake (stage_of s) ≡ is_held_in s
 held_live s live = ap (λ (b : Bool). b && is_past_handshake (stage_of s)) (sym live)

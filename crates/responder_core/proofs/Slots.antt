@@ -1,8 +1,8 @@
 -- A live session that takes a record, or waits.
 use Rattle.std.proofs.Common.{refl, ◌∙◌, ◌≡◌, inl, inr, ℕ, List, true, Option, Some, None, ap}
 use Rattle.std.proofs.lemmas.Bool.{false≢true}
-use Rattle.responder_core.specs.Live.{IsTaken, StandsFor}
-use Rattle.responder_core.specs.declared.in_sessions.live.Live.{Live}
+use Rattle.responder_core.specs.LiveSession.{IsTaken, StandsFor}
+use Rattle.responder_core.specs.declared.in_sessions.live_session.LiveSession.{LiveSession}
 use Rattle.responder_machine.specs.Answer.{Free}
 use Rattle.responder_machine.specs.History.{KeptRecord}
 use Rattle.responder_machine.specs.Responder.{kept_record, repeats}
@@ -25,7 +25,7 @@ kept_again : (last : Option KeptRecord) (sealed : List ℕ) → repeats last sea
 kept_again None sealed again = absurd (false≢true again)
 kept_again (Some kept) sealed again = refl
 
-pub took : (r : RspSetup) (s : Events) (f : Free) (sealed : List ℕ) (old after : Live) (act : RspAct) (out : List ℕ) → StandsFor old r s
+pub took : (r : RspSetup) (s : Events) (f : Free) (sealed : List ℕ) (old after : LiveSession) (act : RspAct) (out : List ℕ) → StandsFor old r s
     → IsTold r s f sealed after.session (told.Moved act) → after.period ≡ old.period → after.idle ≡ 0
     → ((reply : List ℕ) → kept_reply after.session ≡ Some reply → out ≡ reply) → IsTaken r s f sealed after (told.Moved act) out
 took r s f sealed old after act out stands is period idle written = record {
@@ -37,7 +37,7 @@ took r s f sealed old after act out stands is period idle written = record {
   written = written (reply_in r s f sealed) (kept_after after.session r.psk s r f sealed (reply_in r s f sealed) is.2);
 }
 
-pub again : (r : RspSetup) (s : Events) (f : Free) (sealed : List ℕ) (old after : Live) (out : List ℕ) → StandsFor old r s
+pub again : (r : RspSetup) (s : Events) (f : Free) (sealed : List ℕ) (old after : LiveSession) (out : List ℕ) → StandsFor old r s
     → IsTold r s f sealed after.session told.Same → after.period ≡ old.period → after.idle ≡ old.idle
     → ((reply : List ℕ) → kept_reply after.session ≡ Some reply → out ≡ reply) → IsTaken r s f sealed after told.Same out
 again r s f sealed old after out stands is period idle written = record {
@@ -49,7 +49,7 @@ again r s f sealed old after out stands is period idle written = record {
   written = written (kept_record (last_of s)) (ap last_reply is.1.keeps.last ∙ kept_again (last_of s) sealed is.0);
 }
 
-pub unopened : (r : RspSetup) (s : Events) (f : Free) (sealed : List ℕ) (old after : Live) (fault : RecordFault) (out : List ℕ) → StandsFor old r s
+pub unopened : (r : RspSetup) (s : Events) (f : Free) (sealed : List ℕ) (old after : LiveSession) (fault : RecordFault) (out : List ℕ) → StandsFor old r s
     → IsTold r s f sealed after.session (told.Unopened fault) → after.period ≡ old.period → after.idle ≡ old.idle → IsTaken r s f sealed after (told.Unopened fault) out
 unopened r s f sealed old after fault out stands is period idle = record {
   live = stands.session.keeps.live;

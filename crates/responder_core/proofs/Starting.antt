@@ -5,10 +5,10 @@ use Rattle.std.specs.Prelude.{◌==◌, ◌||◌, if◌then◌else◌, slice_ind
 use Rattle.responder_core.proofs.Recorded.{standing_with}
 use Rattle.responder_core.proofs.Waiting.{Visits, all_visited}
 use Rattle.responder_core.specs.Beginning.{IsBeginningAt, held_part}
-use Rattle.responder_core.specs.Live as lives
-use Rattle.responder_core.specs.Live.{IsSlotOf}
+use Rattle.responder_core.specs.LiveSession as lives
+use Rattle.responder_core.specs.LiveSession.{IsSlotOf}
 use Rattle.responder_core.specs.Sessions.{StandsFor, slot_of}
-use Rattle.responder_core.specs.declared.in_sessions.live.Live.{Live}
+use Rattle.responder_core.specs.declared.in_sessions.live_session.LiveSession.{LiveSession}
 use Rattle.responder_core.specs.declared.in_sessions.sessions.Sessions.{Sessions}
 use Rattle.responder_machine.proofs.GivenIds.{gives_other, gives_some}
 use Rattle.responder_machine.proofs.Entries.{session_of-Clear}
@@ -42,7 +42,7 @@ own_exchange id s t n is least = ap (λ (b : Bool). if b then begun n (request_i
 other_exchange : (id i : ℕ) (s : Events) (t : Turn) (n : Negotiation) → id_in_exchange (answer_in t.effect) ≡ id → i ≢ id → after_exchange i s t n ≡ held_part s
 other_exchange id i s t n is ne = ap (λ (b : Bool). if b then begun n (request_in t.effect) (answer_in t.effect) else held_part s) (gives_other i (answer_in t.effect) (other_number (id_in_exchange (answer_in t.effect)) id i is ne))
 
-begins : (r : RspSetup) (h : History) (t : Turn) (id : ℕ) (session : RspSession) (answer : List ℕ) (live : Live) → IsBeginningAt r h t id session answer
+begins : (r : RspSetup) (h : History) (t : Turn) (id : ℕ) (session : RspSession) (answer : List ℕ) (live : LiveSession) → IsBeginningAt r h t id session answer
     → live.session ≡ session → live.idle ≡ 0 → live.period ≡ slice_index answer 2 → lives.StandsFor live r (begun (negotiation_of (clear_turns h)) (request_in t.effect) answer)
 begins r h t id session answer live is session_is idle period = record {
   session = subst (λ (x : RspSession). sessions.StandsFor x r.psk (begun (negotiation_of (clear_turns h)) (request_in t.effect) answer)) (sym session_is) is.session_is;
@@ -54,7 +54,7 @@ begins r h t id session answer live is session_is idle period = record {
 nothing_held : held_part [] ≡ []
 nothing_held = refl
 
-pub began : (r : RspSetup) (h : History) (tag : ℕ) (t : Turn) (d : Draw) (id : ℕ) (session : RspSession) (answer : List ℕ) (live : Live) (v w x y z new : Sessions)
+pub began : (r : RspSetup) (h : History) (tag : ℕ) (t : Turn) (d : Draw) (id : ℕ) (session : RspSession) (answer : List ℕ) (live : LiveSession) (v w x y z new : Sessions)
     → 1 ≤ id → IsBeginningAt r h t id session answer → StandsFor v r h → Visits r held_part 1 v w → Visits r held_part 2 w x → Visits r held_part 3 x y → Visits r held_part 4 y z
     → live.session ≡ session → live.idle ≡ 0 → live.period ≡ slice_index answer 2
     → slot_of new id ≡ Some live → ((i : ℕ) → i ≢ id → slot_of new i ≡ slot_of z i) → new.ended ≡ None → StandsFor new r (Clear tag t d ∷ h)
@@ -65,9 +65,9 @@ began r h tag t d id session answer live v w x y z new least is stands first sec
     session_of-Clear id tag t d h ∙ exchange_is id (session_of id h) t n is.is_exchange ∙ own_exchange id (session_of id h) t n given least ∙ ap (begun n (request_in t.effect)) (sym is.answer_is) in
     let begun_is = begins r h t id session answer live is session_is idle period in
     standing_with new r (Clear tag t d ∷ h) id
-    (subst (λ (o : Option Live). IsSlotOf o r (session_of id (Clear tag t d ∷ h))) (sym own) (subst (λ (s : Events). lives.StandsFor live r s) (sym events) begun_is))
+    (subst (λ (o : Option LiveSession). IsSlotOf o r (session_of id (Clear tag t d ∷ h))) (sym own) (subst (λ (s : Events). lives.StandsFor live r s) (sym events) begun_is))
     (λ i other. subst (λ (s : Events). IsSlotOf (slot_of new i) r s) (sym (session_of-Clear i tag t d h ∙ exchange_is i (session_of i h) t n is.is_exchange ∙ other_exchange id i (session_of i h) t n given other))
-    (subst (λ (o : Option Live). IsSlotOf o r (held_part (session_of i h))) (sym (others i other))
+    (subst (λ (o : Option LiveSession). IsSlotOf o r (held_part (session_of i h))) (sym (others i other))
     (all_visited r held_part v w x y z nothing_held first second third fourth i (session_of i h) (stands.slots i))))
     (ended ∙ sym (ap (λ (b : Bool). if b || takes PSK_EXCHANGE t then None else ended_of h) (other_code (code_in t.effect) is.is_exchange) ∙ ap (λ (b : Bool). if b then None else ended_of h) is.is_exchange))
 
@@ -78,7 +78,7 @@ no_events s = []
 
 pub emptied : (r : RspSetup) (id : ℕ) (old new : Sessions) → slot_of new id ≡ None → ((i : ℕ) → i ≢ id → slot_of new i ≡ slot_of old i) → Visits r no_events id old new
 emptied r id old new own others = record {
-  own = λ s slot. subst (λ (x : Option Live). IsSlotOf x r []) (sym own) refl;
+  own = λ s slot. subst (λ (x : Option LiveSession). IsSlotOf x r []) (sym own) refl;
   others = others;
 }
 
@@ -88,6 +88,6 @@ pub cleared : (r : RspSetup) (h : History) (tag : ℕ) (t : Turn) (d : Draw) (a 
 cleared r h tag t d a b c e g new version stands first second third fourth slots ended = record {
   slots = λ id. subst (λ (s : Events). IsSlotOf (slot_of new id) r s)
       (sym (session_of-Clear id tag t d h ∙ ap (λ (b : Bool). if b then [] else (if takes PSK_EXCHANGE t then after_exchange id (session_of id h) t (negotiation_of (clear_turns h)) else session_of id h)) version))
-      (subst (λ (x : Option Live). IsSlotOf x r []) (sym (slots id)) (all_visited r no_events a b c e g refl first second third fourth id (session_of id h) (stands.slots id)));
+      (subst (λ (x : Option LiveSession). IsSlotOf x r []) (sym (slots id)) (all_visited r no_events a b c e g refl first second third fourth id (session_of id h) (stands.slots id)));
   ended = ended ∙ sym (ap (λ (b : Bool). if b || takes PSK_EXCHANGE t then None else ended_of h) version);
 }

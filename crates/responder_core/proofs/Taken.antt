@@ -44,7 +44,7 @@ use Rattle.spdm_grammar.specs.declared.messages.request.Request.{Request}
 use Rattle.spdm_grammar.specs.declared.messages.request.Request.TheVariants as asked
 use Rattle.spdm_grammar.specs.declared.names.TheConstants.{MAX_MESSAGE_SIZE, MIN_DATA_TRANSFER_SIZE}
 use Rattle.spdm_basis.proofs.Bools.{and_first, and_second, lt_false}
-use Rattle.responder_core.specs.Standing.{IsSettledAt}
+use Rattle.responder_core.specs.ClearState.{IsSettledAt}
 use Rattle.responder_core.specs.Taking.{IsTaking}
 use Rattle.spdm_machine.proofs.Settling.{algorithms_keep}
 

@@ -4,12 +4,12 @@ use Rattle.std.proofs.lemmas.Bool.{false≢true}
 use Rattle.std.specs.Prelude.{◌==◌, ◌||◌, if◌then◌else◌, is_some}
 use Rattle.responder_core.proofs.PutAnswers.{clear_session}
 use Rattle.responder_core.specs.Connected as connected
-use Rattle.responder_core.specs.Live.{IsSlotOf}
+use Rattle.responder_core.specs.LiveSession.{IsSlotOf}
 use Rattle.responder_core.specs.Negotiating as negotiating
 use Rattle.responder_core.specs.Pending.{GoesLarge}
 use Rattle.responder_core.specs.Sessions as sessions
 use Rattle.responder_core.specs.Sessions.{slot_of}
-use Rattle.responder_core.specs.Standing as standing
+use Rattle.responder_core.specs.ClearState as standing
 use Rattle.responder_core.specs.declared.in_sessions.sessions.Sessions.{Sessions}
 use Rattle.responder_rules.proofs.Replaced.{takes_unseen}
 use Rattle.responder_rules.specs.LargeAnswer as large_answer

@@ -4,13 +4,13 @@ use Rattle.std.proofs.lemmas.Bool.Decides.{nat_tests}
 use Rattle.responder_core.proofs.Waiting.{Visits, all_visited}
 use Rattle.responder_core.specs.Beginning.{held_part}
 use Rattle.responder_core.specs.Connected as connected
-use Rattle.responder_core.specs.Live.{IsSlotOf}
+use Rattle.responder_core.specs.LiveSession.{IsSlotOf}
 use Rattle.responder_core.specs.Negotiating as negotiating
 use Rattle.responder_core.specs.Sessions as sessions
 use Rattle.responder_core.specs.Sessions.{slot_of}
-use Rattle.responder_core.specs.Standing as standing
+use Rattle.responder_core.specs.ClearState as standing
 use Rattle.responder_core.specs.UnseenRequests.{IsTurnOf, IsUnseenTurn}
-use Rattle.responder_core.specs.declared.in_sessions.live.Live.{Live}
+use Rattle.responder_core.specs.declared.in_sessions.live_session.LiveSession.{LiveSession}
 use Rattle.responder_core.specs.declared.in_sessions.sessions.Sessions.{Sessions}
 use Rattle.responder_rules.specs.LargeAnswer as large_answer
 use Rattle.responder_machine.proofs.Entries.{session_of-Clear}
@@ -110,6 +110,6 @@ module _ (t : Turn) (u : IsUnseenTurn t) where
         → ((id : ℕ) → slot_of new id ≡ slot_of z id) → new.ended ≡ None → sessions.StandsFor new r (Clear tag t d ∷ h)
     sessions_leave v w x y z new exchange stands first second third fourth slots ended = record {
       slots = λ id. subst (IsSlotOf (slot_of new id) r) (sym (held_by id exchange))
-          (subst (λ (o : Option Live). IsSlotOf o r (held_part (session_of id h))) (sym (slots id)) (all_visited r held_part v w x y z refl first second third fourth id (session_of id h) (stands.slots id)));
+          (subst (λ (o : Option LiveSession). IsSlotOf o r (held_part (session_of id h))) (sym (slots id)) (all_visited r held_part v w x y z refl first second third fourth id (session_of id h) (stands.slots id)));
       ended = ended ∙ sym (ended_passes true exchange);
     }

@@ -4,9 +4,9 @@ use Rattle.std.proofs.lemmas.Bool.{false≢true, eq-eqb, eqb-false}
 use Rattle.std.proofs.lemmas.Bool.Decides.{nat_tests}
 use Rattle.std.specs.Prelude.{◌==◌, ◌-◌, ◌||◌, nat_lt, slice_index_or, if◌then◌else◌}
 use Rattle.responder_core.proofs.Recorded.{standing_with}
-use Rattle.responder_core.specs.Live.{IsSlotOf}
+use Rattle.responder_core.specs.LiveSession.{IsSlotOf}
 use Rattle.responder_core.specs.Sessions.{StandsFor, slot_of}
-use Rattle.responder_core.specs.declared.in_sessions.live.Live.{Live}
+use Rattle.responder_core.specs.declared.in_sessions.live_session.LiveSession.{LiveSession}
 use Rattle.responder_core.specs.declared.in_sessions.sessions.Sessions.{Sessions}
 use Rattle.responder_machine.proofs.Entries.{session_of-Ticked}
 use Rattle.responder_machine.specs.History.{History}
@@ -22,9 +22,9 @@ pub record Visits (r : RspSetup) (change : Events → Events) (id : ℕ) (old ne
   pub others : (i : ℕ) → i ≢ id → slot_of new i ≡ slot_of old i
 
 carried : (r : RspSetup) (change : Events → Events) (id i : ℕ) (old new : Sessions) (s : Events) → Visits r change id old new → (i == id) ≡ false → IsSlotOf (slot_of old i) r s → IsSlotOf (slot_of new i) r s
-carried r change id i old new s visits other slot = subst (λ (x : Option Live). IsSlotOf x r s) (sym (visits.others i (eqb-false i id other))) slot
+carried r change id i old new s visits other slot = subst (λ (x : Option LiveSession). IsSlotOf x r s) (sym (visits.others i (eqb-false i id other))) slot
 
-by_tests : (b c : Bool) (x : Option Live) → c ≡ true → (if b || c then None else x) ≡ None
+by_tests : (b c : Bool) (x : Option LiveSession) → c ≡ true → (if b || c then None else x) ≡ None
 by_tests true c x h = refl
 by_tests false true x h = refl
 by_tests false false x h = absurd (false≢true h)
@@ -49,8 +49,8 @@ all_visited r change a b c d e nothing first second third fourth (suc (suc (suc 
     fourth.own s (carried r change 3 4 c d s third refl (carried r change 2 4 b c s second refl (carried r change 1 4 a b s first refl slot)))
 all_visited r change a b c d e nothing first second third fourth (suc (suc (suc (suc (suc n))))) s slot =
     let i : ℕ = suc (suc (suc (suc (suc n)))) in
-    let empty : s ≡ [] = subst (λ (x : Option Live). IsSlotOf x r s) (nothing_above a i (five n)) slot in
-    subst (λ (x : Option Live). IsSlotOf x r (change s)) (sym (nothing_above e i (five n))) (ap change empty ∙ nothing)
+    let empty : s ≡ [] = subst (λ (x : Option LiveSession). IsSlotOf x r s) (nothing_above a i (five n)) slot in
+    subst (λ (x : Option LiveSession). IsSlotOf x r (change s)) (sym (nothing_above e i (five n))) (ap change empty ∙ nothing)
 
 nothing_waits : (seconds : ℕ) → after_tick [] seconds ≡ []
 nothing_waits seconds = refl
@@ -77,8 +77,8 @@ pub dropped : (r : RspSetup) (h : History) (id : ℕ) (old new : Sessions) → S
     → StandsFor new r (Dropped id ∷ h)
 dropped r h id old new stands own others ended =
     standing_with new r (Dropped id ∷ h) id
-    (subst (λ (x : Option Live). IsSlotOf x r (session_of id (Dropped id ∷ h))) (sym own)
+    (subst (λ (x : Option LiveSession). IsSlotOf x r (session_of id (Dropped id ∷ h))) (sym own)
     (session_of-Dropped id id h ∙ ap (λ (b : Bool). if b then [] else session_of id h) (eq-eqb id id refl)))
     (λ i other. subst (λ (s : Events). IsSlotOf (slot_of new i) r s) (sym (session_of-Dropped i id h ∙ ap (λ (b : Bool). if b then [] else session_of i h) (not_same i id other)))
-    (subst (λ (x : Option Live). IsSlotOf x r (session_of i h)) (sym (others i other)) (stands.slots i)))
+    (subst (λ (x : Option LiveSession). IsSlotOf x r (session_of i h)) (sym (others i other)) (stands.slots i)))
     (ended ∙ stands.ended)

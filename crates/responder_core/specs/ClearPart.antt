@@ -2,9 +2,9 @@
 use Rattle.std.specs.Prelude.{◌≡◌, ℕ, List, Bool, false, Option}
 use Rattle.responder_core.specs.Coming as coming
 use Rattle.responder_core.specs.Coming.{IsBegun}
-use Rattle.responder_core.specs.declared.clear.came.Begun.{Begun}
-use Rattle.responder_core.specs.declared.clear.told.Told.{Told}
-use Rattle.responder_core.specs.declared.clear.told.Told.TheVariants as told
+use Rattle.responder_core.specs.declared.clear.request_outcome.ExchangeOrigin.{ExchangeOrigin}
+use Rattle.responder_core.specs.declared.clear.clear_outcome.ClearOutcome.{ClearOutcome}
+use Rattle.responder_core.specs.declared.clear.clear_outcome.ClearOutcome.TheVariants as told
 use Rattle.responder_machine.specs.Answer.{Free}
 use Rattle.responder_machine.specs.Heard.{heard_of}
 use Rattle.responder_machine.specs.History.{History, Kept, clear_turns, kept_of}
@@ -37,7 +37,7 @@ pub record IsAnswered (r : RspSetup) (h : History) (tag : ℕ) (m : List ℕ) (f
   pub stands : StandsFor new r (after h (on_clear r h tag m f d))
 
 -- The message is no repeat, and begins a session.
-pub record IsBeginning (r : RspSetup) (h : History) (tag : ℕ) (m : List ℕ) (f : Free) (begun : Begun) (new : Seen) : Type 0 where
+pub record IsBeginning (r : RspSetup) (h : History) (tag : ℕ) (m : List ℕ) (f : Free) (begun : ExchangeOrigin) (new : Seen) : Type 0 where
   pub anew : is_repeat (kept_of h) tag m ≡ false
   pub begins : IsBegun r (clear_place h) m f begun new.requests
   pub kept : new.kept ≡ kept_of h
@@ -54,11 +54,11 @@ BeginsNone (Adds (Clear tag t d)) = takes PSK_EXCHANGE t ≡ false
 BeginsNone _ = Unit {0}
 
 -- The one or the other: what is answered begins no session.
-abbrev pub IsTold : RspSetup → History → (tag : ℕ) → List ℕ → Free → Draw → Told → (new : Seen) → (out : List ℕ) → Type 0
+abbrev pub IsTold : RspSetup → History → (tag : ℕ) → List ℕ → Free → Draw → ClearOutcome → (new : Seen) → (out : List ℕ) → Type 0
 IsTold r h tag m f d (told.Heard heard drawn) new out = IsAnswered r h tag m f d heard new out × BeginsNone (on_clear r h tag m f d) × (drawn ≡ is_drawn (on_clear r h tag m f d))
 IsTold r h tag m f d (told.Begins begun) new out = IsBeginning r h tag m f begun new
 
 -- Where a session begins the negotiation and the large response stay.
-abbrev pub StaysToBegin : Told → (old new : Seen) → Type 0
+abbrev pub StaysToBegin : ClearOutcome → (old new : Seen) → Type 0
 StaysToBegin (told.Begins begun) old new = new.requests.standing ≡ old.requests.standing
 StaysToBegin _ old new = Unit {0}

@@ -1,12 +1,12 @@
 -- What comes of a request in the clear, with the chunks of large requests.
 use Rattle.std.specs.Prelude.{◌≡◌, ◌∷◌, ℕ, List, true, false, None, Some}
 use Rattle.chunking.specs.Keeping as keeping
-use Rattle.responder_core.specs.Standing as standing
-use Rattle.responder_core.specs.Standing.{place_at}
-use Rattle.responder_core.specs.declared.clear.came.Begun.{Begun}
-use Rattle.responder_core.specs.declared.clear.came.Begun.TheVariants as begun
-use Rattle.responder_core.specs.declared.clear.came.Came.{Came}
-use Rattle.responder_core.specs.declared.clear.came.Came.TheVariants as came
+use Rattle.responder_core.specs.ClearState as standing
+use Rattle.responder_core.specs.ClearState.{place_at}
+use Rattle.responder_core.specs.declared.clear.request_outcome.ExchangeOrigin.{ExchangeOrigin}
+use Rattle.responder_core.specs.declared.clear.request_outcome.ExchangeOrigin.TheVariants as begun
+use Rattle.responder_core.specs.declared.clear.request_outcome.RequestOutcome.{RequestOutcome}
+use Rattle.responder_core.specs.declared.clear.request_outcome.RequestOutcome.TheVariants as came
 use Rattle.responder_machine.specs.Answer.{Free, request_at}
 use Rattle.responder_machine.specs.Handling.{turn_of}
 use Rattle.responder_machine.specs.LargeMessages.{chunks_of}
@@ -63,7 +63,7 @@ pub record BeginsInChunks (r : RspSetup) (p : Place) (m : List ℕ) (f : Free) (
   pub refused : refusal r (inside p) new.whole f ≡ None
 
 -- Where a session begins.
-abbrev pub IsBegun : RspSetup → Place → List ℕ → Free → Begun → Seen → Type 0
+abbrev pub IsBegun : RspSetup → Place → List ℕ → Free → ExchangeOrigin → Seen → Type 0
 IsBegun r p m f begun.InClear new = BeginsInClear r p m f new
 IsBegun r p m f (begun.InChunks handle number) new = BeginsInChunks r p m f handle number new
 
@@ -78,21 +78,21 @@ IsTakenTurn r p m f new out = ((turn_of r p m f).refused ≡ None) × IsTurned r
 
 -- By what is reported of it: it is refused with this code; it is answered, takes no PSK_EXCHANGE, and takes a draw or
 -- none; or it begins a session.
-abbrev pub IsCome : RspSetup → Place → List ℕ → Free → Came → (new : Seen) → (out : List ℕ) → Type 0
+abbrev pub IsCome : RspSetup → Place → List ℕ → Free → RequestOutcome → (new : Seen) → (out : List ℕ) → Type 0
 IsCome r p m f (came.Refused code) new out = ((turn_of r p m f).refused ≡ Some code) × IsTurned r p m f new out
 IsCome r p m f (came.Answered drawn) new out = IsTakenTurn r p m f new out × (takes PSK_EXCHANGE (turn_of r p m f) ≡ false) × (drawn ≡ takes_draw (turn_of r p m f))
 IsCome r p m f (came.Begins begun) new out = IsBegun r p m f begun new
 
 -- The bytes of the PSK_EXCHANGE that begins, and the place that it came to.
-abbrev pub exchange_bytes : Begun → List ℕ → Seen → List ℕ
+abbrev pub exchange_bytes : ExchangeOrigin → List ℕ → Seen → List ℕ
 exchange_bytes begun.InClear m seen = m
 exchange_bytes (begun.InChunks handle number) m seen = seen.whole
 
-abbrev pub exchange_place : Begun → Place → Place
+abbrev pub exchange_place : ExchangeOrigin → Place → Place
 exchange_place begun.InClear p = p
 exchange_place (begun.InChunks handle number) p = inside p
 
 -- Where a session begins the negotiation and the large response stay.
-abbrev pub StaysToBegin : Came → (old new : Seen) → Type 0
+abbrev pub StaysToBegin : RequestOutcome → (old new : Seen) → Type 0
 StaysToBegin (came.Begins begun) old new = new.standing ≡ old.standing
 StaysToBegin _ old new = Unit {0}

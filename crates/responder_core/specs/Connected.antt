@@ -2,7 +2,7 @@
 use Rattle.std.specs.Prelude.{◌≡◌, ◌==◌, ℕ, List, drop, Bool, true, false}
 use Rattle.responder_core.specs.ClearPart as clear_parts
 use Rattle.responder_core.specs.Sessions as sessions
-use Rattle.responder_core.specs.Standing.{chosen_len}
+use Rattle.responder_core.specs.ClearState.{chosen_len}
 use Rattle.responder_core.specs.declared.connected.Connection.{Connection}
 use Rattle.responder_machine.specs.Heard.{heard_of}
 use Rattle.responder_machine.specs.History.{History, clear_turns, negotiation_of, phase_of, queue_of}

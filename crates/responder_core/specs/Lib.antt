@@ -2,16 +2,18 @@ pub mod Setup
 pub mod Negotiating
 pub mod Contents
 pub mod Free
-pub mod Standing
+pub mod ClearState
 pub mod Answering
 pub mod Refused
 pub mod Taking
 pub mod Gathering
-pub mod Handled
+pub mod HandledRequest
 pub mod Coming
 pub mod ClearPart
-pub mod Live
+pub mod LiveSession
+pub mod Wiped
 pub mod Sessions
+pub mod NoSessions
 pub mod Beginning
 pub mod Starting
 pub mod Connected
@@ -22,3 +24,4 @@ pub mod Pending
 pub mod Trying
 pub mod UnseenRequests
 pub mod LateFetch
+pub mod Silence

@@ -1,7 +1,7 @@
 -- The sessions of a connection, as the program represents them.
 use Rattle.std.specs.Prelude.{◌≡◌, ◌≢◌, ◌≤◌, ◌==◌, ◌&&◌, ◌||◌, ◌-◌, nat_lt, if◌then◌else◌, ℕ, List, [], Bool, true, false, length, Option, None, Some, slice_index_or}
-use Rattle.responder_core.specs.Live.{IsSlotOf, IsTakenIn}
-use Rattle.responder_core.specs.declared.in_sessions.live.Live.{Live}
+use Rattle.responder_core.specs.LiveSession.{IsSlotOf, IsTakenIn}
+use Rattle.responder_core.specs.declared.in_sessions.live_session.LiveSession.{LiveSession}
 use Rattle.responder_core.specs.declared.in_sessions.sessions.Sessions.{Sessions}
 use Rattle.responder_machine.specs.Answer.{Free}
 use Rattle.responder_machine.specs.Heard.{heard_of, view_of}
@@ -22,7 +22,7 @@ use Rattle.secured_record.specs.declared.TheConstants.{MAX_RECORD_SIZE}
 use Rattle.spdm_grammar.specs.declared.names.TheConstants.{MAX_SESSIONS}
 
 -- The slot of a RspSessionID; none where it is 0 or above 4.
-abbrev pub slot_of : Sessions → ℕ → Option Live
+abbrev pub slot_of : Sessions → ℕ → Option LiveSession
 slot_of seen id = if id == 0 || nat_lt MAX_SESSIONS id then None else slice_index_or seen.slots (id - 1) None
 
 -- They are those of this history: the slot of each RspSessionID has its session, and the last record of the one ended
@@ -65,7 +65,7 @@ pub record IsDelivered (r : RspSetup) (h : History) (sealed : List ℕ) (f : Fre
 -- The session of an id is still in its slot if it is live; its last record is kept apart if it is ended.
 pub record IsSettled (r : RspSetup) (sealed out : List ℕ) (mid new : Sessions) (id : ℕ) : Type 0 where
   pub live : (s : Events) → IsSlotOf (slot_of mid id) r s → new ≡ mid
-  pub gone : (kept : Live) (bytes : List ℕ) → slot_of mid id ≡ Some kept → IsEnded kept.session bytes sealed out → length sealed ≤ MAX_RECORD_SIZE
+  pub gone : (kept : LiveSession) (bytes : List ℕ) → slot_of mid id ≡ Some kept → IsEnded kept.session bytes sealed out → length sealed ≤ MAX_RECORD_SIZE
       → (slot_of new id ≡ None) × (new.ended ≡ Some (record { sealed = sealed; reply = out }))
   pub others : (i : ℕ) → i ≢ id → slot_of new i ≡ slot_of mid i
 

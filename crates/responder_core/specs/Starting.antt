@@ -1,7 +1,7 @@
 -- The session that a PSK_EXCHANGE starts, with its answer (DSP0274, "PSK_EXCHANGE_RSP").
 use Rattle.std.specs.Prelude.{◌≡◌, ℕ, List}
 use Rattle.responder_core.specs.Coming.{Seen, exchange_bytes, exchange_place}
-use Rattle.responder_core.specs.declared.clear.came.Begun.{Begun}
+use Rattle.responder_core.specs.declared.clear.request_outcome.ExchangeOrigin.{ExchangeOrigin}
 use Rattle.responder_machine.specs.Answer.{Free, answer_bytes}
 use Rattle.responder_machine.specs.History.{History, clear_turns, negotiation_of}
 use Rattle.responder_machine.specs.Place.{clear_place}
@@ -17,6 +17,6 @@ pub record IsStarted (r : RspSetup) (n : Negotiation) (exchange expected : List 
   pub session_is : sessions.StandsFor session r.psk (begun n exchange answer)
 
 -- So it was for the PSK_EXCHANGE that begins a session in the clear part of this history.
-abbrev pub IsStartedAt : RspSetup → History → (m : List ℕ) → Free → Begun → Seen → RspSession → (answer : List ℕ) → Type 0
+abbrev pub IsStartedAt : RspSetup → History → (m : List ℕ) → Free → ExchangeOrigin → Seen → RspSession → (answer : List ℕ) → Type 0
 IsStartedAt r h m f begins seen session answer =
     IsStarted r (negotiation_of (clear_turns h)) (exchange_bytes begins m seen) (answer_bytes r (exchange_place begins (clear_place h)) (exchange_bytes begins m seen) f) session answer

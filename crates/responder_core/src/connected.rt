@@ -3,8 +3,9 @@ ghost use Rattle.responder_core.specs.Connected.{queue_left, tells_measured};
 ghost use Rattle.spdm_grammar.specs.declared.names.TheConstants.{MAX_APP_DATA_LEN, MAX_OPAQUE_LEN, MAX_PADDING, MAX_SESSIONS};
 
 use crate::clear::clear_part::code_at;
-use crate::{Begun, ClearPart, FreeValues, Sessions, Setup, Told};
-use responder_session::{AppQueue, QueueFault, RecordFree, Work};
+use crate::wiping::wipe_queue;
+use crate::{ClearOutcome, ClearPart, ExchangeOrigin, FreeValues, Sessions, Setup};
+use responder_session::{AppQueue, QueueFault, ResponseValues, Work};
 use spdm_basis::{Frame, RecordFrame};
 use spdm_grammar::Heard;
 use spdm_grammar::names::request_code::GET_MEASUREMENTS;
@@ -40,7 +41,7 @@ fn tells_measured(heard: Heard) -> bool
 }
 
 impl Connection {
-    ghost use Rattle.std.specs.Prelude.{◌≡◌, ◌≤◌, ◌<◌, ◌^◌, ◌-◌, ◌∷◌, [], ℕ, List, None, Some, MatchResult, length};
+    ghost use Rattle.std.specs.Prelude.{◌≡◌, ◌≤◌, ◌<◌, ◌^◌, ◌-◌, ◌∷◌, [], ℕ, List, None, Some, MatchResult, length, replicate};
     ghost use Rattle.responder_machine.specs.Answer.{Free};
     ghost use Rattle.responder_machine.specs.BoundLaws.{messages_of};
     ghost use Rattle.responder_machine.specs.History.{History, queue_of};
@@ -49,7 +50,7 @@ impl Connection {
     ghost use Rattle.responder_machine.specs.Place.{clear_place};
     ghost use Rattle.responder_machine.specs.Responder.{on_clear, on_record};
     ghost use Rattle.responder_machine.specs.Setup.{RspSetup};
-    ghost use Rattle.responder_session.specs.Deeds.{AreFree};
+    ghost use Rattle.responder_session.specs.RequestEffects.{AreFree};
     ghost use Rattle.responder_session.specs.Queue.{queue_fault};
     ghost use Rattle.spdm_machine.specs.Bodies.{clear_body};
     ghost use Rattle.spdm_machine.specs.Keys.{Draw};
@@ -59,6 +60,7 @@ impl Connection {
     ghost use Rattle.responder_core.specs.Harmless.{IsClearHarmless, IsRecordHarmless};
     ghost use Rattle.responder_core.specs.Sessions.{body_by};
     ghost use Rattle.responder_core.specs.Setup.{IsSetUp};
+    ghost use Rattle.responder_core.specs.NoSessions.{HasNoSessions};
 
     /// The initial state, before any message.
     pub fn new(setup: &Setup<'_>) -> Connection
@@ -70,6 +72,16 @@ impl Connection {
             queue: AppQueue::new(),
             drawn: false,
         }
+    }
+
+    /// Overwrites each session and the application data that wait, before the memory of the responder is given back. Not
+    /// to be gone on with.
+    pub fn wipe(&mut self)
+        ensures sessions { HasNoSessions self.new.sessions }
+        ensures queue { self.new.queue ≡ replicate 16 (replicate MAX_APP_DATA_LEN 0) }
+    {
+        self.sessions.wipe();
+        wipe_queue(&mut self.queue);
     }
 
     /// Handles a clear message with its tag; `free` are the values that its response may use. The response overwrites
@@ -99,19 +111,19 @@ impl Connection {
     {
         let held = self.sessions.held();
         match self.clear.on_clear(setup, held, tag, message, free, out) {
-            Told::Heard { heard, drawn } => {
+            ClearOutcome::Heard { heard, drawn } => {
                 self.sessions.follow(heard);
                 self.drawn = drawn;
                 heard
             }
-            Told::Begins(begun) => self.begin(begun, setup, tag, message, free, out),
+            ClearOutcome::Begins(begun) => self.begin(begun, setup, tag, message, free, out),
         }
     }
 
     // Ends the turn of a clear message that begins a session.
     fn begin(
         &mut self,
-        begun: Begun,
+        begun: ExchangeOrigin,
         setup: &Setup<'_>,
         tag: u8,
         message: &[u8],
@@ -147,7 +159,7 @@ impl Connection {
         &mut self,
         setup: &Setup<'_>,
         sealed: &[u8],
-        free: &RecordFree<'_>,
+        free: &ResponseValues<'_>,
         work: &mut Work,
         out: &mut RecordFrame,
     ) -> Heard
@@ -199,10 +211,10 @@ impl Connection {
     }
 
     /// Removes the session with this RspSessionID, as if it timed out without a trace in the capture.
-    pub fn drop_unseen(&mut self, id: u16)
+    pub fn expire(&mut self, id: u16)
         ensures { (r : RspSetup) (h : History) → StandsFor self.old r h
             → StandsFor self.new r (Dropped id ∷ h) }
     {
-        self.sessions.drop_unseen(id);
+        self.sessions.expire(id);
     }
 }

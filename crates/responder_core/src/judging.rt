@@ -2,6 +2,7 @@
 
 pub mod aside;
 pub mod completing;
+pub mod dry_run;
 pub mod forgetting;
 pub mod last_read;
 pub mod late_fetch;
@@ -9,6 +10,5 @@ pub mod own_answers;
 pub mod pending;
 pub mod seen_terms;
 pub mod timed;
-pub mod tried;
 pub mod trying;
 pub mod unseen_requests;

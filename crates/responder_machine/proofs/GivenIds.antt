@@ -1,5 +1,5 @@
 -- The RspSessionID that an answer gives.
-use Rattle.std.proofs.Common.{refl, ◌≡◌, ◌≢◌, ◌≤◌, ◌==◌, ◌&&◌, not, ℕ, List, true, false, Bool, sym, ap, arith, ◌∙◌}
+use Rattle.std.proofs.Common.{refl, ◌≡◌, ◌≤◌, ◌==◌, ◌&&◌, not, ℕ, List, true, false, Bool, ap, arith, ◌∙◌}
 use Rattle.std.proofs.lemmas.Bool.{false≢true, eqb-true, eq-eqb}
 use Rattle.std.proofs.lemmas.Bool.Decides.{nat_tests}
 use Rattle.responder_machine.specs.Session.{gives_id}

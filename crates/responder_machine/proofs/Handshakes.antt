@@ -1,7 +1,6 @@
 -- At most one session of a connection is in its handshake: by induction over any history.
-use Rattle.std.proofs.Common.{refl, ◌∙◌, ◌≡◌, ◌≢◌, ℕ, List, [], ◌∷◌, true, false, Bool, ap, sym, arith}
+use Rattle.std.proofs.Common.{refl, ◌∙◌, ◌≡◌, ◌≢◌, ℕ, List, [], ◌∷◌, true, false, Bool, ap, sym}
 use Rattle.std.proofs.lemmas.Bool.{false≢true}
-use Rattle.std.proofs.lemmas.Bool.Decides.{nat_tests}
 use Rattle.std.specs.Prelude.{if◌then◌else◌, ◌&&◌, ◌*◌, ◌+◌, ◌==◌, not, nat_le}
 use Rattle.spdm_grammar.specs.declared.told.phase.Stage.{Stage}
 use Rattle.spdm_grammar.specs.declared.told.phase.Stage.TheVariants.{Open, Verifying}
@@ -10,7 +9,7 @@ use Rattle.responder_machine.specs.History.Entry.{Clear, Sealed, Queued, Ticked,
 use Rattle.responder_machine.specs.Laws.{OneIsInHandshake}
 use Rattle.responder_machine.proofs.GivenIds.{given_is}
 use Rattle.responder_machine.specs.Session.{Events, session_of, is_live, is_timed, stage_of, after_record, after_tick, id_in_record, idle_of, period_of, gives_id}
-use Rattle.spdm_machine.specs.Sessions.{is_past_handshake, id_in_exchange}
+use Rattle.spdm_machine.specs.Sessions.{is_past_handshake}
 use Rattle.responder_machine.specs.Session.Event.{Began, Waited}
 use Rattle.responder_machine.specs.Turn.{Turn, takes, updates, answer_in, request_in}
 use Rattle.spdm_grammar.specs.declared.names.request_code.TheConstants.{GET_VERSION, PSK_EXCHANGE, PSK_FINISH, KEY_UPDATE, END_SESSION}

@@ -46,3 +46,5 @@ mod PinnedCounts
 pub mod Making
 pub mod Connected
 pub mod Runs
+pub mod Brought
+pub mod QueuedBrings

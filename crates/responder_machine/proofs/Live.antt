@@ -1,7 +1,6 @@
 -- The ids of live sessions in a made history are from 1 to 4.
-use Rattle.std.proofs.Common.{refl, ◌≡◌, ◌≤◌, ◌⊎◌, ℕ, List, [], ◌∷◌, true, false, Bool, inl, inr, sym, subst, arith, ◌∙◌}
-use Rattle.std.proofs.lemmas.Bool.{false≢true, eqb-true}
-use Rattle.std.proofs.lemmas.Bool.Decides.{nat_tests}
+use Rattle.std.proofs.Common.{refl, ◌≡◌, ◌≤◌, ◌⊎◌, ℕ, List, [], ◌∷◌, true, false, Bool, inl, inr, sym, subst, ◌∙◌}
+use Rattle.std.proofs.lemmas.Bool.{false≢true}
 use Rattle.std.specs.Prelude.{if◌then◌else◌, ◌==◌}
 use Rattle.responder_machine.proofs.Fresh.{IsFresh, turn_of-fresh, exchange-fresh}
 use Rattle.responder_machine.proofs.Ids.{free_id-range}
@@ -14,7 +13,7 @@ use Rattle.responder_machine.specs.Laws.{LiveIdIsFromOneToFour}
 use Rattle.responder_machine.specs.Place.{clear_place, held_of, free_id}
 use Rattle.responder_machine.proofs.GivenIds.{given_is}
 use Rattle.responder_machine.specs.Session.{Events, session_of, is_live, stage_of, after_clear, after_record, after_tick, id_in_record, gives_id}
-use Rattle.spdm_machine.specs.Sessions.{is_past_handshake, id_in_exchange}
+use Rattle.spdm_machine.specs.Sessions.{is_past_handshake}
 use Rattle.responder_machine.specs.Session.Event.{Began}
 use Rattle.responder_machine.specs.Setup.{RspSetup}
 use Rattle.responder_machine.specs.Turn.{Turn, takes, answer_in, request_in}

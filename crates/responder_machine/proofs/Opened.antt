@@ -20,7 +20,7 @@ use Rattle.responder_machine.specs.Responder.{Outcome, on_record, to_session, in
 use Rattle.spdm_machine.specs.Bodies.{record_body}
 use Rattle.responder_machine.specs.Responder.Outcome.{Same, Adds}
 use Rattle.responder_machine.specs.Session.{Events, session_of, is_live, is_spent, last_of, id_in_record, stage_of, is_timed, period_of, idle_of, request_next, response_next, after_clear, after_record, after_tick, gives_id}
-use Rattle.spdm_machine.specs.Sessions.{id_in_exchange, is_past_handshake}
+use Rattle.spdm_machine.specs.Sessions.{is_past_handshake}
 use Rattle.responder_machine.specs.Session.Event.{Began, Heard, Waited}
 use Rattle.responder_machine.specs.Setup.{RspSetup}
 use Rattle.responder_machine.specs.Turn.{Turn, takes, updates, request_in, answer_in}

@@ -1,5 +1,5 @@
 -- A packet from one endpoint changes nothing of what a responder is towards another.
-use Rattle.std.proofs.Common.{◌≡◌, ◌≢◌, ℕ, List, [], ◌∷◌, Bool, true, false, Option, Some, None, refl, sym, ◌∙◌, subst, filter, if◌then◌else◌, ◌==◌, ◌&&◌, not, slice_index, eqb-true, ne_eqb}
+use Rattle.std.proofs.Common.{◌≡◌, ◌≢◌, ℕ, List, [], ◌∷◌, Bool, true, false, Option, Some, None, refl, sym, ◌∙◌, subst, filter, if◌then◌else◌, ◌==◌, not, slice_index, eqb-true, ne_eqb}
 use Rattle.mctp_framing.specs.Cutting.{RouteFields}
 use Rattle.mctp_framing.specs.Gathering.{Gathered, is_ours}
 use Rattle.mctp_framing.specs.Gathering.Gathered.{Whole, More, Dropped}

@@ -8,7 +8,7 @@ use Rattle.negotiate.proofs.Choices.{choice_is_agreed}
 use Rattle.negotiate.proofs.Answered.{are_tables, four_each}
 use Rattle.negotiate.proofs.FewKinds.{few_kinds}
 use Rattle.negotiate.specs.Capabilities.{common_of}
-use Rattle.negotiate.specs.Choosing.{selected, agreed, hash_bit}
+use Rattle.negotiate.specs.Choosing.{selected, hash_bit}
 use Rattle.negotiate.specs.Reply.{reply_of, measurement_hash_bit, answered_kinds}
 use Rattle.negotiate.specs.declared.shared.Common.{Common}
 use Rattle.spdm_basis.specs.declared.values.hash_alg.HashAlg.{HashAlg}
@@ -17,7 +17,7 @@ use Rattle.spdm_grammar.proofs.CanonicalResponses.{response_spelled}
 use Rattle.spdm_grammar.proofs.Spellings.{spelling_read}
 use Rattle.spdm_grammar.specs.Layout.{Layout}
 use Rattle.spdm_grammar.specs.Layout.Layout.{Number}
-use Rattle.spdm_grammar.specs.Message.{RequestMessage, ResponseMessage, OfferMessage, ReplyMessage}
+use Rattle.spdm_grammar.specs.Message.{RequestMessage, ResponseMessage, OfferMessage}
 use Rattle.spdm_grammar.specs.Message.RequestMessage.{GetCapabilities, NegotiateAlgorithms}
 use Rattle.spdm_grammar.specs.Message.ResponseMessage.{Capabilities, Algorithms}
 use Rattle.spdm_grammar.specs.Reading as reading_at
@@ -35,7 +35,7 @@ use Rattle.responder_machine.specs.Place.{Place, place_terms}
 use Rattle.responder_machine.specs.Refusal.{code_of}
 use Rattle.responder_machine.specs.Setup.{RspSetup, responder_caps, policy_of}
 use Rattle.responder_machine.specs.SettledLaws.{CapabilitiesSettleCommon, AlgorithmsSettleChoice}
-use Rattle.spdm_machine.specs.Terms.{terms_of, hash_len, request_value, response_value, common_from, choice_from, asked_caps, told_caps, offer_in, reply_in, no_common, no_choice}
+use Rattle.spdm_machine.specs.Terms.{terms_of, hash_len, request_value, response_value, common_from, asked_caps, told_caps, no_common, no_choice}
 use Rattle.transcript.specs.Transcripts.{Negotiation}
 use Rattle.spdm_grammar.specs.declared.names.request_code.TheConstants.{GET_CAPABILITIES, NEGOTIATE_ALGORITHMS, PSK_EXCHANGE, PSK_FINISH}
 use Rattle.spdm_machine.proofs.Settling.{choice_by}

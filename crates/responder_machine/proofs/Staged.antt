@@ -1,7 +1,6 @@
 -- In a made history PSK_FINISH is taken in a handshake alone, and KEY_UPDATE after one alone.
-use Rattle.std.proofs.Common.{refl, ◌∙◌, ◌≡◌, ℕ, List, [], ◌∷◌, true, false, Bool, Option, Some, None, ap, sym, subst, arith}
+use Rattle.std.proofs.Common.{refl, ◌∙◌, ◌≡◌, ℕ, List, [], ◌∷◌, true, false, Bool, Option, Some, None, ap, sym, subst}
 use Rattle.std.proofs.lemmas.Bool.{false≢true, eqb-true}
-use Rattle.std.proofs.lemmas.Bool.Decides.{nat_tests}
 use Rattle.std.proofs.lemmas.Option.{none-some, same_Some}
 use Rattle.std.specs.Prelude.{if◌then◌else◌, ◌==◌, ◌*◌, ◌+◌, not, nat_le, slice_index, drop}
 use Rattle.spdm_basis.specs.declared.causes.record_fault.RecordFault.{RecordFault}
@@ -28,7 +27,7 @@ use Rattle.responder_machine.specs.Responder.{Outcome, on_record, to_session, in
 use Rattle.spdm_machine.specs.Bodies.{record_body}
 use Rattle.responder_machine.specs.Responder.Outcome.{Same, Unopened}
 use Rattle.responder_machine.specs.Session.{Events, session_of, stage_of, last_of, id_in_record, is_timed, period_of, idle_of, after_record, after_tick, after_clear, gives_id}
-use Rattle.spdm_machine.specs.Sessions.{is_past_handshake, id_in_exchange}
+use Rattle.spdm_machine.specs.Sessions.{is_past_handshake}
 use Rattle.responder_machine.specs.Session.Event.{Began, Heard, Waited}
 use Rattle.responder_machine.specs.Setup.{RspSetup}
 use Rattle.responder_machine.specs.Turn.{Turn, Effect, code_in, takes, request_in, answer_in}

@@ -1,7 +1,6 @@
 -- What a request has shown that is not refused.
-use Rattle.std.proofs.Common.{refl, ◌≡◌, ℕ, zero, suc, List, [], ◌∷◌, true, false, Bool, Option, Some, None, sym}
+use Rattle.std.proofs.Common.{refl, ◌≡◌, ℕ, zero, suc, List, [], ◌∷◌, false, Bool, Option, Some, None, sym}
 use Rattle.std.proofs.lemmas.Option.{none-some}
-use Rattle.std.specs.Prelude.{if◌then◌else◌}
 use Rattle.spdm_grammar.specs.declared.messages.error_code.ErrorCode.{ErrorCode}
 use Rattle.responder_machine.specs.Answer.{Free}
 use Rattle.responder_machine.specs.Place.{Place}

@@ -12,7 +12,7 @@ use Rattle.responder_machine.specs.History.{phase_of, clear_turns, negotiation_o
 use Rattle.responder_machine.specs.History.Entry.{Clear, Sealed, Queued, Ticked, Dropped}
 use Rattle.responder_machine.specs.Laws.{LiveIsUnderNegotiation}
 use Rattle.responder_machine.specs.Session.{Events, session_of, session_negotiation, is_live, stage_of, is_timed, period_of, idle_of, after_clear, after_record, after_tick, id_in_record, gives_id}
-use Rattle.spdm_machine.specs.Sessions.{is_past_handshake, id_in_exchange}
+use Rattle.spdm_machine.specs.Sessions.{is_past_handshake}
 use Rattle.responder_machine.specs.Session.Event.{Began, Heard, Waited}
 use Rattle.responder_machine.specs.Turn.{Turn, Effect, takes}
 use Rattle.responder_machine.specs.Turn.Effect.{NoEffect, Took, TookData}

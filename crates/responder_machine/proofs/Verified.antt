@@ -1,6 +1,6 @@
 -- The verify data of PSK_FINISH are compared.
 use Rattle.std.proofs.Common.{refl, ◌∙◌, ◌≡◌, ℕ, List, [], true, false, Bool, Option, Some, None, ap, sym, subst}
-use Rattle.std.proofs.lemmas.Bool.{false≢true, not-false}
+use Rattle.std.proofs.lemmas.Bool.{not-false}
 use Rattle.std.proofs.lemmas.Slice.Eq.{bytes_eq-Decides}
 use Rattle.std.specs.Prelude.{if◌then◌else◌, ◌==◌, not, slice_index, drop, bytes_eq}
 use Rattle.spdm_grammar.specs.Message.{RequestMessage, ChunkMessage}

@@ -10,7 +10,7 @@ use Rattle.responder_machine.specs.LargeMessages.{larges_of}
 use Rattle.responder_machine.specs.Session.{Events, session_of, turns_of, request_epoch, response_epoch, taken_of, stage_of, is_timed, period_of, idle_of, after_clear, after_record, after_tick, id_in_record, gives_id}
 use Rattle.responder_machine.specs.Session.Event.{Began, Heard, Waited}
 use Rattle.responder_machine.specs.Turn.{Turn, takes, updates, takes_draw, is_data, handle_in, request_in, answer_in}
-use Rattle.spdm_machine.specs.Sessions.{is_past_handshake, id_in_exchange}
+use Rattle.spdm_machine.specs.Sessions.{is_past_handshake}
 use Rattle.transcript.specs.Transcripts.{Negotiation}
 
 -- One more at most, by a test.

@@ -24,3 +24,5 @@ pub mod Independence
 pub mod RefusalLaws
 pub mod BoundLaws
 pub mod SizeLaws
+pub mod NewData
+pub mod NewDataLaws

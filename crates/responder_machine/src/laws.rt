@@ -72,7 +72,7 @@ pub fn free_id_is_free()
     ensures { FreeIdIsFree }
 {}
 
-/// At most four sessions with an id from 1 to 4 are live past their handshake.
+/// At most four sessions with an id from 1 to 4 are established.
 pub fn four_are_held_at_most()
     ensures { FourAreHeldAtMost }
 {}
@@ -142,7 +142,7 @@ pub fn refused_clear_keeps_connection()
     ensures { RefusedClearKeepsConnection }
 {}
 
-/// Sessions of a history that the responder made that are live past their handshake are four at most.
+/// At most four sessions of a history that the responder made are established.
 pub fn held_are_few()
     ensures { HeldAreFew }
 {}

@@ -9,6 +9,7 @@
 mod bounds;
 mod end_laws;
 mod laws;
+mod new_data_laws;
 mod refusals;
 
 pub use bounds::{common_is_negotiated, counts_are_bounded, queue_is_bounded, sizes_are_set_up};
@@ -25,5 +26,8 @@ pub use laws::{
     repeated_record_adds_nothing, reply_number_is_count, request_has_its_code, sizes_are_known,
     taken_exchange_is_fresh, taken_is_repeated, taken_record_is_opened, taken_record_is_repeated,
     unopened_adds_nothing, update_all_is_answered_at_zero, update_begins_at_zero,
+};
+pub use new_data_laws::{
+    brought_is_answered, brought_is_taken, queued_brings_alike, queued_is_sent,
 };
 pub use refusals::{refused_in_chunks_keeps_connection, refused_record_keeps_connection};

@@ -1,5 +1,5 @@
 -- A large response of a place that is sent in chunks, as the program represents it.
-use Rattle.std.specs.Prelude.{◌≡◌, ◌+◌, ◌||◌, not, if◌then◌else◌, ℕ, List, [], ◌∷◌, drop, Bool, true, false, Option, Some, None}
+use Rattle.std.specs.Prelude.{◌≡◌, ◌+◌, ◌||◌, not, if◌then◌else◌, ℕ, List, [], ◌∷◌, drop, Bool, true, false, Option, Some, None, replicate}
 use Rattle.chunking.specs.Cutting.{chunks_of}
 use Rattle.responder_machine.specs.Answer.{chunk_answer}
 use Rattle.responder_machine.specs.LargeMessages.{given_of, handle_of, large_of, larges_of, next_handle}
@@ -11,6 +11,7 @@ use Rattle.spdm_grammar.specs.Message.{ChunkMessage, chunk_message}
 use Rattle.spdm_grammar.specs.Message.RequestMessage.{ChunkGet}
 use Rattle.spdm_grammar.specs.Message.ResponseMessage.{ChunkResponse}
 use Rattle.spdm_grammar.specs.declared.ChunkView.{ChunkView}
+use Rattle.spdm_grammar.specs.declared.names.TheConstants.{MAX_MESSAGE_SIZE, MIN_DATA_TRANSFER_SIZE}
 use Rattle.spdm_grammar.specs.declared.names.request_code.TheConstants.{CHUNK_GET}
 
 -- The chunks that are still to be given of the answer that last went by LargeResponse.
@@ -27,6 +28,11 @@ pub record Seen : Type 0 where
 pub record StandsFor (seen : Seen) (transfer : ℕ) (turns : List Turn) : Type 0 where
   pub left : seen.left ≡ left_by transfer turns (large_of turns)
   pub next : seen.next ≡ next_handle turns
+
+-- What it keeps is overwritten: the message that is cut is zeros, as many as a message has at most.
+pub record IsWiped (seen : Seen) : Type 0 where
+  pub left : seen.left ≡ chunks_of MIN_DATA_TRANSFER_SIZE 0 (replicate MAX_MESSAGE_SIZE 0)
+  pub next : seen.next ≡ 0
 
 -- CHUNK_GET is refused for its handle or its number, or this chunk is the answer.
 abbrev pub IsAsked : Place → (handle number : ℕ) → Option ChunkView → Type 0

@@ -9,10 +9,11 @@ ghost use Rattle.responder_machine.specs.Turn.{Turn, handle_in, is_taken, large_
 ghost use Rattle.spdm_grammar.specs.declared.names.TheConstants.{MAX_MESSAGE_SIZE, MIN_DATA_TRANSFER_SIZE};
 ghost use Rattle.spdm_grammar.specs.declared.names.request_code.TheConstants.{CHUNK_GET};
 ghost use Rattle.std.specs.List.{slice_get};
-ghost use Rattle.responder_rules.specs.LargeAnswer.{IsAsked, IsUncounted, StandsFor, turns_unseen, turns_with};
+ghost use Rattle.responder_rules.specs.LargeAnswer.{IsAsked, IsUncounted, IsWiped, StandsFor, turns_unseen, turns_with};
 
 use chunking::Splitter;
 use spdm_grammar::ChunkView;
+use spdm_grammar::names::MIN_DATA_TRANSFER_SIZE;
 use std::marker::Model;
 
 /// The large response of a place that is still to be given by CHUNK_GET, and the count of handles there (DSP0274,
@@ -125,6 +126,14 @@ impl LargeAnswer {
     {
         self.splitter = Splitter::new(answer, transfer, handle).ok();
         self.next = self.next.wrapping_add(1);
+    }
+
+    /// Overwrites the answer that is pending, or was, by the greatest number of zeros. Not to be gone on with.
+    pub fn wipe(&mut self)
+        ensures { IsWiped self.new }
+    {
+        self.splitter = Splitter::new(&[0u8; 4096], MIN_DATA_TRANSFER_SIZE, 0).ok();
+        self.next = 0;
     }
 
     /// The answer that is pending gets these bytes, which are sent in chunks; as many chunks of it are given.

@@ -20,7 +20,7 @@ use Rattle.spdm_grammar.specs.declared.told.phase.Stage.TheVariants.{Handshake, 
 use Rattle.spdm_grammar.specs.declared.messages.request.Request.{Request}
 use Rattle.spdm_grammar.specs.declared.messages.request.Request.TheVariants as request
 use Rattle.responder_session.proofs.Finish.{allowed_code}
-use Rattle.responder_session.specs.Deeds.{IsAllowed}
+use Rattle.responder_session.specs.RequestEffects.{IsAllowed}
 
 -- A request that was read is sound.
 pub asked_sound : (s : Events) (m : List ℕ) (asked : RequestMessage) → ((i : ℕ) → slice_index m i < 256) → request_at (session_place s) m ≡ Some asked → IsSoundRequest (hash_size (session_terms s).choice.hash) asked

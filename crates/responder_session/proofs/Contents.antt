@@ -24,7 +24,7 @@ use Rattle.spdm_grammar.specs.declared.messages.error_code.ErrorCode.TheVariants
 use Rattle.spdm_grammar.specs.declared.names.TheConstants.{MIN_DATA_TRANSFER_SIZE}
 use Rattle.spdm_grammar.specs.declared.names.request_code.TheConstants.{PSK_EXCHANGE}
 use Rattle.spdm_grammar.specs.declared.told.phase.Stage.{Stage}
-use Rattle.responder_session.specs.Deeds.{large_turn}
+use Rattle.responder_session.specs.RequestEffects.{large_turn}
 use Rattle.responder_session.specs.Turns.{answered_turn}
 use Rattle.responder_machine.proofs.Settled.{answer_is}
 

@@ -23,12 +23,12 @@ use Rattle.responder_session.proofs.Allowed.{has_flag, verify_in_verifying, upda
 use Rattle.responder_session.proofs.Contents.{turn-refused, turn-answered, turn-large, short_fits, short_is_small}
 use Rattle.responder_session.proofs.Finish.{finish-refused, finish-answered}
 use Rattle.responder_session.proofs.Updating.{lacking, update-misplaced, update-answered}
-use Rattle.responder_session.specs.Deeds.{IsAllowed, IsDeed, large_turn}
+use Rattle.responder_session.specs.RequestEffects.{IsAllowed, IsDeed, large_turn}
 use Rattle.responder_session.specs.Judged.{right_verify}
 use Rattle.responder_session.specs.Turns.{answered_turn}
 use Rattle.responder_session.specs.Updates.{HasEpochs, update_turn}
-use Rattle.responder_session.specs.declared.deed.Deed.{Deed}
-use Rattle.responder_session.specs.declared.deed.Deed.TheVariants as deed
+use Rattle.responder_session.specs.declared.request_effect.RequestEffect.{RequestEffect}
+use Rattle.responder_session.specs.declared.request_effect.RequestEffect.TheVariants as deed
 use Rattle.responder_machine.proofs.Settled.{answer_is}
 
 -- ---- What is known of a request that was read.
@@ -44,9 +44,9 @@ answered_by lacks long h k = λ i. if h i then Some UnsupportedRequest else (if 
 
 -- ---- Refusals, each with its ERROR.
 
-pub refused_deed : (r : RspSetup) (s : Events) (f : Free) (m out : List ℕ) (code : ErrorCode) (does : Deed) → does ≡ deed.Refused code → out ≡ error_bytes r (session_place s) m f code
+pub refused_deed : (r : RspSetup) (s : Events) (f : Free) (m out : List ℕ) (code : ErrorCode) (does : RequestEffect) → does ≡ deed.Refused code → out ≡ error_bytes r (session_place s) m f code
     → turn_of r (session_place s) m f ≡ refused_turn r (session_place s) m f code → IsDeed r s f m out does
-refused_deed r s f m out code does is written turn = subst (λ (d : Deed). IsDeed r s f m out d) (sym is) (record { turn = turn; fit = written })
+refused_deed r s f m out code does is written turn = subst (λ (d : RequestEffect). IsDeed r s f m out d) (sym is) (record { turn = turn; fit = written })
 
 pub lacking_turn : (r : RspSetup) (s : Events) (f : Free) (m : List ℕ) (asks : RequestMessage) → refused_form r (session_place s) m ≡ None → request_at (session_place s) m ≡ Some asks
     → lacks_flag (session_terms s) (code_of m) ≡ true → turn_of r (session_place s) m f ≡ refused_turn r (session_place s) m f UnsupportedRequest

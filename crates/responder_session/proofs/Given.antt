@@ -20,9 +20,9 @@ use Rattle.spdm_grammar.specs.declared.messages.error_code.ErrorCode.TheVariants
 use Rattle.responder_session.proofs.Contents.{turn-refused, turn-answered}
 use Rattle.responder_session.proofs.Allowed.{has_flag}
 use Rattle.responder_session.proofs.Doing.{measured_by}
-use Rattle.responder_session.specs.Deeds.{IsAllowed, IsDeed}
+use Rattle.responder_session.specs.RequestEffects.{IsAllowed, IsDeed}
 use Rattle.responder_session.specs.Turns.{answered_turn}
-use Rattle.responder_session.specs.declared.deed.Deed.TheVariants as deed
+use Rattle.responder_session.specs.declared.request_effect.RequestEffect.TheVariants as deed
 use Rattle.chunking.proofs.ChunkLengths.{chunk_framed, chunk_sound}
 
 -- ---- A chunk has a spelling, and fits into the transfer size.

@@ -16,9 +16,9 @@ use Rattle.spdm_grammar.specs.declared.messages.error_code.ErrorCode.{ErrorCode}
 use Rattle.spdm_grammar.specs.declared.told.phase.Stage.{Stage}
 use Rattle.spdm_grammar.specs.declared.told.phase.Stage.TheVariants.{Handshake, Open, Verifying}
 use Rattle.responder_session.proofs.Contents.{inner-data, inner-refused, inner-spoken, turn-misfit}
-use Rattle.responder_session.specs.Deeds.{IsDeed, IsInnerDeed}
-use Rattle.responder_session.specs.declared.deed.Deed.{Deed}
-use Rattle.responder_session.specs.declared.deed.Deed.TheVariants as deed
+use Rattle.responder_session.specs.RequestEffects.{IsDeed, IsInnerDeed}
+use Rattle.responder_session.specs.declared.request_effect.RequestEffect.{RequestEffect}
+use Rattle.responder_session.specs.declared.request_effect.RequestEffect.TheVariants as deed
 
 -- An SPDM message: its turn is that of the message after the type.
 five : (n : ℕ) (inner : List ℕ) → n ≡ slice_index inner 0 → n ≡ 5 → (slice_index inner 0 == 5) ≡ true
@@ -72,20 +72,20 @@ data_deed r s f stage inner out n at h is not_same written = record {
 }
 
 -- What the message does is what the inner message does.
-pub inner_deed : (r : RspSetup) (s : Events) (f : Free) (inner m out : List ℕ) (does : Deed) → m ≡ drop 1 inner → session_turn r s inner f ≡ turn_of r (session_place s) m f
+pub inner_deed : (r : RspSetup) (s : Events) (f : Free) (inner m out : List ℕ) (does : RequestEffect) → m ≡ drop 1 inner → session_turn r s inner f ≡ turn_of r (session_place s) m f
     → IsDeed r s f m out does → IsInnerDeed r s f inner (drop 1 inner) out does
 inner_deed r s f inner m out does behind turn d =
     subst (λ (x : List ℕ). IsInnerDeed r s f inner x out does) behind (record { turn = turn ∙ d.turn; fit = d.fit })
 
 -- It is refused before it is read, or for its form.
-pub refused_inner : (r : RspSetup) (s : Events) (f : Free) (stage : Stage) (inner m out : List ℕ) (code : ErrorCode) (does : Deed) → stage ≡ stage_of s → Some code ≡ inner_refusal stage inner → m ≡ drop 1 inner
+pub refused_inner : (r : RspSetup) (s : Events) (f : Free) (stage : Stage) (inner m out : List ℕ) (code : ErrorCode) (does : RequestEffect) → stage ≡ stage_of s → Some code ≡ inner_refusal stage inner → m ≡ drop 1 inner
     → does ≡ deed.Refused code → out ≡ error_bytes r (session_place s) m f code → IsInnerDeed r s f inner (drop 1 inner) out does
 refused_inner r s f stage inner m out code does at h behind is written =
-    subst (λ (d : Deed). IsInnerDeed r s f inner (drop 1 inner) out d) (sym is)
+    subst (λ (d : RequestEffect). IsInnerDeed r s f inner (drop 1 inner) out d) (sym is)
     (record { turn = inner-refused r s inner f code (refuses s stage inner (Some code) at h); fit = written ∙ ap (λ (x : List ℕ). error_bytes r (session_place s) x f code) behind })
 
-pub misfit_inner : (r : RspSetup) (s : Events) (f : Free) (inner m out : List ℕ) (code : ErrorCode) (does : Deed) → m ≡ drop 1 inner → session_turn r s inner f ≡ turn_of r (session_place s) m f
+pub misfit_inner : (r : RspSetup) (s : Events) (f : Free) (inner m out : List ℕ) (code : ErrorCode) (does : RequestEffect) → m ≡ drop 1 inner → session_turn r s inner f ≡ turn_of r (session_place s) m f
     → refused_form r (session_place s) m ≡ Some code → does ≡ deed.Refused code → out ≡ error_bytes r (session_place s) m f code → IsInnerDeed r s f inner (drop 1 inner) out does
 misfit_inner r s f inner m out code does behind turn h is written =
-    subst (λ (d : Deed). IsInnerDeed r s f inner (drop 1 inner) out d) (sym is) (subst (λ (x : List ℕ). IsInnerDeed r s f inner x out (deed.Refused code)) behind
+    subst (λ (d : RequestEffect). IsInnerDeed r s f inner (drop 1 inner) out d) (sym is) (subst (λ (x : List ℕ). IsInnerDeed r s f inner x out (deed.Refused code)) behind
     (record { turn = turn ∙ turn-misfit r (session_place s) m f code h; fit = written }))

@@ -21,7 +21,7 @@ use Rattle.spdm_grammar.specs.declared.told.phase.Stage.TheVariants.{Open}
 use Rattle.spdm_machine.specs.Keys.{sealed_of}
 use Rattle.responder_session.proofs.Moves.{kept_by}
 use Rattle.responder_session.proofs.Updating.{past_purpose, past_hash}
-use Rattle.responder_session.specs.Deeds.{is_quiet}
+use Rattle.responder_session.specs.RequestEffects.{is_quiet}
 use Rattle.responder_session.specs.Kept.{Keeps, kept_record}
 use Rattle.responder_session.specs.Turns.{KeepsKeys, answered_turn}
 use Rattle.responder_session.specs.Updates.{update_turn}

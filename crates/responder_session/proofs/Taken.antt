@@ -11,13 +11,13 @@ use Rattle.responder_machine.specs.Setup.{RspSetup}
 use Rattle.responder_machine.specs.SizeLaws.{HasSizes}
 use Rattle.responder_machine.specs.Turn.{Turn, takes}
 use Rattle.spdm_grammar.specs.declared.names.request_code.TheConstants.{END_SESSION}
-use Rattle.responder_session.specs.Deeds.{is_whole, turn_for}
+use Rattle.responder_session.specs.RequestEffects.{is_whole, turn_for}
 use Rattle.responder_session.specs.EndedTook.{IsEndedStill}
 use Rattle.responder_session.specs.Kept.{Keeps, kept_record}
 use Rattle.responder_session.specs.Session.{StandsFor, IsEnded}
 use Rattle.responder_session.specs.Took.{IsAfter, IsMoved, IsSessionAfter, IsStateOf, IsTold, act_of}
-use Rattle.responder_session.specs.declared.deed.Deed.{Deed}
-use Rattle.responder_session.specs.declared.deed.Deed.TheVariants as deed
+use Rattle.responder_session.specs.declared.request_effect.RequestEffect.{RequestEffect}
+use Rattle.responder_session.specs.declared.request_effect.RequestEffect.TheVariants as deed
 use Rattle.responder_session.specs.declared.kept.Kept.{Kept}
 use Rattle.responder_session.specs.declared.session.RspSession.{RspSession}
 use Rattle.responder_session.specs.declared.told.RspAct.{RspAct}
@@ -43,9 +43,9 @@ taken r s f sealed inner pad t after act other unfaulted is turn padded (stands,
     )
 
 -- The turn of what a message does.
-pub moved_by : (r : RspSetup) (s : Events) (f : Free) (message answer sealed pad : List ℕ) (d x : Deed) (after : RspSession) (act : RspAct) → d ≡ x
+pub moved_by : (r : RspSetup) (s : Events) (f : Free) (message answer sealed pad : List ℕ) (d x : RequestEffect) (after : RspSession) (act : RspAct) → d ≡ x
     → IsMoved r.psk s sealed (turn_for r s f message answer x) pad after act → IsMoved r.psk s sealed (turn_for r s f message answer d) pad after act
-moved_by r s f message answer sealed pad d x after act is h = subst (λ (y : Deed). IsMoved r.psk s sealed (turn_for r s f message answer y) pad after act) (sym is) h
+moved_by r s f message answer sealed pad d x after act is h = subst (λ (y : RequestEffect). IsMoved r.psk s sealed (turn_for r s f message answer y) pad after act) (sym is) h
 
 -- ---- A session as a state.
 
@@ -73,6 +73,6 @@ state_after session state r s sealed t reply sizes live ends (inr (is, x)) = end
 
 -- ---- Deeds but one.
 
-pub whole_but : (d : Deed) → ((op handle : ℕ) → d ≡ deed.Large op handle → ⊥) → is_whole d ≡ true
+pub whole_but : (d : RequestEffect) → ((op handle : ℕ) → d ≡ deed.Large op handle → ⊥) → is_whole d ≡ true
 whole_but (deed.Large op handle) other = absurd (other op handle refl)
 whole_but _ other = refl

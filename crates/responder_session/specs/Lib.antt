@@ -5,13 +5,14 @@ pub mod Exchange
 pub mod Handshake
 pub mod Open
 pub mod Verifying
+pub mod Wiped
 pub mod Ended
 pub mod Turns
 pub mod Took
 pub mod EndedTook
 pub mod Queue
 pub mod Updates
-pub mod Deeds
+pub mod RequestEffects
 pub mod Judged
 pub mod Laws
 pub mod Reply

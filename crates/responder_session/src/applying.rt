@@ -2,7 +2,7 @@ ghost use Rattle.std.specs.Prelude.{◌≡◌, ◌≤◌, length};
 ghost use Rattle.spdm_grammar.specs.declared.names.TheConstants.{MAX_APP_DATA_LEN, MAX_PADDING, MAX_RECORDS};
 ghost use Rattle.secured_record.specs.declared.TheConstants.{MAX_RECORD_SIZE};
 
-use crate::deed::Deed;
+use crate::request_effect::RequestEffect;
 use crate::{RspAct, RspSession};
 use responder_rules::write_large_response;
 use session_keys::{APP_DATA, byte_at};
@@ -43,7 +43,7 @@ impl RspSession {
     ghost use Rattle.spdm_grammar.specs.declared.messages.error_code.ErrorCode.{ErrorCode};
     ghost use Rattle.spdm_grammar.specs.declared.names.TheConstants.{MAX_MESSAGE_SIZE};
     ghost use Rattle.spdm_grammar.specs.declared.told.phase.Stage.TheVariants.{Handshake, Open, Verifying};
-    ghost use Rattle.responder_session.specs.Deeds.{IsFit, is_quiet, is_whole, large_turn, turn_for};
+    ghost use Rattle.responder_session.specs.RequestEffects.{IsFit, is_quiet, is_whole, large_turn, turn_for};
     ghost use Rattle.responder_session.specs.Session.{StandsFor, IsEnded};
     ghost use Rattle.responder_session.specs.Took.{IsMoved};
     ghost use Rattle.responder_session.specs.Turns.{answered_turn, heard_by};
@@ -248,7 +248,7 @@ impl RspSession {
     pub(crate) fn apply(
         &mut self,
         opened: &Opened<'_>,
-        deed: &Deed<'_>,
+        deed: &RequestEffect<'_>,
         answer: &mut Frame,
         inner: &mut RecordFrame,
     ) -> RspAct
@@ -264,7 +264,7 @@ impl RspSession {
             self.new result }
     {
         match deed {
-            Deed::Large { op: _, handle } => {
+            RequestEffect::Large { op: _, handle } => {
                 self.answer_large(opened, answer, *handle, inner);
                 RspAct::Answered(byte_at(opened.message, 1))
             }
@@ -276,7 +276,7 @@ impl RspSession {
     fn apply_whole(
         &mut self,
         opened: &Opened<'_>,
-        deed: &Deed<'_>,
+        deed: &RequestEffect<'_>,
         answer: &[u8],
         inner: &mut RecordFrame,
     ) -> RspAct
@@ -294,40 +294,40 @@ impl RspSession {
     {
         let answered = RspAct::Answered(byte_at(opened.message, 1));
         match deed {
-            Deed::Refused(code) => {
+            RequestEffect::Refused(code) => {
                 self.refuse(opened, answer, inner);
                 RspAct::Refused(code.number())
             }
-            Deed::Data => {
+            RequestEffect::Data => {
                 self.take_data(opened, answer, inner);
                 RspAct::Data
             }
-            Deed::Finished { verify: _ } => {
+            RequestEffect::Finished { verify: _ } => {
                 self.open(opened, answer, inner);
                 answered
             }
-            Deed::Alive => {
+            RequestEffect::Alive => {
                 self.answer(opened, answer, inner);
                 answered
             }
-            Deed::Measured { op: _ } => {
+            RequestEffect::Measured { op: _ } => {
                 self.answer(opened, answer, inner);
                 answered
             }
-            Deed::Large { op: _, handle: _ } => answered,
-            Deed::Update { all, tag: _ } => {
+            RequestEffect::Large { op: _, handle: _ } => answered,
+            RequestEffect::Update { all, tag: _ } => {
                 self.update(opened, *all, answer, inner);
                 answered
             }
-            Deed::Verified { tag: _ } => {
+            RequestEffect::Verified { tag: _ } => {
                 self.verify(opened, answer, inner);
                 answered
             }
-            Deed::Ended => {
+            RequestEffect::Ended => {
                 self.end(opened, answer, inner);
                 answered
             }
-            Deed::Chunk {
+            RequestEffect::Chunk {
                 handle: _,
                 number: _,
             } => {

@@ -1,4 +1,4 @@
-use crate::{RecordFree, RspSession, RspTook, Work};
+use crate::{ResponseValues, RspSession, RspTook, Work};
 
 /// A session at the responder that END_SESSION ended, as a state of the session. It only recognizes the repeat of its
 /// last record. `spdm` does not keep this state: the reply that it keeps of an ended session is `EndedRecord` in
@@ -19,7 +19,7 @@ impl RspEnded {
         ensures { (id old answer : List ℕ) → StandsFor self id old answer
             → IsEndedTook id old answer sealed.now result }
     {
-        let free = RecordFree::padding(&[]);
+        let free = ResponseValues::padding(&[]);
         let told = self
             .session
             .take_given(sealed, None, &free, &mut Work::new());

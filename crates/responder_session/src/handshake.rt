@@ -1,6 +1,6 @@
 ghost use Rattle.spdm_grammar.specs.declared.names.TheConstants.{MAX_PADDING};
 
-use crate::{ExchangeParts, RecordFree, RspSession, RspTook, Work};
+use crate::{ExchangeParts, ResponseValues, RspSession, RspTook, Work};
 use session_keys::SessionTerms;
 use spdm_basis::{Frame, Psk};
 use spdm_grammar::{SessionView, Stage};
@@ -71,7 +71,7 @@ impl RspHandshake {
         ensures { (r : RspSetup) (s : Events) (f : Free) → f.pad ≡ pad.now → StandsFor self r s
             → IsTook r s f sealed.now result }
     {
-        let free = RecordFree::padding(pad);
+        let free = ResponseValues::padding(pad);
         let told = self
             .session
             .take_given(sealed, None, &free, &mut Work::new());

@@ -7,13 +7,13 @@ ghost use Rattle.responder_machine.specs.Session.{Events};
 ghost use Rattle.responder_machine.specs.Setup.{RspSetup};
 ghost use Rattle.responder_rules.specs.Place.{IsPlace};
 ghost use Rattle.spdm_grammar.specs.declared.messages.error_code.ErrorCode.TheVariants.{ResponseTooLarge};
-ghost use Rattle.responder_session.specs.declared.deed.Deed.TheVariants as deed;
+ghost use Rattle.responder_session.specs.declared.request_effect.RequestEffect.TheVariants as deed;
 ghost use Rattle.spdm_grammar.specs.declared.names.TheConstants.{MAX_APP_DATA_LEN, MAX_OPAQUE_LEN};
 
 use crate::answers::{write_alive, write_data, write_ended, write_finish_answer};
-use crate::deed::Deed;
+use crate::request_effect::RequestEffect;
 use crate::requests::{give, measure, update};
-use crate::{RecordFree, RspSession};
+use crate::{ResponseValues, RspSession};
 use measurements::Inventory;
 use responder_rules::Place;
 use session_keys::{APP_DATA, behind_type, byte_at};
@@ -43,14 +43,19 @@ pub fn inner_refusal(stage: Stage, inner: &[u8]) -> Option<ErrorCode>
 }
 
 // A message is refused with a code other than ResponseTooLarge; writes its ERROR.
-pub fn refused<'a>(place: &Place, code: ErrorCode, message: &[u8], out: &mut Frame) -> Deed<'a>
+pub fn refused<'a>(
+    place: &Place,
+    code: ErrorCode,
+    message: &[u8],
+    out: &mut Frame,
+) -> RequestEffect<'a>
     ensures deed { result ≡ deed.Refused code }
     ensures answer { (r : RspSetup) (s : Events) (f : Free) → IsPlace place.now (session_place s)
         → (code ≡ ResponseTooLarge → ⊥)
         → out.new ≡ error_bytes r (session_place s) message.now f code }
 {
     place.write_error(code, message, 0, out);
-    Deed::Refused(code)
+    RequestEffect::Refused(code)
 }
 
 impl RspSession {
@@ -63,7 +68,7 @@ impl RspSession {
     ghost use Rattle.responder_machine.specs.SizeLaws.{HasSizes};
     ghost use Rattle.spdm_grammar.specs.Message.RequestMessage.{PskFinish};
     ghost use Rattle.spdm_grammar.specs.declared.told.phase.Stage.TheVariants.{Open};
-    ghost use Rattle.responder_session.specs.Deeds.{AreGiven, IsAllowed, IsDeed, IsInnerDeed};
+    ghost use Rattle.responder_session.specs.RequestEffects.{AreGiven, IsAllowed, IsDeed, IsInnerDeed};
     ghost use Rattle.responder_session.specs.Session.{StandsFor};
 
     // What an inner message does in a stage; the whole answer to it is written.
@@ -72,9 +77,9 @@ impl RspSession {
         stage: Stage,
         inner: &'a [u8],
         inventory: Option<&Inventory>,
-        free: &RecordFree<'_>,
+        free: &ResponseValues<'_>,
         out: &mut Frame,
-    ) -> Deed<'a>
+    ) -> RequestEffect<'a>
         requires nonce { length free.now.nonce.now ≡ 32 }
         requires opaque { length free.now.opaque.now ≤ MAX_OPAQUE_LEN }
         requires reply { length free.now.reply.now ≤ MAX_APP_DATA_LEN }
@@ -91,7 +96,7 @@ impl RspSession {
         }
         if byte_at(inner, 0) != SPDM {
             write_data(free.reply, out);
-            return Deed::Data;
+            return RequestEffect::Data;
         }
         match place.read(place.common.to_responder.transfer, message) {
             Err(code) => refused(&place, code, message, out),
@@ -106,9 +111,9 @@ impl RspSession {
         message: &'a [u8],
         request: &Request<'a>,
         inventory: Option<&Inventory>,
-        free: &RecordFree<'_>,
+        free: &ResponseValues<'_>,
         out: &mut Frame,
-    ) -> Deed<'a>
+    ) -> RequestEffect<'a>
         requires nonce { length free.now.nonce.now ≡ 32 }
         requires opaque { length free.now.opaque.now ≤ MAX_OPAQUE_LEN }
         ensures { (r : RspSetup) (s : Events) (f : Free) → HasSizes r (session_terms s).common
@@ -125,11 +130,11 @@ impl RspSession {
             Request::PskFinish { verify } => self.finish(place, message, verify, out),
             Request::Heartbeat => {
                 write_alive(out);
-                Deed::Alive
+                RequestEffect::Alive
             }
             Request::EndSession => {
                 write_ended(out);
-                Deed::Ended
+                RequestEffect::Ended
             }
             Request::KeyUpdate { op, tag } => update(place, message, *op, *tag, out),
             Request::GetMeasurements { op } => measure(place, message, *op, inventory, free, out),
@@ -147,7 +152,7 @@ impl RspSession {
         message: &[u8],
         verify: &'a [u8],
         out: &mut Frame,
-    ) -> Deed<'a>
+    ) -> RequestEffect<'a>
         ensures { (r : RspSetup) (s : Events) (f : Free) → StandsFor self.now r.psk s
             → IsPlace place.now (session_place s)
             → IsAllowed r s message.now (PskFinish verify.now)
@@ -156,7 +161,7 @@ impl RspSession {
         let hash = self.kept.terms.choice.hash;
         if self.exchange.is_verified(hash, message, verify) {
             write_finish_answer(out);
-            Deed::Finished { verify }
+            RequestEffect::Finished { verify }
         } else {
             refused(place, ErrorCode::DecryptError, message, out)
         }

@@ -9,7 +9,6 @@
 mod answer_key;
 mod answers;
 mod applying;
-mod deed;
 mod ended;
 mod exchange;
 mod handshake;
@@ -18,21 +17,23 @@ mod kept;
 mod last;
 mod last_read;
 mod laws;
+mod new_data;
 mod number;
 mod open;
 mod own_answers;
 mod parts;
 mod pending;
 mod queue;
+mod request_effect;
 mod requests;
 mod session;
 mod told;
 mod took;
 mod verifying;
+mod wiping;
 mod work;
 
 pub use answer_key::AnswerKey;
-pub use deed::RecordFree;
 pub use ended::RspEnded;
 pub use handshake::RspHandshake;
 pub use laws::{
@@ -42,6 +43,7 @@ pub use laws::{
 pub use open::RspOpen;
 pub use parts::ExchangeParts;
 pub use queue::{AppQueue, QueueFault};
+pub use request_effect::ResponseValues;
 pub use session::RspSession;
 pub use told::{RspAct, RspTold};
 pub use took::{RspState, RspTook};

@@ -1,6 +1,6 @@
 ghost use Rattle.spdm_grammar.specs.declared.names.TheConstants.{MAX_APP_DATA_LEN, MAX_OPAQUE_LEN, MAX_PADDING};
 
-use crate::{AppQueue, RecordFree, RspSession, RspTook, Work};
+use crate::{AppQueue, ResponseValues, RspSession, RspTook, Work};
 use hmac_hkdf::Drawn;
 use measurements::Inventory;
 use spdm_grammar::{SessionView, Stage};
@@ -17,7 +17,7 @@ impl RspOpen {
     ghost use Rattle.responder_machine.specs.Heard.{view_of};
     ghost use Rattle.responder_machine.specs.Session.{Events, taken_of};
     ghost use Rattle.responder_machine.specs.Setup.{RspSetup, inventory_of};
-    ghost use Rattle.responder_session.specs.Deeds.{AreFree};
+    ghost use Rattle.responder_session.specs.RequestEffects.{AreFree};
     ghost use Rattle.responder_session.specs.Open.{StandsFor};
     ghost use Rattle.responder_session.specs.Queue.{IsChosen, queue_after};
     ghost use Rattle.responder_session.specs.Took.{IsTook};
@@ -38,7 +38,7 @@ impl RspOpen {
         mut self,
         sealed: &[u8],
         inventory: &Inventory,
-        free: &RecordFree<'_>,
+        free: &ResponseValues<'_>,
     ) -> RspTook
         requires request_epoch { self.session.kept.request.epoch < 2 ^ 64 - 1 }
         requires response_epoch { self.session.kept.response.epoch < 2 ^ 64 - 1 }
@@ -71,7 +71,7 @@ impl RspOpen {
             → IsChosen draw.now app.old s f → StandsFor self r s → IsTook r s f sealed.now result }
         ensures app { app.new ≡ queue_after result app.old }
     {
-        let free = RecordFree {
+        let free = ResponseValues {
             nonce: &draw.bytes,
             opaque: &[],
             handle: self.session.next_handle(),

@@ -18,7 +18,7 @@ impl RspSession {
 
     /// The MEASUREMENTS that are pending get these bytes, which are sent in chunks; as many chunks of them are given as
     /// were.
-    pub fn put_pending(&mut self, answer: &[u8])
+    pub fn set_pending_bytes(&mut self, answer: &[u8])
         requires { length answer.now ≤ MAX_MESSAGE_SIZE }
         ensures { (r : RspSetup) (s : Events) → HasSizes r (session_terms s).common
             → (session_terms s).common.to_requester.transfer < length answer.now + 16

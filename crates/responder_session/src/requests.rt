@@ -8,14 +8,14 @@ ghost use Rattle.responder_machine.specs.Session.{Events, session_terms, stage_o
 ghost use Rattle.responder_machine.specs.Setup.{RspSetup, inventory_of};
 ghost use Rattle.spdm_grammar.specs.Message.RequestMessage.{ChunkGet, GetMeasurements, KeyUpdate};
 ghost use Rattle.spdm_grammar.specs.declared.told.phase.Stage.TheVariants.{Open};
-ghost use Rattle.responder_session.specs.Deeds.{AreFree, AreGiven, IsAllowed, IsDeed};
+ghost use Rattle.responder_session.specs.RequestEffects.{AreFree, AreGiven, IsAllowed, IsDeed};
 ghost use Rattle.responder_session.specs.Updates.{HasEpochs};
 ghost use Rattle.spdm_grammar.specs.declared.names.TheConstants.{MAX_OPAQUE_LEN};
 
-use crate::RecordFree;
+use crate::ResponseValues;
 use crate::answers::{write_chunk, write_update_answer};
-use crate::deed::Deed;
 use crate::judging::refused;
+use crate::request_effect::RequestEffect;
 use measurements::Inventory;
 use responder_rules::{LargeAnswer, Place, write_measurements};
 use spdm_basis::Frame;
@@ -39,7 +39,13 @@ pub fn fits_stage(stage: Stage, op: u8) -> bool
 }
 
 // What KEY_UPDATE does.
-pub fn update<'a>(place: &Place, message: &'a [u8], op: u8, tag: u8, out: &mut Frame) -> Deed<'a>
+pub fn update<'a>(
+    place: &Place,
+    message: &'a [u8],
+    op: u8,
+    tag: u8,
+    out: &mut Frame,
+) -> RequestEffect<'a>
     ensures { (r : RspSetup) (s : Events) (f : Free) → 1 ≤ op → op ≤ 3
         → IsPlace place.now (session_place s) → (stage_of s ≡ Open → HasEpochs s)
         → IsAllowed r s message.now (KeyUpdate op tag)
@@ -48,9 +54,9 @@ pub fn update<'a>(place: &Place, message: &'a [u8], op: u8, tag: u8, out: &mut F
     if fits_stage(place.stage, op) {
         write_update_answer(op, tag, out);
         if op == VERIFY_NEW_KEY {
-            Deed::Verified { tag }
+            RequestEffect::Verified { tag }
         } else {
-            Deed::Update {
+            RequestEffect::Update {
                 all: op == UPDATE_ALL_KEYS,
                 tag,
             }
@@ -66,9 +72,9 @@ pub fn measure<'a>(
     message: &'a [u8],
     op: u8,
     inventory: Option<&Inventory>,
-    free: &RecordFree<'_>,
+    free: &ResponseValues<'_>,
     out: &mut Frame,
-) -> Deed<'a>
+) -> RequestEffect<'a>
     requires nonce { length free.now.nonce.now ≡ 32 }
     requires opaque { length free.now.opaque.now ≤ MAX_OPAQUE_LEN }
     ensures { (r : RspSetup) (s : Events) (f : Free)
@@ -89,9 +95,9 @@ fn measure_of<'a>(
     message: &'a [u8],
     op: u8,
     inventory: &Inventory,
-    free: &RecordFree<'_>,
+    free: &ResponseValues<'_>,
     out: &mut Frame,
-) -> Deed<'a>
+) -> RequestEffect<'a>
     requires nonce { length free.now.nonce.now ≡ 32 }
     requires opaque { length free.now.opaque.now ≤ MAX_OPAQUE_LEN }
     ensures { (r : RspSetup) (s : Events) (f : Free) → inventory_of r ≡ inventory.now
@@ -105,15 +111,15 @@ fn measure_of<'a>(
     let len = write_measurements(inventory, op, free.nonce, free.opaque, out);
     if place.is_too_long(len as usize) {
         place.write_error(ErrorCode::ResponseTooLarge, message, len, out);
-        return Deed::Refused(ErrorCode::ResponseTooLarge);
+        return RequestEffect::Refused(ErrorCode::ResponseTooLarge);
     }
     if place.goes_large(len as usize) {
-        return Deed::Large {
+        return RequestEffect::Large {
             op,
             handle: free.handle,
         };
     }
-    Deed::Measured { op }
+    RequestEffect::Measured { op }
 }
 
 // What CHUNK_GET does.
@@ -124,7 +130,7 @@ pub fn give<'a>(
     handle: u8,
     number: u16,
     out: &mut Frame,
-) -> Deed<'a>
+) -> RequestEffect<'a>
     ensures { (r : RspSetup) (s : Events) (f : Free)
         → large_answers.StandsFor large.now (session_terms s).common.to_requester.transfer
         (turns_of s) → IsPlace place.now (session_place s)
@@ -135,7 +141,7 @@ pub fn give<'a>(
         None => refused(place, ErrorCode::InvalidRequest, message, out),
         Some(chunk) => {
             write_chunk(chunk, out);
-            Deed::Chunk { handle, number }
+            RequestEffect::Chunk { handle, number }
         }
     }
 }

@@ -7,7 +7,7 @@ ghost use Rattle.secured_record.specs.declared.TheConstants.{MAX_RECORD_SIZE, MI
 use crate::applying::Opened;
 use crate::exchange::{Exchange, handshake_with, write_answer};
 use crate::kept::Kept;
-use crate::{ExchangeParts, RecordFree, RspTold, Work};
+use crate::{ExchangeParts, ResponseValues, RspTold, Work};
 use measurements::Inventory;
 use responder_rules::{LargeAnswer, Place};
 use secured_record::{MIN_RECORD_SIZE, RecordFault};
@@ -63,7 +63,7 @@ impl RspSession {
     ghost use Rattle.session_keys.specs.Terms.{AreTermsOf};
     ghost use Rattle.spdm_grammar.specs.declared.told.phase.Stage.TheVariants.{Handshake, Open};
     ghost use Rattle.transcript.specs.Transcripts.{Negotiation, vca_of};
-    ghost use Rattle.responder_session.specs.Deeds.{AreGiven};
+    ghost use Rattle.responder_session.specs.RequestEffects.{AreGiven};
     ghost use Rattle.responder_session.specs.EndedTook.{IsEndedTold};
     ghost use Rattle.responder_session.specs.Exchange.{AreAnswered, AreParts, answer_for, begun};
     ghost use Rattle.responder_session.specs.Reply.{kept_reply, last_reply};
@@ -177,7 +177,7 @@ impl RspSession {
         &mut self,
         sealed: &[u8],
         inventory: &Inventory,
-        free: &RecordFree<'_>,
+        free: &ResponseValues<'_>,
         work: &mut Work,
     ) -> RspTold
         requires nonce { length free.now.nonce.now ≡ 32 }
@@ -199,7 +199,7 @@ impl RspSession {
         &mut self,
         sealed: &[u8],
         inventory: Option<&Inventory>,
-        free: &RecordFree<'_>,
+        free: &ResponseValues<'_>,
         work: &mut Work,
     ) -> RspTold
         requires nonce { length free.now.nonce.now ≡ 32 }

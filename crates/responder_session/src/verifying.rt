@@ -1,6 +1,6 @@
 ghost use Rattle.spdm_grammar.specs.declared.names.TheConstants.{MAX_PADDING};
 
-use crate::{RecordFree, RspSession, RspTook, Work};
+use crate::{ResponseValues, RspSession, RspTook, Work};
 use spdm_grammar::{SessionView, Stage};
 
 /// A session at the responder whose keys were updated, and that awaits VerifyNewKey.
@@ -40,7 +40,7 @@ impl RspVerifying {
         ensures { (r : RspSetup) (s : Events) (f : Free) → f.pad ≡ pad.now → StandsFor self r s
             → IsTook r s f sealed.now result }
     {
-        let free = RecordFree::padding(pad);
+        let free = ResponseValues::padding(pad);
         let told = self
             .session
             .take_given(sealed, None, &free, &mut Work::new());

@@ -18,8 +18,8 @@ use Rattle.script_text.specs.declared.configuration.config.ReqPart.{ReqPart}
 use Rattle.script_text.specs.declared.configuration.config_kind.ConfigKind.{ConfigKind}
 use Rattle.script_text.specs.declared.configuration.config_kind.ConfigKind.TheVariants as kind
 use Rattle.script_text.specs.declared.texts.faults.LineFault.TheVariants.{Incomplete, Order, Words}
-use Rattle.script_text.specs.declared.configuration.given.Given.{Given}
-use Rattle.script_text.specs.declared.configuration.given.RspLine.{RspLine}
+use Rattle.script_text.specs.declared.configuration.partial_config.PartialConfig.{PartialConfig}
+use Rattle.script_text.specs.declared.configuration.partial_config.RspLine.{RspLine}
 use Rattle.spdm_basis.proofs.Options.{both}
 use Rattle.script_laws.proofs.Words.{within, fits, bytes_in}
 use Rattle.spdm_agreement.proofs.Responder.Exchange.{both_hold}
@@ -37,13 +37,13 @@ abbrev pub is_apart : List ReqPart → RspLine → Bool
 is_apart requesters r = not (requester_has_eid r.eid.number requesters)
 
 -- Nothing is missing; a seed only where one is needed.
-pub record IsWhole (needs : Bool) (given : Given) : Type 0 where
+pub record IsWhole (needs : Bool) (given : PartialConfig) : Type 0 where
   pub seed : (needs && is_none given.seed) ≡ false
   pub responder : is_none given.responder ≡ false
   pub some : nat_eq (length given.requesters) 0 ≡ false
 
 -- No endpoint is 0, so that requesters are apart from that one wherever they are apart.
-pub record IsRight (needs : Bool) (given : Given) : Type 0 where
+pub record IsRight (needs : Bool) (given : PartialConfig) : Type 0 where
   pub seed : of_some (are_bytes_in 32 32) given.seed ≡ true
   pub opaque : of_some (are_bytes_in 0 1024) given.opaque ≡ true
   pub responder : of_some is_sound_line given.responder ≡ true
@@ -68,7 +68,7 @@ is_not b fails holds = absurd (false≢true (sym fails ∙ holds))
 
 -- ---- Seed and opaque data.
 
-seed_kept : (needs : Bool) (given : Given) (line : List ℕ) → seed_fault given line ≡ None → IsRight needs given → IsRight needs (after_seed given line)
+seed_kept : (needs : Bool) (given : PartialConfig) (line : List ℕ) → seed_fault given line ≡ None → IsRight needs given → IsRight needs (after_seed given line)
 unfolding seed_fault after_seed
 seed_kept needs given line h is =
     let a = both _ _ _ h in
@@ -84,7 +84,7 @@ seed_kept needs given line h is =
       whole = λ e. is_not given.ended a.0 e;
     }
 
-opaque_kept : (needs : Bool) (given : Given) (line : List ℕ) → opaque_fault given line ≡ None → IsRight needs given → IsRight needs (after_opaque given line)
+opaque_kept : (needs : Bool) (given : PartialConfig) (line : List ℕ) → opaque_fault given line ≡ None → IsRight needs given → IsRight needs (after_opaque given line)
 unfolding opaque_fault after_opaque
 opaque_kept needs given line h is =
     let a = both _ _ _ h in
@@ -113,7 +113,7 @@ one_block_more before (x ∷ blocks) b h fit =
     (one_block_more (before ++ x ∷ []) blocks b (and_second _ _ h) (rw (append_assoc before (x ∷ []) blocks) fit))
 
 -- what the tests of a block's line say
-record IsNewBlock (given : Given) (line : List ℕ) : Type 0 where
+record IsNewBlock (given : PartialConfig) (line : List ℕ) : Type 0 where
   not_ended : given.ended ≡ false
   index : is_number_in 1 254 (word 1 line) ≡ true
   value_type : is_number_in 0 255 (word 2 line) ≡ true
@@ -121,7 +121,7 @@ record IsNewBlock (given : Given) (line : List ℕ) : Type 0 where
   new : has_block (value_of (word 1 line)) given.blocks ≡ false
   room : nat_lt 4054 (sizes_of given.blocks + block_size (block_of line)) ≡ false
 
-is_new_block : (given : Given) (line : List ℕ) → block_fault given line ≡ None → IsNewBlock given line
+is_new_block : (given : PartialConfig) (line : List ℕ) → block_fault given line ≡ None → IsNewBlock given line
 unfolding block_fault
 is_new_block given line h =
     let a = both _ _ _ h in
@@ -134,7 +134,7 @@ is_new_block given line h =
     let i = both _ _ _ g.1 in
     record { not_ended = a.0; index = not-false _ c.0; value_type = not-false _ d.0; value = not-false _ f.0; new = g.0; room = i.0 }
 
-block_sound : (given : Given) (line : List ℕ) → IsNewBlock given line → block_fits given.blocks (block_of line) ≡ true
+block_sound : (given : PartialConfig) (line : List ℕ) → IsNewBlock given line → block_fits given.blocks (block_of line) ≡ true
 unfolding block_of
 block_sound given line is =
     let index = value_of (word 1 line) in
@@ -146,7 +146,7 @@ block_sound given line is =
     both_hold (is_sound_block (block_of line) && not (has_block index given.blocks)) (nat_le (sizes_of given.blocks + block_size (block_of line)) 4054) new
     (le-leb (sizes_of given.blocks + block_size (block_of line)) 4054 (ltb-false 4054 (sizes_of given.blocks + block_size (block_of line)) is.room))
 
-block_kept : (needs : Bool) (given : Given) (line : List ℕ) → block_fault given line ≡ None → IsRight needs given → IsRight needs (after_block given line)
+block_kept : (needs : Bool) (given : PartialConfig) (line : List ℕ) → block_fault given line ≡ None → IsRight needs given → IsRight needs (after_block given line)
 unfolding after_block
 block_kept needs given line h is = let new = is_new_block given line h in record {
   seed = is.seed;
@@ -186,7 +186,7 @@ end_sound limit line numbers flags =
     (both_hold (t_is && m_is && u_is) (nat_le o limit) (both_hold (t_is && m_is) u_is (both_hold t_is m_is transfer max) unit) (and_second (nat_le 0 o) (nat_le o limit) own))
     (and_second (is_flags (word 6 line)) wide flags)
 
-responder_kept : (needs : Bool) (given : Given) (line : List ℕ) → responder_fault given line ≡ None → IsRight needs given → IsRight needs (after_responder given line)
+responder_kept : (needs : Bool) (given : PartialConfig) (line : List ℕ) → responder_fault given line ≡ None → IsRight needs given → IsRight needs (after_responder given line)
 unfolding responder_fault after_responder
 responder_kept needs given line h is =
     let a = both _ _ _ h in
@@ -236,7 +236,7 @@ not_zero : (q : ReqPart) → nat_eq 0 q.eid.number ≡ false
 not_zero q = ne_eqb 0 q.eid.number (let low = q.eid.low in omega (arith, low))
 
 -- what the tests of a requester's line say
-record IsNew (given : Given) (line : List ℕ) : Type 0 where
+record IsNew (given : PartialConfig) (line : List ℕ) : Type 0 where
   not_ended : given.ended ≡ false
   numbers : has_numbers 16 line ≡ true
   flags : has_flags line ≡ true
@@ -248,7 +248,7 @@ record IsNew (given : Given) (line : List ℕ) : Type 0 where
   new_eid : requester_has_eid (numbers_of line).eid.number given.requesters ≡ false
   new_psk : has_psk (bytes_of (word 8 line)) given.requesters ≡ false
 
-is_new : (given : Given) (line : List ℕ) → requester_fault given line ≡ None → IsNew given line
+is_new : (given : PartialConfig) (line : List ℕ) → requester_fault given line ≡ None → IsNew given line
 unfolding requester_fault
 is_new given line h =
     let a = both _ _ _ h in
@@ -275,7 +275,7 @@ is_new given line h =
       new_psk = k.0;
     }
 
-requester_fits_line : (given : Given) (line : List ℕ) → IsNew given line → requester_fits 0 given.requesters (requester_of line) ≡ true
+requester_fits_line : (given : PartialConfig) (line : List ℕ) → IsNew given line → requester_fits 0 given.requesters (requester_of line) ≡ true
 unfolding requester_of
 requester_fits_line given line new =
     let end = end_sound 16 line new.numbers new.flags in
@@ -289,7 +289,7 @@ requester_eid : (line : List ℕ) → (requester_of line).eid ≡ (numbers_of li
 unfolding requester_of
 requester_eid line = refl
 
-requester_kept : (needs : Bool) (given : Given) (line : List ℕ) → requester_fault given line ≡ None → IsRight needs given → IsRight needs (after_requester given line)
+requester_kept : (needs : Bool) (given : PartialConfig) (line : List ℕ) → requester_fault given line ≡ None → IsRight needs given → IsRight needs (after_requester given line)
 unfolding after_requester
 requester_kept needs given line h is =
     let new = is_new given line h in
@@ -338,11 +338,11 @@ apart_with : (r : Option RspLine) (n : ℕ) (suites : Suites) (qs : List ReqPart
 apart_with None n suites qs h = refl
 apart_with (Some r) n suites qs h = rw (any_with r.eid.number n suites qs) h
 
-suite_open : (given : Given) (line : List ℕ) → suite_fault given line ≡ None → given.ended ≡ false
+suite_open : (given : PartialConfig) (line : List ℕ) → suite_fault given line ≡ None → given.ended ≡ false
 unfolding suite_fault
 suite_open given line h = let a = both _ _ _ h in (both _ _ _ a.1).0
 
-suite_kept_of : (needs : Bool) (end : ℕ) (suites : Suites) (given : Given) → given.ended ≡ false → IsRight needs given → IsRight needs (after_suite_of end suites given)
+suite_kept_of : (needs : Bool) (end : ℕ) (suites : Suites) (given : PartialConfig) → given.ended ≡ false → IsRight needs given → IsRight needs (after_suite_of end suites given)
 suite_kept_of needs zero suites given open_ is = record {
   seed = is.seed;
   opaque = is.opaque;
@@ -366,13 +366,13 @@ suite_kept_of needs (suc n) suites given open_ is = record {
   whole = λ e. is_not given.ended open_ e;
 }
 
-suite_kept : (needs : Bool) (given : Given) (line : List ℕ) → suite_fault given line ≡ None → IsRight needs given → IsRight needs (after_suite given line)
+suite_kept : (needs : Bool) (given : PartialConfig) (line : List ℕ) → suite_fault given line ≡ None → IsRight needs given → IsRight needs (after_suite given line)
 unfolding after_suite
 suite_kept needs given line h is = suite_kept_of needs (suite_end line) (suites_in line) given (suite_open given line h) is
 
 -- ---- The end.
 
-end_kept : (needs : Bool) (given : Given) (line : List ℕ) → end_fault needs given line ≡ None → IsRight needs given → IsRight needs (after_end given)
+end_kept : (needs : Bool) (given : PartialConfig) (line : List ℕ) → end_fault needs given line ≡ None → IsRight needs given → IsRight needs (after_end given)
 unfolding end_fault after_end
 end_kept needs given line h is =
     let missing = is_none given.responder || nat_eq (length given.requesters) 0 || needs && is_none given.seed in
@@ -393,7 +393,7 @@ end_kept needs given line h is =
 
 -- ---- A line of any kind.
 
-pub config_open : (needs : Bool) (given : Given) (k : ConfigKind) (line : List ℕ) → config_fault needs given k line ≡ None → given.ended ≡ false
+pub config_open : (needs : Bool) (given : PartialConfig) (k : ConfigKind) (line : List ℕ) → config_fault needs given k line ≡ None → given.ended ≡ false
 unfolding seed_fault responder_fault opaque_fault block_fault requester_fault end_fault
 config_open needs given kind.Seed line h = (both _ _ _ h).0
 config_open needs given kind.Responder line h = (both _ _ _ h).0
@@ -403,7 +403,7 @@ config_open needs given kind.Requester line h = (both _ _ _ h).0
 config_open needs given kind.Suite line h = suite_open given line h
 config_open needs given kind.End line h = (both _ _ _ h).0
 
-pub config_kept : (needs : Bool) (given : Given) (k : ConfigKind) (line : List ℕ) → config_fault needs given k line ≡ None → IsRight needs given → IsRight needs (after_config given k line)
+pub config_kept : (needs : Bool) (given : PartialConfig) (k : ConfigKind) (line : List ℕ) → config_fault needs given k line ≡ None → IsRight needs given → IsRight needs (after_config given k line)
 config_kept needs given kind.Seed line h is = seed_kept needs given line h is
 config_kept needs given kind.Responder line h is = responder_kept needs given line h is
 config_kept needs given kind.Opaque line h is = opaque_kept needs given line h is

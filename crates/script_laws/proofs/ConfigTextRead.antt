@@ -8,7 +8,7 @@ use Rattle.script_text.specs.Lines.{lines_of, word}
 use Rattle.script_text.specs.Sound.{IsSoundConfig, are_bytes_in}
 use Rattle.script_text.specs.declared.configuration.config.ScriptConfig.{ScriptConfig}
 use Rattle.script_text.specs.declared.configuration.config_kind.ConfigKind.{ConfigKind}
-use Rattle.script_text.specs.declared.configuration.given.Given.{Given}
+use Rattle.script_text.specs.declared.configuration.partial_config.PartialConfig.{PartialConfig}
 use Rattle.script_laws.proofs.ConfigRead.{IsRight, nothing_right, config_kept}
 use Rattle.script_laws.proofs.EndsRight.{sound_has_no_fault}
 use Rattle.script_laws.proofs.ReadLines.{held}
@@ -16,11 +16,11 @@ use Rattle.script_laws.proofs.ScriptRead.{given_sound, seeded}
 use Rattle.script_laws.specs.Ends.{ConfiguredEndsHaveNoFault, HasNoFault}
 use Rattle.spdm_basis.proofs.Options.{both}
 
-kind_kept : (given : Given) (k : Option ConfigKind) (line : List ℕ) → kind_fault false given k line ≡ None → IsRight false given → IsRight false (after_kind given k line)
+kind_kept : (given : PartialConfig) (k : Option ConfigKind) (line : List ℕ) → kind_fault false given k line ≡ None → IsRight false given → IsRight false (after_kind given k line)
 kind_kept given None line h right = absurd (none-some _ (sym h))
 kind_kept given (Some k) line h right = config_kept false given k line h right
 
-line_kept : (given : Given) (number : ℕ) (line : List ℕ) → config_text_fault given line ≡ None → IsRight false given → IsRight false (after_config_text given number line)
+line_kept : (given : PartialConfig) (number : ℕ) (line : List ℕ) → config_text_fault given line ≡ None → IsRight false given → IsRight false (after_config_text given number line)
 line_kept given number line h right = kind_kept given (config_kind (word 0 line)) line (both _ _ _ h).1 right
 
 -- with any seed it is in range

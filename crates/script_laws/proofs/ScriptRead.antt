@@ -16,8 +16,8 @@ use Rattle.script_text.specs.declared.configuration.config_kind.ConfigKind.{Conf
 use Rattle.script_text.specs.declared.events.event.Entry.{Entry}
 use Rattle.script_text.specs.declared.events.event_kind.EventKind.{EventKind}
 use Rattle.script_text.specs.declared.texts.faults.LineFault.{LineFault}
-use Rattle.script_text.specs.declared.configuration.given.Given.{Given}
-use Rattle.script_text.specs.declared.configuration.given.RspLine.{RspLine}
+use Rattle.script_text.specs.declared.configuration.partial_config.PartialConfig.{PartialConfig}
+use Rattle.script_text.specs.declared.configuration.partial_config.RspLine.{RspLine}
 use Rattle.script_text.specs.declared.texts.script.Script.{Script}
 use Rattle.script_text.specs.declared.texts.script_lines.ScriptReader.{ScriptReader}
 use Rattle.script_laws.proofs.ConfigRead.{IsRight, of_some, is_apart, is_sound_line, nothing_right, config_open, config_kept, requester_fits, other_way}
@@ -101,7 +101,7 @@ opaque_bytes None sound = refl
 opaque_bytes (Some bytes) sound = sound
 
 -- the configuration with this responder
-abbrev config_by : RspLine → Given → ScriptConfig
+abbrev config_by : RspLine → PartialConfig → ScriptConfig
 config_by r given = record {
   seed = given.seed;
   responder = responder_part r (unwrap_or given.opaque []) given.responder_suites;
@@ -114,7 +114,7 @@ abbrev pub seeded : List ℕ → ScriptConfig → ScriptConfig
 seeded bytes config = record config { seed = Some bytes }
 
 -- with any seed it is in range
-with_seed : (needs : Bool) (given : Given) (r : RspLine) (bytes : List ℕ) → are_bytes_in 32 32 bytes ≡ true → given.responder ≡ Some r → given.ended ≡ true → IsRight needs given →
+with_seed : (needs : Bool) (given : PartialConfig) (r : RspLine) (bytes : List ℕ) → are_bytes_in 32 32 bytes ≡ true → given.responder ≡ Some r → given.ended ≡ true → IsRight needs given →
     IsSoundConfig (seeded bytes (config_by r given))
 with_seed needs given r bytes size is ended right =
     let whole = right.whole ended in
@@ -130,13 +130,13 @@ with_seed needs given r bytes size is ended right =
       requesters = apart_from r.eid.number [] given.requesters (not-true _ apart) right.requesters;
     }
 
-config_sound : (given : Given) (r : RspLine) → given.responder ≡ Some r → given.ended ≡ true → IsRight true given → IsSoundConfig (config_by r given)
+config_sound : (given : PartialConfig) (r : RspLine) → given.responder ≡ Some r → given.ended ≡ true → IsRight true given → IsSoundConfig (config_by r given)
 config_sound given r is ended right =
     let whole = right.whole ended in
     let seed = some_bytes given.seed whole.seed right.seed in
     subst (λ (o : Option (List ℕ)). IsSoundConfig (record (config_by r given) { seed = o })) (sym seed.1) (with_seed true given r seed.0 seed.2 is ended right)
 
-with_by : (given : Given) (o : Option RspLine) (config : ScriptConfig) → given.responder ≡ o → config_with o given ≡ Some config → given.ended ≡ true → IsRight true given →
+with_by : (given : PartialConfig) (o : Option RspLine) (config : ScriptConfig) → given.responder ≡ o → config_with o given ≡ Some config → given.ended ≡ true → IsRight true given →
     IsSoundConfig config × (given.requesters ≡ config.requesters)
 with_by given None config is h ended right = absurd (none-some config h)
 with_by given (Some r) config is h ended right =
@@ -148,14 +148,14 @@ by_end true o config h = (refl, h)
 by_end false o config h = absurd (none-some config h)
 
 -- what was read of a configuration, with any seed
-given_by : (given : Given) (o : Option RspLine) (config : ScriptConfig) (bytes : List ℕ) → are_bytes_in 32 32 bytes ≡ true → given.responder ≡ o → config_with o given ≡ Some config →
+given_by : (given : PartialConfig) (o : Option RspLine) (config : ScriptConfig) (bytes : List ℕ) → are_bytes_in 32 32 bytes ≡ true → given.responder ≡ o → config_with o given ≡ Some config →
     given.ended ≡ true → IsRight false given → IsSoundConfig (seeded bytes config)
 given_by given None config bytes size is h ended right = absurd (none-some config h)
 given_by given (Some r) config bytes size is h ended right =
     let same : config_by r given ≡ config = ap (λ (o : Option ScriptConfig). unwrap_or o (config_by r given)) h in
     subst (λ (c : ScriptConfig). IsSoundConfig (seeded bytes c)) same (with_seed false given r bytes size is ended right)
 
-pub given_sound : (given : Given) (config : ScriptConfig) (bytes : List ℕ) → are_bytes_in 32 32 bytes ≡ true → config_of given ≡ Some config → IsRight false given → IsSoundConfig (seeded bytes config)
+pub given_sound : (given : PartialConfig) (config : ScriptConfig) (bytes : List ℕ) → are_bytes_in 32 32 bytes ≡ true → config_of given ≡ Some config → IsRight false given → IsSoundConfig (seeded bytes config)
 given_sound given config bytes size h right =
     let ended = by_end given.ended (config_with given.responder given) config h in
     given_by given given.responder config bytes size refl ended.1 ended.0 right

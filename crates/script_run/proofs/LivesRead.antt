@@ -15,8 +15,8 @@ use Rattle.script_text.specs.ScriptText.{after_lives, after_lives_event, after_l
 use Rattle.script_text.specs.Sound.{IsSoundConfig, are_bytes_in}
 use Rattle.script_text.specs.declared.configuration.config.ScriptConfig.{ScriptConfig}
 use Rattle.script_text.specs.declared.configuration.config_kind.ConfigKind.{ConfigKind}
-use Rattle.script_text.specs.declared.configuration.given.Given.{Given}
-use Rattle.script_text.specs.declared.configuration.given.RspLine.{RspLine}
+use Rattle.script_text.specs.declared.configuration.partial_config.PartialConfig.{PartialConfig}
+use Rattle.script_text.specs.declared.configuration.partial_config.RspLine.{RspLine}
 use Rattle.script_text.specs.declared.events.event_kind.EventKind.{EventKind}
 use Rattle.script_text.specs.declared.texts.faults.LineFault.{LineFault}
 use Rattle.script_text.specs.declared.texts.faults.LineFault.TheVariants.{Order, TooManyEvents, Unknown, Words}
@@ -74,11 +74,11 @@ by_end : (ended : Bool) (o : Option ScriptConfig) (config : ScriptConfig) → (i
 by_end true o config is = (refl, is)
 by_end false o config is = absurd (none-some config is)
 
-seed_is : (given : Given) (o : Option RspLine) (config : ScriptConfig) → config_with o given ≡ Some config → given.seed ≡ config.seed
+seed_is : (given : PartialConfig) (o : Option RspLine) (config : ScriptConfig) → config_with o given ≡ Some config → given.seed ≡ config.seed
 seed_is given None config is = absurd (none-some config is)
 seed_is given (Some r) config is = ap (λ (o : Option ScriptConfig). (unwrap_or o config).seed) is
 
-with_seed : (given : Given) (config : ScriptConfig) (o : Option (List ℕ)) → given.seed ≡ o → o ≡ config.seed → is_none o ≡ false → of_some (are_bytes_in 32 32) o ≡ true → config_of given ≡ Some config →
+with_seed : (given : PartialConfig) (config : ScriptConfig) (o : Option (List ℕ)) → given.seed ≡ o → o ≡ config.seed → is_none o ≡ false → of_some (are_bytes_in 32 32) o ≡ true → config_of given ≡ Some config →
     IsRight true given → IsSoundConfig config
 with_seed given config None same own some sound is right = absurd (false≢true (sym some))
 with_seed given config (Some bytes) same own some sound is right =
@@ -93,7 +93,7 @@ with_seed given config (Some bytes) same own some sound is right =
       whole = λ ended. let whole = right.whole ended in record { seed = refl; responder = whole.responder; some = whole.some };
     }))
 
-config_sound : (given : Given) (config : ScriptConfig) → config_of given ≡ Some config → IsRight true given → IsSoundConfig config
+config_sound : (given : PartialConfig) (config : ScriptConfig) → config_of given ≡ Some config → IsRight true given → IsSoundConfig config
 config_sound given config is right =
     let ended = by_end given.ended (config_with given.responder given) config is in
     with_seed given config given.seed refl (seed_is given given.responder config ended.1) (right.whole ended.0).seed right.seed is right

@@ -20,8 +20,8 @@ use Rattle.script_text.specs.Sound.{IsSoundConfig, is_sound_block, are_sound_blo
 use Rattle.trace_text.specs.Spelling.{with_words, requester_word}
 use Rattle.script_text.specs.declared.configuration.config.ReqPart.{ReqPart}
 use Rattle.script_text.specs.declared.configuration.config.ScriptConfig.{ScriptConfig}
-use Rattle.script_text.specs.declared.configuration.given.Given.{Given}
-use Rattle.script_text.specs.declared.configuration.given.RspLine.{RspLine}
+use Rattle.script_text.specs.declared.configuration.partial_config.PartialConfig.{PartialConfig}
+use Rattle.script_text.specs.declared.configuration.partial_config.RspLine.{RspLine}
 use Rattle.script_text.specs.declared.texts.script.Script.{Script}
 use Rattle.script_text.specs.declared.texts.script_lines.ScriptReader.{ScriptReader}
 use Rattle.script_text.proofs.PlainWords.{length-with_words, long_words}
@@ -31,11 +31,11 @@ use Rattle.script_text.proofs.PrintedLines.{line_of, words_of-line_of_some, line
 use Rattle.script_text.proofs.ReadBack.{read_script, printed_events}
 
 -- a reader of a script without events
-abbrev pub reader_of : Given → ScriptReader
+abbrev pub reader_of : PartialConfig → ScriptReader
 reader_of given = record { given = given; events = [] }
 
 -- a text of whole lines is read, and leaves this
-pub record Reads (text : List ℕ) (given : Given) : Type 0 where
+pub record Reads (text : List ℕ) (given : PartialConfig) : Type 0 where
   pub ends : (more : List ℕ) → lines_of (text ++ more) ≡ lines_of text ++ lines_of more
   pub goes_on : (more : List (List ℕ)) → read_script 1 (reader_of nothing_given) (lines_of text ++ more) ≡ read_script (1 + length (lines_of text)) (reader_of given) more
 
@@ -44,7 +44,7 @@ nothing_read = record { ends = λ more. refl; goes_on = λ more. refl }
 
 -- ---- one line more
 
-short_line : (given after : Given) (words : List (List ℕ)) (t : IsTaken given words after) → is_too_long (line_of words) ≡ false
+short_line : (given after : PartialConfig) (words : List (List ℕ)) (t : IsTaken given words after) → is_too_long (line_of words) ≡ false
 short_line given after words t =
     let short : long_words ((t.first ∷ t.rest) ∷ t.others) ≤ 16200 = rw t.begins at t.short in
     let step : long_words ((t.first ∷ t.rest) ∷ t.others) ≡ suc (length (t.first ∷ t.rest)) + long_words t.others = refl in
@@ -52,27 +52,27 @@ short_line given after words t =
     let few : length (with_words (t.first ∷ t.rest) t.others) ≤ 16384 = omega (arith, short, step, long) in
     rw t.begins (grind (arith, nat_tests, few))
 
-shown_line : (given after : Given) (words : List (List ℕ)) (t : IsTaken given words after) → is_passed_over (line_of words) ≡ false
+shown_line : (given after : PartialConfig) (words : List (List ℕ)) (t : IsTaken given words after) → is_passed_over (line_of words) ≡ false
 shown_line given after words t =
     let first : with_words (t.first ∷ t.rest) t.others ≡ t.first ∷ with_words t.rest t.others = with_words-append (t.first ∷ []) t.rest t.others in
     let some : nat_eq (length (t.first ∷ with_words t.rest t.others)) 0 ≡ false = ne_eqb _ _ (omega arith) in
     rw (t.begins, first, some, t.no_comment) refl
 
-taken_fault : (given after : Given) (words : List (List ℕ)) (t : IsTaken given words after) → line_fault script_fault (reader_of given) (line_of words) ≡ None
+taken_fault : (given after : PartialConfig) (words : List (List ℕ)) (t : IsTaken given words after) → line_fault script_fault (reader_of given) (line_of words) ≡ None
 taken_fault given after words t =
     let some : 0 < length words = rw t.begins (omega arith) in
     let are : words_of (line_of words) ≡ words = words_of-line_of_some words t.plain some in
     let first : word 0 (line_of words) ≡ t.first ∷ t.rest = rw (are, t.begins) refl in
     rw (short_line given after words t, shown_line given after words t, first, t.is_kind) (t.good (line_of words) are)
 
-taken_after : (given after : Given) (words : List (List ℕ)) (number : ℕ) (t : IsTaken given words after) → after_line after_script (reader_of given) number (line_of words) ≡ reader_of after
+taken_after : (given after : PartialConfig) (words : List (List ℕ)) (number : ℕ) (t : IsTaken given words after) → after_line after_script (reader_of given) number (line_of words) ≡ reader_of after
 taken_after given after words number t =
     let some : 0 < length words = rw t.begins (omega arith) in
     let are : words_of (line_of words) ≡ words = words_of-line_of_some words t.plain some in
     let first : word 0 (line_of words) ≡ t.first ∷ t.rest = rw (are, t.begins) refl in
     rw (shown_line given after words t, first, t.is_kind) (ap reader_of (t.leads (line_of words) are))
 
-one_more : (text : List ℕ) (given after : Given) (words : List (List ℕ)) → Reads text given → IsTaken given words after → Reads (with_line text words) after
+one_more : (text : List ℕ) (given after : PartialConfig) (words : List (List ℕ)) → Reads text given → IsTaken given words after → Reads (with_line text words) after
 one_more text given after words r t =
     let some : 0 < length words = rw t.begins (omega arith) in
     let line = line_of words in
@@ -96,7 +96,7 @@ not_true : (b : Bool) → not b ≡ true → b ≡ false
 not_true true h = sym h
 not_true false h = refl
 
-blocks_read : (text : List ℕ) (given : Given) (blocks : List BlockSpec) → Reads text given → given.ended ≡ false → are_sound_blocks given.blocks blocks ≡ true →
+blocks_read : (text : List ℕ) (given : PartialConfig) (blocks : List BlockSpec) → Reads text given → given.ended ≡ false → are_sound_blocks given.blocks blocks ≡ true →
     Reads (fold with_block text blocks) (record given { blocks = given.blocks ++ blocks })
 blocks_read text given [] r open_ sound = rw (append-nil given.blocks) r
 blocks_read text given (b ∷ blocks) r open_ sound =
@@ -104,7 +104,7 @@ blocks_read text given (b ∷ blocks) r open_ sound =
     let c = and_parts (is_sound_block b && not (has_block b.index given.blocks)) (nat_le (sizes_of given.blocks + block_size b) 4054) a.0 in
     let d = and_parts (is_sound_block b) (not (has_block b.index given.blocks)) c.0 in
     let room : nat_lt 4054 (sizes_of given.blocks + block_size b) ≡ false = grind (arith, nat_tests, c.1) in
-    let after : Given = record given { blocks = given.blocks ++ b ∷ [] } in
+    let after : PartialConfig = record given { blocks = given.blocks ++ b ∷ [] } in
     let here = one_more text given after (block_words b) r (block_taken given b open_ d.0 (not_true (has_block b.index given.blocks) d.1) room) in
     let rest = blocks_read (with_block text b) after blocks here open_ a.1 in
     rw (append_assoc given.blocks (b ∷ []) blocks) at rest
@@ -117,7 +117,7 @@ psk_small : (psk : List ℕ) (before : List ReqPart) → has_psk psk (map small 
 psk_small psk [] = refl
 psk_small psk (q ∷ before) = ap (λ b. bytes_eq q.psk psk || b) (psk_small psk before)
 
-requesters_read : (text : List ℕ) (given : Given) (r : RspLine) (before requesters : List ReqPart) → Reads text given → given.ended ≡ false → given.responder ≡ Some r → given.requesters ≡ map small before →
+requesters_read : (text : List ℕ) (given : PartialConfig) (r : RspLine) (before requesters : List ReqPart) → Reads text given → given.ended ≡ false → given.responder ≡ Some r → given.requesters ≡ map small before →
     are_sound_requesters r.eid.number before requesters ≡ true → Reads (fold with_requester text requesters) (record given { requesters = map small (before ++ requesters) })
 requesters_read text given r before [] reads open_ responder are sound = rw (append-nil before, ← are) reads
 requesters_read text given r before (q ∷ requesters) reads open_ responder are sound =
@@ -130,7 +130,7 @@ requesters_read text given r before (q ∷ requesters) reads open_ responder are
     let room : nat_le 8 (length given.requesters) ≡ false = rw count (grind (arith, nat_tests, d.1)) in
     let new_eid : (nat_eq r.eid.number q.eid.number || requester_has_eid q.eid.number given.requesters) ≡ false = rw (are, any_small q.eid.number before) (not_true same c.1) in
     let new_psk : has_psk q.psk given.requesters ≡ false = rw (are, psk_small q.psk before) (not_true (has_psk q.psk before) b.1) in
-    let after : Given = record given { requesters = given.requesters ++ small q ∷ [] } in
+    let after : PartialConfig = record given { requesters = given.requesters ++ small q ∷ [] } in
     let here = one_more text given after (requester_words q) reads (requester_taken given r q open_ responder d.0 room new_eid new_psk) in
     let behind : after.requesters ≡ map small (before ++ q ∷ []) = ap (λ qs. qs ++ small q ∷ []) are ∙ sym (map-append small before (q ∷ [])) in
     let rest = requesters_read (with_requester text q) after r (before ++ q ∷ []) requesters here open_ responder behind a.1 in
@@ -153,12 +153,12 @@ still_free : (n : ℕ) (flags : List Bool) → AreFree n flags → AreFree (n + 
 still_free n flags free = λ k h. let ne : k ≢ n = omega arith in rw get_or-set_other (free k (omega arith))
 
 -- the responder has its algorithms
-record HasResponderSuites (text : List ℕ) (given : Given) (suites : Suites) : Type 0 where
+record HasResponderSuites (text : List ℕ) (given : PartialConfig) (suites : Suites) : Type 0 where
   flags : List Bool
   reads : Reads text (record given { responder_suites = suites; has_suites = flags })
   free : AreFree 1 flags
 
-responder_suites_by : (text : List ℕ) (given : Given) (suites : Suites) (is_same : Bool) → (is_small suites.hash && is_small suites.aead) ≡ is_same → Reads text given → given.ended ≡ false → given.responder_suites ≡ small_suites → AreFree 0 given.has_suites →
+responder_suites_by : (text : List ℕ) (given : PartialConfig) (suites : Suites) (is_same : Bool) → (is_small suites.hash && is_small suites.aead) ≡ is_same → Reads text given → given.ended ≡ false → given.responder_suites ≡ small_suites → AreFree 0 given.has_suites →
     HasResponderSuites (cond is_same text (with_line text (suite_words (codes "r") suites))) given suites
 responder_suites_by text given suites true e r open_ before free = record {
   flags = given.has_suites;
@@ -171,7 +171,7 @@ responder_suites_by text given suites false e r open_ before free = record {
   free = still_free 0 given.has_suites free;
 }
 
-responder_suites_read : (text : List ℕ) (given : Given) (suites : Suites) → Reads text given → given.ended ≡ false → given.responder_suites ≡ small_suites → AreFree 0 given.has_suites →
+responder_suites_read : (text : List ℕ) (given : PartialConfig) (suites : Suites) → Reads text given → given.ended ≡ false → given.responder_suites ≡ small_suites → AreFree 0 given.has_suites →
     HasResponderSuites (with_suite text (codes "r") suites) given suites
 responder_suites_read text given suites r open_ before free = responder_suites_by text given suites (is_small suites.hash && is_small suites.aead) refl r open_ before free
 
@@ -180,17 +180,17 @@ with_suites-at [] suites q rest = refl
 with_suites-at (x ∷ front) suites q rest = ap (λ qs. x ∷ qs) (with_suites-at front suites q rest)
 
 -- the requesters have their algorithms
-record HasRequesterSuites (text : List ℕ) (given : Given) (requesters : List ReqPart) : Type 0 where
+record HasRequesterSuites (text : List ℕ) (given : PartialConfig) (requesters : List ReqPart) : Type 0 where
   flags : List Bool
   reads : Reads text (record given { requesters = requesters; has_suites = flags })
 
 -- one requester more has its algorithms
-record HasOneMore (text : List ℕ) (given : Given) (n : ℕ) (requesters : List ReqPart) : Type 0 where
+record HasOneMore (text : List ℕ) (given : PartialConfig) (n : ℕ) (requesters : List ReqPart) : Type 0 where
   flags : List Bool
   reads : Reads text (record given { requesters = requesters; has_suites = flags })
   free : AreFree (n + 1) flags
 
-suites_by : (text : List ℕ) (given : Given) (front : List ReqPart) (q : ReqPart) (rest : List ReqPart) (is_same : Bool) → (is_small q.suites.hash && is_small q.suites.aead) ≡ is_same → Reads text given → given.ended ≡ false →
+suites_by : (text : List ℕ) (given : PartialConfig) (front : List ReqPart) (q : ReqPart) (rest : List ReqPart) (is_same : Bool) → (is_small q.suites.hash && is_small q.suites.aead) ≡ is_same → Reads text given → given.ended ≡ false →
     given.requesters ≡ front ++ small q ∷ rest → length front < 8 → AreFree (suc (length front)) given.has_suites →
     HasOneMore (cond is_same text (with_line text (suite_words (requester_word (suc (length front))) q.suites))) given (suc (length front)) (front ++ q ∷ rest)
 suites_by text given front q rest true e r open_ are few free =
@@ -213,13 +213,13 @@ suites_by text given front q rest false e r open_ are few free =
       free = still_free (suc m) given.has_suites free;
     }
 
-requester_suites_read : (text : List ℕ) (given : Given) (n : ℕ) (front requesters : List ReqPart) → Reads text given → given.ended ≡ false → given.requesters ≡ front ++ map small requesters → n ≡ suc (length front) →
+requester_suites_read : (text : List ℕ) (given : PartialConfig) (n : ℕ) (front requesters : List ReqPart) → Reads text given → given.ended ≡ false → given.requesters ≡ front ++ map small requesters → n ≡ suc (length front) →
     length front + length requesters ≤ 8 → AreFree n given.has_suites → HasRequesterSuites (with_requester_suites text n requesters) given (front ++ requesters)
 requester_suites_read text given n front [] r open_ are count few free = record { flags = given.has_suites; reads = rw (← are) r }
 requester_suites_read text given n front (q ∷ requesters) r open_ are count few free =
     let free_here : AreFree (suc (length front)) given.has_suites = rw count at free in
     let one = suites_by text given front q (map small requesters) (is_small q.suites.hash && is_small q.suites.aead) refl r open_ are (omega (arith, few)) free_here in
-    let after : Given = record given { requesters = front ++ q ∷ map small requesters; has_suites = one.flags } in
+    let after : PartialConfig = record given { requesters = front ++ q ∷ map small requesters; has_suites = one.flags } in
     let next : after.requesters ≡ (front ++ q ∷ []) ++ map small requesters = sym (append_assoc front (q ∷ []) (map small requesters)) in
     let long : length (front ++ q ∷ []) ≡ length front + 1 = length-append front (q ∷ []) in
     let counted : n + 1 ≡ suc (length (front ++ q ∷ [])) = omega (arith, count, long) in
@@ -239,7 +239,7 @@ abbrev opaque_given : List ℕ → Option (List ℕ)
 opaque_given [] = None
 opaque_given (b ∷ bytes) = Some (b ∷ bytes)
 
-opaque_read : (text : List ℕ) (given : Given) (bytes : List ℕ) → Reads text given → given.ended ≡ false → given.opaque ≡ None → are_bytes_in 0 1024 bytes ≡ true → Reads (with_opaque text bytes) (record given { opaque = opaque_given bytes })
+opaque_read : (text : List ℕ) (given : PartialConfig) (bytes : List ℕ) → Reads text given → given.ended ≡ false → given.opaque ≡ None → are_bytes_in 0 1024 bytes ≡ true → Reads (with_opaque text bytes) (record given { opaque = opaque_given bytes })
 opaque_read text given [] r open_ none sound = rw (← none) r
 opaque_read text given (b ∷ bytes) r open_ none sound = one_more text given (record given { opaque = Some (b ∷ bytes) }) (opaque_words (b ∷ bytes)) r (opaque_taken given (b ∷ bytes) open_ none sound)
 
@@ -253,7 +253,7 @@ seed_read seed bytes is sound =
     subst P (sym is) (one_more [] nothing_given (record nothing_given { seed = Some bytes }) (seed_words bytes) nothing_read (seed_taken nothing_given bytes refl refl sound))
 
 -- what the lines of the ends leave
-abbrev ends_given : ScriptConfig → Given
+abbrev ends_given : ScriptConfig → PartialConfig
 ends_given config = record {
   seed = config.seed;
   responder = Some (line_of_responder config.responder);
@@ -277,11 +277,11 @@ ends_read : (config : ScriptConfig) → IsSoundConfig config → Reads (ends_tex
 ends_read config sound =
     let r = config.responder in
     let parts = and_parts (is_sound_end 255 r.transfer r.max r.unit r.beat r.flags) (are_bytes_in 0 1024 r.opaque) sound.responder in
-    let g1 : Given = record nothing_given { seed = config.seed } in
+    let g1 : PartialConfig = record nothing_given { seed = config.seed } in
     let r1 = seed_read config.seed sound.seed_bytes sound.seed sound.seed_size in
-    let g2 : Given = record g1 { responder = Some (line_of_responder r) } in
+    let g2 : PartialConfig = record g1 { responder = Some (line_of_responder r) } in
     let r2 = one_more (with_seed [] config.seed) g1 g2 (responder_words r) r1 (responder_taken g1 r refl refl refl parts.0) in
-    let g3 : Given = record g2 { opaque = opaque_given r.opaque } in
+    let g3 : PartialConfig = record g2 { opaque = opaque_given r.opaque } in
     let r3 = opaque_read (with_line (with_seed [] config.seed) (responder_words r)) g2 r.opaque r2 refl refl parts.1 in
     let r4 = blocks_read (responder_text config) g3 config.blocks r3 refl sound.blocks in
     requesters_read (fold with_block (responder_text config) config.blocks) (record g3 { blocks = config.blocks }) (line_of_responder r) [] config.requesters r4 refl refl refl sound.requesters
@@ -300,7 +300,7 @@ few_requesters responder before (q ∷ requesters) few sound =
 
 -- what is known of a configuration's text
 pub record ReadsConfig (config : ScriptConfig) (text : List ℕ) : Type 0 where
-  pub given : Given
+  pub given : PartialConfig
   pub reads : Reads text given
   pub is : config_of given ≡ Some config
   pub front : List ℕ
@@ -309,8 +309,8 @@ pub record ReadsConfig (config : ScriptConfig) (text : List ℕ) : Type 0 where
 end_read : (config : ScriptConfig) (q : ReqPart) (qs : List ReqPart) (seed : List ℕ) (flags : List Bool) (text : List ℕ) → config.requesters ≡ q ∷ qs → config.seed ≡ Some seed →
     Reads text (record (ends_given config) { requesters = config.requesters; responder_suites = config.responder.suites; has_suites = flags }) → ReadsConfig config (with_line text (codes "end" ∷ []))
 end_read config q qs seed flags text are seeded r =
-    let given : Given = record (ends_given config) { requesters = config.requesters; responder_suites = config.responder.suites; has_suites = flags } in
-    let after : Given = record given { ended = true } in
+    let given : PartialConfig = record (ends_given config) { requesters = config.requesters; responder_suites = config.responder.suites; has_suites = flags } in
+    let after : PartialConfig = record given { ended = true } in
     record {
       given = after;
       reads = one_more text given after (codes "end" ∷ []) r (end_taken given (line_of_responder config.responder) q qs seed refl refl are seeded);
@@ -330,7 +330,7 @@ config_read config sound =
     let few = few_requesters config.responder.eid.number [] config.requesters (omega arith) sound.requesters in
     let a = ends_read config sound in
     let b = responder_suites_read (ends_text config) (ends_given config) config.responder.suites a refl refl all_free in
-    let given : Given = record (ends_given config) { responder_suites = config.responder.suites; has_suites = b.flags } in
+    let given : PartialConfig = record (ends_given config) { responder_suites = config.responder.suites; has_suites = b.flags } in
     let c = requester_suites_read (with_suite (ends_text config) (codes "r") config.responder.suites) given 1 [] config.requesters b.reads refl refl refl few b.free in
     end_read config first.0 first.1 sound.seed_bytes c.flags (with_requester_suites (with_suite (ends_text config) (codes "r") config.responder.suites) 1 config.requesters) first.2 sound.seed c.reads
 

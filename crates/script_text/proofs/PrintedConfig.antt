@@ -16,8 +16,8 @@ use Rattle.trace_text.specs.Spelling.{hex_word}
 use Rattle.script_text.specs.declared.configuration.config_kind.ConfigKind.{ConfigKind}
 use Rattle.script_text.specs.declared.configuration.config_kind.ConfigKind.TheVariants as kind
 use Rattle.script_text.specs.declared.configuration.config.ReqPart.{ReqPart}
-use Rattle.script_text.specs.declared.configuration.given.Given.{Given}
-use Rattle.script_text.specs.declared.configuration.given.RspLine.{RspLine}
+use Rattle.script_text.specs.declared.configuration.partial_config.PartialConfig.{PartialConfig}
+use Rattle.script_text.specs.declared.configuration.partial_config.RspLine.{RspLine}
 use Rattle.trace_text.proofs.Decimals.{decimal_short}
 use Rattle.script_text.proofs.PlainWords.{long_words, plain_decimal, plain_hex}
 use Rattle.script_text.proofs.PrintedBytes.{bytes_of-hex_word, is_hex_in-hex_word, length-hex_word}
@@ -26,7 +26,7 @@ use Rattle.script_text.proofs.PrintedLines.{are_plain, is_plain_word}
 use Rattle.script_text.proofs.PrintedNumbers.{value_of-decimal}
 
 -- a line of these words is taken under what was given, and leaves this
-pub record IsTaken (given : Given) (words : List (List ℕ)) (after : Given) : Type 0 where
+pub record IsTaken (given : PartialConfig) (words : List (List ℕ)) (after : PartialConfig) : Type 0 where
   pub plain : are_plain words ≡ true
   pub first : ℕ
   pub rest : List ℕ
@@ -78,7 +78,7 @@ number_is low high n more less fits =
 
 -- ---- `seed`
 
-pub seed_taken : (given : Given) (seed : List ℕ) → given.ended ≡ false → given.seed ≡ None → are_bytes_in 32 32 seed ≡ true → IsTaken given (seed_words seed) (record given { seed = Some seed })
+pub seed_taken : (given : PartialConfig) (seed : List ℕ) → given.ended ≡ false → given.seed ≡ None → are_bytes_in 32 32 seed ≡ true → IsTaken given (seed_words seed) (record given { seed = Some seed })
 unfolding config_kind seed_fault after_seed
 seed_taken given seed open_ none sound =
     let b = bytes_are 32 32 seed sound in
@@ -98,7 +98,7 @@ seed_taken given seed open_ none sound =
 
 -- ---- `opaque`
 
-pub opaque_taken : (given : Given) (bytes : List ℕ) → given.ended ≡ false → given.opaque ≡ None → are_bytes_in 0 1024 bytes ≡ true → IsTaken given (opaque_words bytes) (record given { opaque = Some bytes })
+pub opaque_taken : (given : PartialConfig) (bytes : List ℕ) → given.ended ≡ false → given.opaque ≡ None → are_bytes_in 0 1024 bytes ≡ true → IsTaken given (opaque_words bytes) (record given { opaque = Some bytes })
 unfolding config_kind opaque_fault after_opaque
 opaque_taken given bytes open_ none sound =
     let b = bytes_are 0 1024 bytes sound in
@@ -162,7 +162,7 @@ block_is : (b : BlockSpec) → IsBlockParts b → (line : List ℕ) → words_of
 unfolding block_of
 block_is b p line words = rw (words, p.index.value, p.value_type.value, (tcb_is b.tcb).value, p.value.value) refl
 
-pub block_taken : (given : Given) (b : BlockSpec) → given.ended ≡ false → is_sound_block b ≡ true → has_block b.index given.blocks ≡ false → nat_lt 4054 (sizes_of given.blocks + block_size b) ≡ false →
+pub block_taken : (given : PartialConfig) (b : BlockSpec) → given.ended ≡ false → is_sound_block b ≡ true → has_block b.index given.blocks ≡ false → nat_lt 4054 (sizes_of given.blocks + block_size b) ≡ false →
     IsTaken given (block_words b) (record given { blocks = given.blocks ++ b ∷ [] })
 unfolding config_kind block_fault after_block
 block_taken given b open_ sound new room =
@@ -184,7 +184,7 @@ block_taken given b open_ sound new room =
 
 -- ---- `end`
 
-pub end_taken : (given : Given) (r : RspLine) (q : ReqPart) (qs : List ReqPart) (seed : List ℕ) → given.ended ≡ false → given.responder ≡ Some r → given.requesters ≡ q ∷ qs → given.seed ≡ Some seed →
+pub end_taken : (given : PartialConfig) (r : RspLine) (q : ReqPart) (qs : List ReqPart) (seed : List ℕ) → given.ended ≡ false → given.responder ≡ Some r → given.requesters ≡ q ∷ qs → given.seed ≡ Some seed →
     IsTaken given (codes "end" ∷ []) (record given { ended = true })
 unfolding config_kind end_fault after_end
 end_taken given r q qs seed open_ responder requesters seeded =

@@ -16,8 +16,8 @@ use Rattle.trace_text.specs.Spelling.{hex_word}
 use Rattle.script_text.specs.declared.configuration.config_kind.ConfigKind.TheVariants as kind
 use Rattle.script_text.specs.declared.configuration.config.ReqPart.{ReqPart}
 use Rattle.script_text.specs.declared.configuration.config.RspPart.{RspPart}
-use Rattle.script_text.specs.declared.configuration.given.Given.{Given}
-use Rattle.script_text.specs.declared.configuration.given.RspLine.{RspLine}
+use Rattle.script_text.specs.declared.configuration.partial_config.PartialConfig.{PartialConfig}
+use Rattle.script_text.specs.declared.configuration.partial_config.RspLine.{RspLine}
 use Rattle.trace_text.proofs.Decimals.{decimal_short}
 use Rattle.script_text.proofs.EndPointLemmas.{eid_is}
 use Rattle.script_text.proofs.PlainWords.{plain_decimal, plain_hex}
@@ -78,7 +78,7 @@ same_eid eid = sym (eid_is eid eid.number refl eid.low (omega (arith, eid.high))
 abbrev pub line_of_responder : RspPart → RspLine
 line_of_responder r = record { eid = r.eid; transfer = r.transfer; max = r.max; unit = r.unit; beat = r.beat; flags = r.flags }
 
-pub responder_taken : (given : Given) (r : RspPart) → given.ended ≡ false → given.responder ≡ None → given.requesters ≡ [] → is_sound_end 255 r.transfer r.max r.unit r.beat r.flags ≡ true →
+pub responder_taken : (given : PartialConfig) (r : RspPart) → given.ended ≡ false → given.responder ≡ None → given.requesters ≡ [] → is_sound_end 255 r.transfer r.max r.unit r.beat r.flags ≡ true →
     IsTaken given (responder_words r) (record given { responder = Some (line_of_responder r) })
 unfolding config_kind responder_fault after_responder
 responder_taken given r open_ none alone sound =
@@ -128,7 +128,7 @@ requester_is q p line words =
     let e = p.end_is in
     rw (words, e.eid_is.value, e.transfer_is.value, e.max_is.value, e.unit_is.value, e.own_is.value, e.flags_is.value, p.hint_is.value, p.psk_is.value, p.opaque_is.value, same_eid q.eid) refl
 
-pub requester_taken : (given : Given) (r : RspLine) (q : ReqPart) → given.ended ≡ false → given.responder ≡ Some r → is_sound_requester q ≡ true → nat_le 8 (length given.requesters) ≡ false →
+pub requester_taken : (given : PartialConfig) (r : RspLine) (q : ReqPart) → given.ended ≡ false → given.responder ≡ Some r → is_sound_requester q ≡ true → nat_le 8 (length given.requesters) ≡ false →
     (nat_eq r.eid.number q.eid.number || requester_has_eid q.eid.number given.requesters) ≡ false → has_psk q.psk given.requesters ≡ false →
     IsTaken given (requester_words q) (record given { requesters = given.requesters ++ small q ∷ [] })
 unfolding config_kind requester_fault after_requester
@@ -151,7 +151,7 @@ requester_taken given r q open_ responder sound room new_eid new_psk =
 
 -- ---- `suite`
 
-pub responder_suite_taken : (given : Given) (suites : Suites) → given.ended ≡ false → slice_index_or given.has_suites 0 false ≡ false →
+pub responder_suite_taken : (given : PartialConfig) (suites : Suites) → given.ended ≡ false → slice_index_or given.has_suites 0 false ≡ false →
     IsTaken given (suite_words (codes "r") suites) (record given { responder_suites = suites; has_suites = slice_set given.has_suites 0 true })
 unfolding config_kind suite_fault after_suite end_in
 responder_suite_taken given suites open_ new = record {
@@ -175,7 +175,7 @@ end_in-word m few =
     let high : nat_le (48 + suc m) 56 ≡ true = grind (arith, nat_tests) in
     rw (decimal_digit (suc m) (omega arith), low, high) (ap Some (omega arith))
 
-pub requester_suite_taken : (given : Given) (m : ℕ) (suites : Suites) → given.ended ≡ false → m < 8 → m < length given.requesters → slice_index_or given.has_suites (suc m) false ≡ false →
+pub requester_suite_taken : (given : PartialConfig) (m : ℕ) (suites : Suites) → given.ended ≡ false → m < 8 → m < length given.requesters → slice_index_or given.has_suites (suc m) false ≡ false →
     IsTaken given (suite_words (requester_word (suc m)) suites) (record given { requesters = with_suites m suites given.requesters; has_suites = slice_set given.has_suites (suc m) true })
 unfolding config_kind suite_fault after_suite
 requester_suite_taken given m suites open_ few configured new =

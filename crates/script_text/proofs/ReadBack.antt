@@ -19,8 +19,8 @@ use Rattle.script_text.specs.declared.events.event.Entry.{Entry}
 use Rattle.script_text.specs.declared.events.event.LinkEvent.{LinkEvent}
 use Rattle.script_text.specs.declared.texts.faults.LineFault.{LineFault}
 use Rattle.script_text.specs.declared.texts.faults.ScriptFault.{ScriptFault}
-use Rattle.script_text.specs.declared.configuration.given.Given.{Given}
-use Rattle.script_text.specs.declared.configuration.given.RspLine.{RspLine}
+use Rattle.script_text.specs.declared.configuration.partial_config.PartialConfig.{PartialConfig}
+use Rattle.script_text.specs.declared.configuration.partial_config.RspLine.{RspLine}
 use Rattle.script_text.specs.declared.texts.script.Script.{Script}
 use Rattle.script_text.specs.declared.texts.script_lines.ScriptReader.{ScriptReader}
 use Rattle.script_text.proofs.PlainWords.{IsPlainEvent, plain_event, length-with_words, long_words}
@@ -177,11 +177,11 @@ config_is (Some c) events config h = (
   ap (λ (s : Option Script). (unwrap_or s (no_entries config)).events) h,
 )
 
-is_ended : (given : Given) (ended : Bool) (config : ScriptConfig) → cond ended (config_with given.responder given) None ≡ Some config → (ended ≡ true) × (config_with given.responder given ≡ Some config)
+is_ended : (given : PartialConfig) (ended : Bool) (config : ScriptConfig) → cond ended (config_with given.responder given) None ≡ Some config → (ended ≡ true) × (config_with given.responder given ≡ Some config)
 is_ended given true config h = (refl, h)
 is_ended given false config h = absurd (cc h)
 
-has_requesters : (given : Given) (responder : Option RspLine) (config : ScriptConfig) → config_with responder given ≡ Some config → given.requesters ≡ config.requesters
+has_requesters : (given : PartialConfig) (responder : Option RspLine) (config : ScriptConfig) → config_with responder given ≡ Some config → given.requesters ≡ config.requesters
 has_requesters given None config h = absurd (cc h)
 has_requesters given (Some r) config h = ap (λ (c : Option ScriptConfig). (unwrap_or c config).requesters) h
 

@@ -8,21 +8,21 @@ use Rattle.script_text.specs.declared.configuration.config_kind.ConfigKind.{Conf
 use Rattle.script_text.specs.declared.texts.faults.LineFault.{LineFault}
 use Rattle.script_text.specs.declared.texts.faults.LineFault.TheVariants.{Unknown, Order}
 use Rattle.script_text.specs.declared.texts.faults.ScriptFault.{ScriptFault}
-use Rattle.script_text.specs.declared.configuration.given.Given.{Given}
+use Rattle.script_text.specs.declared.configuration.partial_config.PartialConfig.{PartialConfig}
 
-abbrev pub kind_fault : Bool → Given → Option ConfigKind → List ℕ → Option LineFault
+abbrev pub kind_fault : Bool → PartialConfig → Option ConfigKind → List ℕ → Option LineFault
 kind_fault needs_seed given None line = Some Unknown
 kind_fault needs_seed given (Some kind) line = config_fault needs_seed given kind line
 
 -- A line after `end` stands there whatever its words.
-abbrev pub config_text_fault : Given → List ℕ → Option LineFault
+abbrev pub config_text_fault : PartialConfig → List ℕ → Option LineFault
 config_text_fault given line = if given.ended then Some Order else kind_fault false given (config_kind (word 0 line)) line
 
-abbrev pub after_kind : Given → Option ConfigKind → List ℕ → Given
+abbrev pub after_kind : PartialConfig → Option ConfigKind → List ℕ → PartialConfig
 after_kind given None line = given
 after_kind given (Some kind) line = after_config given kind line
 
-abbrev pub after_config_text : Given → ℕ → List ℕ → Given
+abbrev pub after_config_text : PartialConfig → ℕ → List ℕ → PartialConfig
 after_config_text given number line = after_kind given (config_kind (word 0 line)) line
 
 -- The configuration that a text is, or its first bad line.

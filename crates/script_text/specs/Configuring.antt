@@ -12,8 +12,8 @@ use Rattle.script_text.specs.declared.texts.faults.LineFault.{LineFault}
 use Rattle.script_text.specs.declared.texts.faults.LineFault.TheVariants.{Unknown, Order, Words, Number, Hex, Flags, TooMany, Twice, SameEid, SamePsk, Block, NoSuchEnd, Incomplete}
 use Rattle.script_text.specs.declared.configuration.config_kind.ConfigKind.{ConfigKind}
 use Rattle.script_text.specs.declared.configuration.config_kind.ConfigKind.TheVariants as kind
-use Rattle.script_text.specs.declared.configuration.given.Given.{Given}
-use Rattle.script_text.specs.declared.configuration.given.RspLine.{RspLine}
+use Rattle.script_text.specs.declared.configuration.partial_config.PartialConfig.{PartialConfig}
+use Rattle.script_text.specs.declared.configuration.partial_config.RspLine.{RspLine}
 use Rattle.script_text.specs.declared.configuration.end_numbers.EndNumbers.{EndNumbers}
 use Rattle.script_text.specs.Choices.{is_flags, flags_of, hash_in, aead_in, end_in, small_suites}
 use Rattle.script_text.specs.EndPoints.{eid_of}
@@ -25,7 +25,7 @@ use Rattle.script_text.specs.Tests.{first_of_tests}
 
 -- ---- `seed H`: 32 bytes; at most once.
 
-unfoldable pub seed_fault : Given → List ℕ → Option LineFault
+unfoldable pub seed_fault : PartialConfig → List ℕ → Option LineFault
 seed_fault given line = first_of_tests (
     (given.ended, Order)
     ∷ (not (has_words 2 line), Words)
@@ -33,12 +33,12 @@ seed_fault given line = first_of_tests (
     ∷ (is_some given.seed, Twice)
     ∷ [])
 
-unfoldable pub after_seed : Given → List ℕ → Given
+unfoldable pub after_seed : PartialConfig → List ℕ → PartialConfig
 after_seed given line = record given { seed = Some (bytes_of (word 1 line)) }
 
 -- ---- `opaque H`: the opaque data of the responder, at most 1,024 bytes; at most once.
 
-unfoldable pub opaque_fault : Given → List ℕ → Option LineFault
+unfoldable pub opaque_fault : PartialConfig → List ℕ → Option LineFault
 opaque_fault given line = first_of_tests (
     (given.ended, Order)
     ∷ (not (has_words 2 line), Words)
@@ -46,7 +46,7 @@ opaque_fault given line = first_of_tests (
     ∷ (is_some given.opaque, Twice)
     ∷ [])
 
-unfoldable pub after_opaque : Given → List ℕ → Given
+unfoldable pub after_opaque : PartialConfig → List ℕ → PartialConfig
 after_opaque given line = record given { opaque = Some (bytes_of (word 1 line)) }
 
 -- ---- `block INDEX TYPE TCB H`: a measurement. All blocks together have at most 4,054 bytes in a record.
@@ -59,7 +59,7 @@ has_block index blocks = list_any (λ (b : BlockSpec). b.index == index) blocks
 unfoldable pub block_of : List ℕ → BlockSpec
 block_of line = record { index = value_of (word 1 line); value_type = value_of (word 2 line); tcb = value_of (word 3 line) == 1; value = bytes_of (word 4 line) }
 
-unfoldable pub block_fault : Given → List ℕ → Option LineFault
+unfoldable pub block_fault : PartialConfig → List ℕ → Option LineFault
 block_fault given line = first_of_tests (
     (given.ended, Order)
     ∷ (not (has_words 5 line), Words)
@@ -71,7 +71,7 @@ block_fault given line = first_of_tests (
     ∷ (nat_lt 4054 (sizes_of given.blocks + block_size (block_of line)), Block)
     ∷ [])
 
-unfoldable pub after_block : Given → List ℕ → Given
+unfoldable pub after_block : PartialConfig → List ℕ → PartialConfig
 after_block given line = record given { blocks = given.blocks ++ block_of line ∷ [] }
 
 -- ---- `responder EID TRANSFER MAX UNIT BEAT FLAGS` and `requester EID TRANSFER MAX UNIT PAD FLAGS ..`
@@ -110,7 +110,7 @@ responder_has_eid eid (Some responder) = responder.eid.number == eid
 abbrev pub requester_has_eid : ℕ → List ReqPart → Bool
 requester_has_eid eid requesters = list_any (λ (q : ReqPart). q.eid.number == eid) requesters
 
-abbrev pub has_eid : ℕ → Given → Bool
+abbrev pub has_eid : ℕ → PartialConfig → Bool
 has_eid eid given = responder_has_eid eid given.responder || requester_has_eid eid given.requesters
 
 -- A requester that was configured has this pre-shared key.
@@ -119,7 +119,7 @@ has_psk psk requesters = list_any (λ (q : ReqPart). bytes_eq q.psk psk) request
 
 -- ---- `responder EID TRANSFER MAX UNIT BEAT FLAGS`: exactly once; BEAT is 0 to 255.
 
-unfoldable pub responder_fault : Given → List ℕ → Option LineFault
+unfoldable pub responder_fault : PartialConfig → List ℕ → Option LineFault
 responder_fault given line = first_of_tests (
     (given.ended, Order)
     ∷ (not (has_words 7 line), Words)
@@ -132,13 +132,13 @@ responder_fault given line = first_of_tests (
 abbrev pub responder_line : EndNumbers → List ℕ → RspLine
 responder_line n flags = record { eid = n.eid; transfer = n.transfer; max = n.max; unit = n.unit; beat = n.own; flags = flags_of flags }
 
-unfoldable pub after_responder : Given → List ℕ → Given
+unfoldable pub after_responder : PartialConfig → List ℕ → PartialConfig
 after_responder given line = record given { responder = Some (responder_line (numbers_of line) (word 6 line)) }
 
 -- ---- `requester EID TRANSFER MAX UNIT PAD FLAGS HINT PSK OPAQUE`: the next requester, of at most eight; PAD is
 -- 0 to 16, HINT at most 64 bytes, PSK 1 to 64 bytes and OPAQUE at most 1,024 bytes.
 
-unfoldable pub requester_fault : Given → List ℕ → Option LineFault
+unfoldable pub requester_fault : PartialConfig → List ℕ → Option LineFault
 requester_fault given line = first_of_tests (
     (given.ended, Order)
     ∷ (not (has_words 10 line), Words)
@@ -168,7 +168,7 @@ requester_of line =
       suites = small_suites;
     }
 
-unfoldable pub after_requester : Given → List ℕ → Given
+unfoldable pub after_requester : PartialConfig → List ℕ → PartialConfig
 after_requester given line = record given { requesters = given.requesters ++ requester_of line ∷ [] }
 
 -- ---- `suite END HASH AEAD`: the algorithms of the responder, `r`, or of a requester that was configured; once
@@ -178,7 +178,7 @@ after_requester given line = record given { requesters = given.requesters ++ req
 abbrev pub suite_end : List ℕ → ℕ
 suite_end line = unwrap_or (end_in (word 1 line)) 0
 
-unfoldable pub suite_fault : Given → List ℕ → Option LineFault
+unfoldable pub suite_fault : PartialConfig → List ℕ → Option LineFault
 suite_fault given line = first_of_tests (
     (nat_le 2 (count_of_words line) && is_none (end_in (word 1 line)), Unknown)
     ∷ (given.ended, Order)
@@ -199,29 +199,29 @@ with_suites zero suites (q ∷ qs) = record q { suites = suites } ∷ qs
 with_suites (suc n) suites (q ∷ qs) = q ∷ with_suites n suites qs
 
 -- The end has its line, and its algorithms.
-abbrev pub after_suite_of : ℕ → Suites → Given → Given
+abbrev pub after_suite_of : ℕ → Suites → PartialConfig → PartialConfig
 after_suite_of zero suites given = record given { responder_suites = suites; has_suites = slice_set given.has_suites 0 true }
 after_suite_of (suc n) suites given = record given { requesters = with_suites n suites given.requesters; has_suites = slice_set given.has_suites (suc n) true }
 
-unfoldable pub after_suite : Given → List ℕ → Given
+unfoldable pub after_suite : PartialConfig → List ℕ → PartialConfig
 after_suite given line = after_suite_of (suite_end line) (suites_in line) given
 
 -- ---- `end`: the configuration is complete. It has a responder and a requester, and a seed where one is needed.
 
-unfoldable pub end_fault : Bool → Given → List ℕ → Option LineFault
+unfoldable pub end_fault : Bool → PartialConfig → List ℕ → Option LineFault
 end_fault needs_seed given line = first_of_tests (
     (given.ended, Order)
     ∷ (not (has_words 1 line), Words)
     ∷ (is_none given.responder || length given.requesters == 0 || (needs_seed && is_none given.seed), Incomplete)
     ∷ [])
 
-unfoldable pub after_end : Given → Given
+unfoldable pub after_end : PartialConfig → PartialConfig
 after_end given = record given { ended = true }
 
 -- ---- What a configuration says as a whole.
 
 -- Before the first line.
-abbrev pub nothing_given : Given
+abbrev pub nothing_given : PartialConfig
 nothing_given = record {
   seed = None;
   responder = None;
@@ -246,7 +246,7 @@ responder_part r opaque suites = record {
   suites = suites;
 }
 
-abbrev pub config_with : Option RspLine → Given → Option ScriptConfig
+abbrev pub config_with : Option RspLine → PartialConfig → Option ScriptConfig
 config_with None given = None
 config_with (Some r) given = Some (record {
   seed = given.seed;
@@ -256,7 +256,7 @@ config_with (Some r) given = Some (record {
 })
 
 -- The configuration, once its `end` was read; no configuration is ended without a responder.
-abbrev pub config_of : Given → Option ScriptConfig
+abbrev pub config_of : PartialConfig → Option ScriptConfig
 config_of given = if given.ended then config_with given.responder given else None
 
 -- ---- A line of the configuration of any kind.
@@ -273,7 +273,7 @@ config_kind word =
     else (if bytes_eq word (codes "end") then Some kind.End
     else None))))))
 
-abbrev pub config_fault : Bool → Given → ConfigKind → List ℕ → Option LineFault
+abbrev pub config_fault : Bool → PartialConfig → ConfigKind → List ℕ → Option LineFault
 config_fault needs_seed given kind.Seed line = seed_fault given line
 config_fault needs_seed given kind.Responder line = responder_fault given line
 config_fault needs_seed given kind.Opaque line = opaque_fault given line
@@ -282,7 +282,7 @@ config_fault needs_seed given kind.Requester line = requester_fault given line
 config_fault needs_seed given kind.Suite line = suite_fault given line
 config_fault needs_seed given kind.End line = end_fault needs_seed given line
 
-abbrev pub after_config : Given → ConfigKind → List ℕ → Given
+abbrev pub after_config : PartialConfig → ConfigKind → List ℕ → PartialConfig
 after_config given kind.Seed line = after_seed given line
 after_config given kind.Responder line = after_responder given line
 after_config given kind.Opaque line = after_opaque given line

@@ -7,11 +7,11 @@ use Rattle.script_text.specs.declared.events.event.LinkEvent.TheVariants as even
 use Rattle.script_text.specs.declared.texts.faults.LineFault.{LineFault}
 use Rattle.script_text.specs.declared.texts.faults.ScriptFault.{ScriptFault}
 use Rattle.script_text.specs.declared.texts.faults.ScriptFault.TheVariants.{Line}
-use Rattle.script_text.specs.declared.events.said.Said.{Said}
-use Rattle.script_text.specs.declared.events.said.Said.TheVariants as said
+use Rattle.script_text.specs.declared.events.parsed_command.ParsedCommand.{ParsedCommand}
+use Rattle.script_text.specs.declared.events.parsed_command.ParsedCommand.TheVariants as said
 
 -- The event of what is asked of requester `q`, with these bytes.
-abbrev pub event_of : (q : ℕ) → Said → (bytes : List ℕ) → LinkEvent
+abbrev pub event_of : (q : ℕ) → ParsedCommand → (bytes : List ℕ) → LinkEvent
 event_of q said.Connect bytes = event.Connect q
 event_of q said.Retry bytes = event.Retry q
 event_of q (said.Open summary) bytes = event.Open q summary
@@ -22,7 +22,7 @@ event_of q (said.Update session all) bytes = event.Update q session all
 event_of q (said.Measure session op) bytes = event.Measure q session op
 
 -- The last word of a line that says this is bytes, where bytes are asked for.
-abbrev pub HasBytes : Said → (word : List ℕ) → Type 0
+abbrev pub HasBytes : ParsedCommand → (word : List ℕ) → Type 0
 HasBytes (said.Send session) word = is_hex_in 0 most_bytes word ≡ true
 HasBytes _ word = Unit {0}
 

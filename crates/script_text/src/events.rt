@@ -4,4 +4,4 @@ pub mod command;
 pub mod command_text;
 pub mod event;
 pub mod event_kind;
-pub mod said;
+pub mod parsed_command;

@@ -3,7 +3,7 @@ ghost use Rattle.script_text.specs.EndPoints.{eid_of};
 ghost use Rattle.script_text.specs.Generator.{eight_bytes, four_times, generated_responder, generated_block, generated_requester, generated_config, entry_at, opening, next_drawn, event_of_kind, generated_event, generated, drawn, events_up_to};
 
 use crate::configuration::config::{Blocks, ReqPart, ReqParts, RspPart, ScriptConfig};
-use crate::configuration::given::SMALL_SUITES;
+use crate::configuration::partial_config::SMALL_SUITES;
 use crate::events::event::{Entry, Events, LinkEvent};
 use crate::texts::script::Script;
 use arrayvec::ArrayVec;

@@ -17,7 +17,7 @@ pub use configuration::config::{Blocks, ReqPart, ReqParts, RspPart, ScriptConfig
 pub use configuration::config_text::{TEXT_LIMIT, parse_config};
 pub use events::command_text::{CommandLine, parse_command, read_command};
 pub use events::event::{Entry, Events, LinkEvent};
-pub use events::said::Said;
+pub use events::parsed_command::ParsedCommand;
 pub use generator::{MOST_GENERATED, generate};
 pub use laws::{printed_events_are_read, printed_script_is_read};
 pub use printing::config_printing::print_config;

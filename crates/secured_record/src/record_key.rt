@@ -1,7 +1,7 @@
 ghost use Rattle.std.specs.Prelude.{◌≡◌, ◌≢◌, ◌<◌, ◌≤◌, ◌+◌, ◌-◌, ◌^◌, ◌↔◌, ℕ, List, None, Some, IsOk, OnOk, OnErr, IfErr, MatchResult, length};
 ghost use Rattle.spdm_basis.specs.SessionIdBytes.{session_id_bytes};
 ghost use Rattle.running_hash.specs.Hash.{hash_of};
-ghost use Rattle.key_schedule.specs.Schedule.{updated_secret};
+ghost use Rattle.key_schedule.specs.Schedule.{updated_secret, zeros};
 ghost use Rattle.key_schedule.specs.Purpose.{Purpose, IsSecretOf};
 ghost use Rattle.secured_record.specs.Format.{key_of, iv_of, record_of};
 ghost use Rattle.secured_record.specs.Contents.{IsRecordOf};
@@ -14,7 +14,7 @@ use crate::sealing::seal_within;
 use crate::{RecordFault, TooLong};
 use aes_gcm::GcmKey;
 use key_schedule::DirectionKey;
-use spdm_basis::{RecordFrame, SessionId};
+use spdm_basis::{AeadAlg, HashAlg, RecordFrame, SessionId};
 use std::marker::Model;
 
 /// The key of a direction with its cipher set up once, for many records. Contracts see what they see of the key of the
@@ -72,7 +72,8 @@ impl RecordKey {
         self
     }
 
-    /// Steps to the key that follows by a key update, as `next` does, in place. The caller's epoch is below 2^64 - 1.
+    /// Steps to the key that follows by a key update, as `next` does, in place: the old key and its cipher are
+    /// overwritten. The caller's epoch is below 2^64 - 1.
     pub fn update(&mut self)
         requires { self.old.epoch < 2 ^ 64 - 1 }
         ensures value { self.new
@@ -84,6 +85,28 @@ impl RecordKey {
             → IsSecretOf self.new (record p { epoch = p.epoch + 1 }) }
     {
         self.direction.update();
+        self.cipher = cipher_of(&self.direction);
+    }
+
+    /// The key of a secret of zeros, before any key update: a public constant of the hash function and the AEAD. It
+    /// stands where there is no key.
+    pub fn of_zeros(hash: HashAlg, aead: AeadAlg) -> RecordKey
+        ensures { result ≡ record {
+          hash = hash;
+          aead = aead;
+          secret = zeros (hash_of hash);
+          epoch = 0;
+        } }
+    {
+        RecordKey::new(DirectionKey::of_zeros(hash, aead))
+    }
+
+    /// Overwrites the secret by zeros, and the key, the initialization vector and the cipher by those that come of
+    /// zeros, as in `of_zeros`.
+    pub fn wipe(&mut self)
+        ensures { self.new ≡ record self.old { secret = zeros (hash_of self.old.hash); epoch = 0 } }
+    {
+        self.direction.wipe();
         self.cipher = cipher_of(&self.direction);
     }
 

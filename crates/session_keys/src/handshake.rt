@@ -3,6 +3,7 @@ ghost use Rattle.running_hash.specs.Hash.{hash_of};
 ghost use Rattle.spdm_basis.specs.Sizes.{hash_size};
 ghost use Rattle.transcript.specs.Transcripts.{without_verify};
 
+use crate::wiping::zero_hash;
 use key_schedule::{AppKeys, HandshakeKeys};
 use secured_record::RecordKey;
 use spdm_basis::{AeadAlg, HashAlg, HashBytes, Psk};
@@ -34,6 +35,7 @@ impl Handshake {
     ghost use Rattle.running_hash.specs.Hash.{hash_of};
     ghost use Rattle.session_keys.specs.Handshake.{IsHandshakeOf};
     ghost use Rattle.session_keys.specs.Keys.{IsKeyOf};
+    ghost use Rattle.session_keys.specs.Wiped.{AreWipedSecrets};
     ghost use Rattle.spdm_basis.specs.Sizes.{hash_size};
     ghost use Rattle.spdm_grammar.specs.declared.messages.choice.Choice.{Choice};
     ghost use Rattle.spdm_machine.specs.Keys.{verify_data};
@@ -49,6 +51,25 @@ impl Handshake {
     {
         let keys = HandshakeKeys::derive(hash, aead, psk, &th1);
         Handshake { th1, keys }
+    }
+
+    /// Secrets of zeros, which stand where there is no handshake.
+    pub fn of_zeros(hash: HashAlg, aead: AeadAlg) -> Handshake
+        ensures hash { result.keys.hash ≡ hash }
+        ensures wiped { AreWipedSecrets result.keys }
+    {
+        Handshake {
+            th1: zero_hash(hash),
+            keys: HandshakeKeys::of_zeros(hash, aead),
+        }
+    }
+
+    /// Overwrites the three secrets by zeros. The hash of T1, which is shown and no secret, stays.
+    pub fn wipe(&mut self)
+        ensures hash { self.new.keys.hash ≡ self.old.keys.hash }
+        ensures wiped { AreWipedSecrets self.new.keys }
+    {
+        self.keys.wipe();
     }
 
     /// The verify data of PSK_EXCHANGE_RSP (DSP0274).

@@ -10,9 +10,11 @@ mod handshake;
 mod inner;
 mod keys;
 mod terms;
+mod wiping;
 
 pub use context::{Context, context_of};
 pub use handshake::{Handshake, without_verify};
 pub use inner::{APP_DATA, behind_type, byte_at, same_bytes};
 pub use keys::{open_record, seal_inner, seal_record};
 pub use terms::SessionTerms;
+pub use wiping::{wipe_buffer, wipe_key, zero_hash};

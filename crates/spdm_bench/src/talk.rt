@@ -5,8 +5,8 @@ ghost use Rattle.spdm_basis.specs.declared.values.hash_alg.HashAlg.TheVariants.{
 use crate::bench_error::BenchError;
 use measurements::Inventory;
 use negotiate::{Common, Sizes};
-use psk_session::{Ask, FinishTook, Opening, ReqSession, SessionTerms, Told};
-use responder_session::{ExchangeParts, RecordFree, RspAct, RspSession, RspTold, Work};
+use psk_session::{FinishTook, Opening, ReqSession, ResponseOutcome, SessionRequest, SessionTerms};
+use responder_session::{ExchangeParts, ResponseValues, RspAct, RspSession, RspTold, Work};
 use secured_record::RecordKey;
 use session_keys::{APP_DATA, Handshake};
 use spdm_basis::{AeadAlg, Frame, HashAlg, HashBytes, Psk, RecordFrame, SessionId};
@@ -79,13 +79,13 @@ fn begin(psk: &Psk, answer: &mut Frame) -> RspSession {
 }
 
 // What is free of the answer to application data: the data that are sent back.
-fn sent_back(text: &[u8]) -> RecordFree<'_>
+fn sent_back(text: &[u8]) -> ResponseValues<'_>
     ensures reply { result.reply.now ≡ text.now }
     ensures nonce { length result.nonce.now ≡ 32 }
     ensures opaque { length result.opaque.now ≤ 1024 }
     ensures pad { length result.pad.now ≤ 16 }
 {
-    RecordFree {
+    ResponseValues {
         nonce: &[0; 32],
         opaque: &[],
         handle: 0,
@@ -128,7 +128,7 @@ impl Talk {
             return Err(BenchError::NoSession);
         }
         requester
-            .ask(Ask::Data(text), &[])
+            .ask(SessionRequest::Data(text), &[])
             .map_err(|_| BenchError::Refused)?;
         let free = sent_back(text);
         let told = self
@@ -142,7 +142,7 @@ impl Talk {
             return Err(BenchError::NoSession);
         }
         match requester.take(reply) {
-            Told::Answer(_) => Ok(()),
+            ResponseOutcome::Answer(_) => Ok(()),
             _ => Err(BenchError::Refused),
         }
     }

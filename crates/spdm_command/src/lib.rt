@@ -1,6 +1,5 @@
 //! The command `spdm` over any source, sink, seeds and keeper: it runs requesters and a responder over a scripted link
-//! and writes their trace, lets them start again, serves streams, attests a
-//! responder, and checks captures.
+//! and writes their trace, restarts them, serves and drives streams, attests a responder, and checks captures.
 //!
 //! Read first: `answer_to` in `specs/Answer.antt`, what the command answers. The call is `spdm`.
 #![tactic(auto)]

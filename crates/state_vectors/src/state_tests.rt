@@ -1,5 +1,5 @@
 use crate::states::{Ends, ask, give, in_handshake, moved, opened, reply_of, take};
-use psk_session::{Ask, AskFault, Reply, Took};
+use psk_session::{AskFault, Reply, SessionRequest, Took};
 use responder_session::{QueueFault, RspAct, RspState, RspTook};
 use secured_record::RecordFault;
 use spdm_grammar::Stage;
@@ -40,7 +40,7 @@ fn data_goes_both_ways(rt: HostRuntime) -> Result<(), Fail> {
     } = Ends::open(&rt)?;
     assert_eq!(rt; app.push(&[0; 1025]), Err(QueueFault::TooLong));
     app.push(b"down")?;
-    let waiting = ask(requester, Ask::Data(b"up")).ok_or("not asked")?;
+    let waiting = ask(requester, SessionRequest::Data(b"up")).ok_or("not asked")?;
     let took = give(responder, waiting.again(), &inventory, &mut app).ok_or("spent")?;
     let (state, act) = moved(took).ok_or("not taken")?;
     assert_eq!(rt; act, RspAct::Data);
@@ -71,7 +71,7 @@ fn update_of_both_keys(rt: HostRuntime) -> Result<(), Fail> {
         inventory,
         mut app,
     } = Ends::open(&rt)?;
-    let waiting = ask(requester, Ask::UpdateAll).ok_or("not asked")?;
+    let waiting = ask(requester, SessionRequest::UpdateAll).ok_or("not asked")?;
     let took = give(responder, waiting.again(), &inventory, &mut app).ok_or("spent")?;
     let (state, act) = moved(took).ok_or("not taken")?;
     assert_eq!(rt; act, RspAct::Answered(KEY_UPDATE));
@@ -110,7 +110,7 @@ fn ended_session_repeats(rt: HostRuntime) -> Result<(), Fail> {
         inventory,
         mut app,
     } = Ends::open(&rt)?;
-    let waiting = ask(requester, Ask::End).ok_or("not asked")?;
+    let waiting = ask(requester, SessionRequest::End).ok_or("not asked")?;
     let took = give(responder, waiting.again(), &inventory, &mut app).ok_or("spent")?;
     let (state, act) = moved(took).ok_or("not taken")?;
     assert_eq!(rt; act, RspAct::Answered(END_SESSION));
@@ -136,11 +136,11 @@ fn faults_change_nothing(rt: HostRuntime) -> Result<(), Fail> {
     if requester.view().response_epoch == u64::MAX {
         return Err("spent".into());
     }
-    let Err((open, fault)) = requester.ask(Ask::Measure { op: 0 }, &[]) else {
+    let Err((open, fault)) = requester.ask(SessionRequest::Measure { op: 0 }, &[]) else {
         return Err("asked".into());
     };
     assert_eq!(rt; fault, AskFault::NotNegotiated);
-    let waiting = ask(open, Ask::Beat).ok_or("not asked")?;
+    let waiting = ask(open, SessionRequest::Beat).ok_or("not asked")?;
     let Some(Took::Stay(still, fault)) = take(waiting, &[0; 26]) else {
         return Err("taken".into());
     };

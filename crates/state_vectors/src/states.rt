@@ -1,7 +1,9 @@
 use hmac_hkdf::Drawn;
 use measurements::Inventory;
 use negotiate::{Common, Sizes};
-use psk_session::{Ask, FinishTook, Finishing, Opening, ReqOpen, SessionTerms, Took, Waiting};
+use psk_session::{
+    FinishTook, Finishing, Opening, ReqOpen, SessionRequest, SessionTerms, Took, Waiting,
+};
 use responder_session::{AppQueue, ExchangeParts, RspAct, RspHandshake, RspState, RspTook};
 use spdm_basis::{AeadAlg, Frame, HashAlg, Psk, RecordFrame};
 use spdm_grammar::Choice;
@@ -69,7 +71,7 @@ pub fn opened(took: FinishTook) -> Option<ReqOpen> {
 }
 
 // Something is asked of an open session, without padding.
-pub fn ask(open: ReqOpen, what: Ask<'_>) -> Option<Waiting> {
+pub fn ask(open: ReqOpen, what: SessionRequest<'_>) -> Option<Waiting> {
     if open.view().response_epoch == u64::MAX {
         return None;
     }

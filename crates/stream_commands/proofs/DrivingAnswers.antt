@@ -18,12 +18,12 @@ use Rattle.script_laws.specs.Ends.{HasNoFault}
 use Rattle.spdm_basis.specs.Stream.{HasFault}
 use Rattle.stream_commands.proofs.Begun.{read_to_end, set_up}
 use Rattle.stream_commands.proofs.Streams.{driven, driven_in_part, driven_so_far}
-use Rattle.stream_commands.specs.Begun.{IsBegun, stream_in}
+use Rattle.stream_commands.specs.StreamStart.{IsBegun, stream_in}
 use Rattle.stream_commands.specs.Driven as outcome
 use Rattle.stream_commands.specs.Driven.{IsBegunToDrive, driving_command}
 use Rattle.stream_commands.specs.Outside.{IsFollowedBy, Outside}
 use Rattle.stream_commands.specs.Told.{IsDriveTold, IsOfDriving}
-use Rattle.stream_commands.specs.declared.begin.Begun.{Begun}
+use Rattle.stream_commands.specs.declared.begin.StreamStart.{StreamStart}
 use Rattle.stream_commands.specs.declared.fault.StreamFault.{StreamFault}
 
 first_in : (qs : List ReqPart) (q : ReqPart) → first_of qs ≡ Some q → Contains qs q
@@ -42,7 +42,7 @@ of_driving c (drive.Requester own) none refused =
 
 -- ---- After a beginning, where what is ahead is the stream of the input, in the life of a boot number.
 
-module _ (boot : ℕ) (before after : Outside) (begun : Begun) (rest ahead : Option (List ℕ)) (a : Requesting) (first : first_in_life begun.config begun.seed boot ≡ Some a)
+module _ (boot : ℕ) (before after : Outside) (begun : StreamStart) (rest ahead : Option (List ℕ)) (a : Requesting) (first : first_in_life begun.config begun.seed boot ≡ Some a)
     (is : IsBegun before.left before.seeds begun rest after.seeds) (same : (stream : List ℕ) → stream_in before.left ≡ Some stream → ahead ≡ Some stream) where
   -- all whole frames were followed
   whole_driven : (ending : Ending) → IsDriven begun.config a ahead before.holds after.holds ending → outcome.IsDriven boot before after ending

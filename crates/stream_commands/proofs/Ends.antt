@@ -17,7 +17,7 @@ use Rattle.script_text.specs.Reading.{BadLine, bad_line_in}
 use Rattle.script_text.specs.declared.configuration.config.ScriptConfig.{ScriptConfig}
 use Rattle.script_text.specs.declared.texts.faults.ScriptFault.{ScriptFault}
 use Rattle.stream_commands.proofs.Exactly.{HasExactEnds}
-use Rattle.stream_commands.specs.Begun.{config_text, stream_in}
+use Rattle.stream_commands.specs.StreamStart.{config_text, stream_in}
 use Rattle.stream_commands.specs.Driven.{IsDriven, driving_command}
 use Rattle.stream_commands.specs.InputEnds as stream
 use Rattle.stream_commands.specs.InputEnds.{HasEnd, InputEnd, IsStreamToDrive, IsStreamToServe}

@@ -15,12 +15,12 @@ use Rattle.std.proofs.lemmas.Option.{none-some}
 use Rattle.spdm_basis.specs.Stream.{HasFault}
 use Rattle.stream_commands.proofs.Streams.{in_part, served, so_far}
 use Rattle.stream_commands.proofs.Begun.{read_to_end, set_up}
-use Rattle.stream_commands.specs.Begun.{IsBegun, stream_in}
+use Rattle.stream_commands.specs.StreamStart.{IsBegun, stream_in}
 use Rattle.stream_commands.specs.Outside.{IsFollowedBy, Outside}
 use Rattle.stream_commands.specs.Served as outcome
 use Rattle.stream_commands.specs.Served.{IsBegunToServe, serving_command}
 use Rattle.stream_commands.specs.Told.{IsOfStream, IsTold}
-use Rattle.stream_commands.specs.declared.begin.Begun.{Begun}
+use Rattle.stream_commands.specs.declared.begin.StreamStart.{StreamStart}
 use Rattle.stream_commands.specs.declared.fault.StreamFault.{StreamFault}
 
 -- a configuration without a fault is not refused
@@ -35,7 +35,7 @@ of_stream c (serve.Responder own) none refused =
 
 -- ---- After a beginning, where what is ahead is the stream of the input, in the life of a boot number.
 
-module _ (boot : ℕ) (before after : Outside) (begun : Begun) (rest ahead : Option (List ℕ)) (is : IsBegun before.left before.seeds begun rest after.seeds)
+module _ (boot : ℕ) (before after : Outside) (begun : StreamStart) (rest ahead : Option (List ℕ)) (is : IsBegun before.left before.seeds begun rest after.seeds)
     (same : (stream : List ℕ) → stream_in before.left ≡ Some stream → ahead ≡ Some stream) where
   -- all whole frames were served
   whole_served : (ending : Ending) → IsServed (responder_in_life begun.config begun.seed boot) ahead before.holds after.holds ending → outcome.IsServed boot before after ending

@@ -9,7 +9,7 @@ use Rattle.requester_machine.specs.Requesting.{Requesting}
 use Rattle.responder_machine.specs.Responding.{Responding}
 use Rattle.responder_serve.specs.Served.{IsServed, IsServedInPart, IsServedSoFar, served_from}
 use Rattle.script_text.specs.declared.configuration.config.ScriptConfig.{ScriptConfig}
-use Rattle.stream_commands.specs.Begun.{stream_in}
+use Rattle.stream_commands.specs.StreamStart.{stream_in}
 
 pub same_stream : (left : Option (List ℕ)) (text before bytes : List ℕ) (rest : Option (List ℕ)) → IsTextOf left text before rest → bytes ≡ before → (stream : List ℕ) → stream_in left ≡ Some stream → in_front bytes rest ≡ Some stream
 same_stream None text before bytes rest read same stream is = absurd (none-some stream is)

@@ -3,7 +3,7 @@ use Rattle.std.proofs.Common.{◌≡◌, ◌≤◌, ℕ, List, length, subst, Op
 use Rattle.frame_stream.specs.Parts.{IsTextOf}
 use Rattle.script_text.specs.ConfigText.{config_in}
 use Rattle.script_text.specs.declared.configuration.config.ScriptConfig.{ScriptConfig}
-use Rattle.stream_commands.specs.Begun.{IsConfigured}
+use Rattle.stream_commands.specs.StreamStart.{IsConfigured}
 use Rattle.stream_commands.specs.Texts.{text_limit}
 
 pub configured : (left : Option (List ℕ)) (text before : List ℕ) (rest : Option (List ℕ)) (config : ScriptConfig) → IsTextOf left text before rest → length text ≤ text_limit → config_in text ≡ Ok config → IsConfigured config left

@@ -6,7 +6,7 @@ use Rattle.requester_drive.specs.Driven as driving
 use Rattle.requester_drive.specs.First.{first_in_life}
 use Rattle.requester_machine.specs.Requesting.{Requesting}
 use Rattle.script_text.specs.declared.configuration.config.ScriptConfig.{ScriptConfig}
-use Rattle.stream_commands.specs.Begun.{config_text, stream_in}
+use Rattle.stream_commands.specs.StreamStart.{config_text, stream_in}
 use Rattle.stream_commands.specs.Kept.{IsKeptAnswerOf, KeeperState}
 use Rattle.stream_commands.specs.Outside.{IsAnswerOf, Outside, StreamCommand}
 use Rattle.stream_commands.specs.SetUp.{IsSetUp}

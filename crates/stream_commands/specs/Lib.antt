@@ -1,5 +1,5 @@
 pub mod Texts
-pub mod Begun
+pub mod StreamStart
 pub mod Outside
 pub mod SetUp
 pub mod InputEnds

@@ -5,7 +5,7 @@ use Rattle.frame_stream.specs.Frames.Ending.{Done}
 use Rattle.responder_serve.specs.Served as serving
 use Rattle.responder_serve.specs.Served.{responder_in_life}
 use Rattle.script_text.specs.declared.configuration.config.ScriptConfig.{ScriptConfig}
-use Rattle.stream_commands.specs.Begun.{config_text, stream_in}
+use Rattle.stream_commands.specs.StreamStart.{config_text, stream_in}
 use Rattle.stream_commands.specs.Kept.{IsKeptAnswerOf, KeeperState}
 use Rattle.stream_commands.specs.Outside.{IsAnswerOf, Outside, StreamCommand}
 use Rattle.stream_commands.specs.SetUp.{IsSetUp}

@@ -2,7 +2,7 @@
 use Rattle.std.specs.Prelude.{ℕ, List}
 use Rattle.script_text.specs.declared.configuration.config.ScriptConfig.{ScriptConfig}
 use Rattle.spdm_basis.specs.Stream.{GivesSeed}
-use Rattle.stream_commands.specs.Begun.{IsConfigured}
+use Rattle.stream_commands.specs.StreamStart.{IsConfigured}
 use Rattle.stream_commands.specs.Outside.{Outside}
 
 -- The text is this configuration, and this seed was taken, and no other.

@@ -1,5 +1,5 @@
 ghost use Rattle.std.specs.Prelude.{◌≡◌, ◌≤◌, length, IfErr, IfOk, OnErr};
-ghost use Rattle.stream_commands.specs.Begun.{IsBeginCause, IsBegun, IsParsed};
+ghost use Rattle.stream_commands.specs.StreamStart.{IsBeginCause, IsBegun, IsParsed};
 
 use crate::StreamFault;
 use frame_stream::read_text;
@@ -10,7 +10,7 @@ use std::alloc::Global;
 /// What precedes a stream: the configuration, a seed for the end that it sets up, and the bytes of the stream that were
 /// read with the text.
 #[derive(Drop)]
-pub(crate) struct Begun {
+pub(crate) struct StreamStart {
     pub(crate) config: ScriptConfig,
     pub(crate) seed: [u8; 32],
     pub(crate) before: Buffer<4096>,
@@ -33,7 +33,7 @@ pub(crate) fn begin<S: Source, E: Seeds>(
     alloc: Global,
     source: &mut S,
     seeds: &mut E,
-) -> Result<Begun, StreamFault>
+) -> Result<StreamStart, StreamFault>
     ensures begun { IfOk result (λ begun. IsBegun (S.remaining source.old) (E.left seeds.old) begun
         (S.remaining source.new) (E.left seeds.new)) }
     ensures fault { IfErr result (IsBeginCause (S.remaining source.old) (record {
@@ -55,7 +55,7 @@ pub(crate) fn begin<S: Source, E: Seeds>(
         Err(fault) => return Err(fault),
     };
     match seeds.seed() {
-        Ok(seed) => Ok(Begun {
+        Ok(seed) => Ok(StreamStart {
             config,
             seed,
             before: read.before,

@@ -1,6 +1,6 @@
 ghost use Rattle.std.specs.Prelude.{◌≡◌, ◌≤◌, ◌⊎◌, ◌-◌, ◌^◌, List, Option, ℕ, Err, Some};
 ghost use Rattle.spdm_basis.specs.Stream.{IsQuiet};
-ghost use Rattle.stream_commands.specs.Begun.{IsBegun, IsRead};
+ghost use Rattle.stream_commands.specs.StreamStart.{IsBegun, IsRead};
 ghost use Rattle.stream_commands.specs.Driven.{IsAnswered, driving_command};
 ghost use Rattle.stream_commands.specs.InputEnds.{HasEnd, InputEnd, IsStreamToDrive, answer_for};
 ghost use Rattle.stream_commands.specs.Outside.{IsFollowedBy, outside};

@@ -1,36 +1,21 @@
 -- What is carried to a requester and a responder comes to the ends of a world by its events.
-use Rattle.std.proofs.Common.{◌≡◌, ◌≢◌, ◌==◌, ◌&&◌, ◌∙◌, ℕ, List, [], ◌∷◌, ◌++◌, not, nat_lt, Bool, true, false, cond, filter, length, slice_index, Option, Some, None, refl, sym, ap, eqb-true}
-use Rattle.std.proofs.lemmas.Bool.{false≢true}
+use Rattle.std.proofs.Common.{◌≡◌, ◌≢◌, ◌∙◌, ℕ, List, [], ◌∷◌, ◌++◌, true, false, filter, Option, Some, None, refl, sym, ap}
 use Rattle.requester_drive.specs.Commands.{command_line}
 use Rattle.requester_machine.specs.Message.{Command}
 use Rattle.script_text.specs.declared.configuration.config.ScriptConfig.{ScriptConfig}
-use Rattle.stream_laws.proofs.Addressed.{for_other, short_for_nobody}
+use Rattle.stream_laws.proofs.Addressed.{for_one, kept}
 use Rattle.stream_laws.proofs.Configurations.{hold}
 use Rattle.stream_laws.proofs.Driving.{first_is_driven, responder_is_served}
 use Rattle.stream_laws.proofs.Starts.{first_differs}
 use Rattle.stream_laws.specs.Carriage.{Carried, MayCarryAll, asked_frames, carried_events, event_of, served_frames, tells_first}
 use Rattle.stream_laws.specs.Carriage.Carried.{Says, ToRequester, ToResponder, Waits}
-use Rattle.stream_laws.specs.Coming.{Coming, comes_from, is_for_first, is_for_responder, is_packet_for}
+use Rattle.stream_laws.specs.Coming.{Coming, comes_from, is_for_first, is_for_responder}
 use Rattle.stream_laws.specs.Coming.Coming.{Gives, Passes, Tells}
 use Rattle.stream_laws.specs.Frames.{bring_first, bring_responder, told_first}
 use Rattle.stream_laws.specs.Laws.{EveryCarriageIsAWorld, QueueNothing}
 use Rattle.stream_laws.specs.Worlds.{world_of}
 use Rattle.world_machine.specs.Happenings.Happening.{Inject, Tick, Told}
 use Rattle.world_machine.specs.World.{World, entry_step, new_world}
-
--- ---- A packet for one end is for no other.
-
-by_length : (eid : ℕ) (packet : List ℕ) (short : Bool) → nat_lt (length packet) 2 ≡ short → is_packet_for eid packet ≡ true → (nat_lt (length packet) 2 ≡ false) × (slice_index packet 1 ≡ eid)
-by_length eid packet true e is = absurd (false≢true (sym (short_for_nobody eid packet e) ∙ is))
-by_length eid packet false e is = (e, eqb-true (slice_index packet 1) eid (sym (ap (λ (b : Bool). not b && slice_index packet 1 == eid) e) ∙ is))
-
-for_one : (eid other : ℕ) (packet : List ℕ) → eid ≢ other → is_packet_for eid packet ≡ true → is_packet_for other packet ≡ false
-for_one eid other packet differ is =
-    let names = by_length eid packet (nat_lt (length packet) 2) refl is in
-    for_other other packet names.0 (λ e. differ (sym names.1 ∙ e))
-
-kept : (p : Coming → Bool) (x : Coming) (rest : List Coming) (b : Bool) → p x ≡ b → filter p (x ∷ rest) ≡ cond b (x ∷ filter p rest) (filter p rest)
-kept p x rest b e = ap (λ (c : Bool). cond c (x ∷ filter p rest) (filter p rest)) e
 
 -- ---- What comes.
 

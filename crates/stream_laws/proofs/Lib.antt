@@ -14,3 +14,10 @@ mod Brought
 mod Driving
 mod Carrying
 mod ReadText
+mod Peers
+mod Numbers
+mod DeviceSteps
+mod DeviceRuns
+mod DeviceDoes
+mod DeviceShown
+mod DeviceCarrying

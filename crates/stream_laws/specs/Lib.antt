@@ -4,3 +4,5 @@ pub mod Frames
 pub mod Traces
 pub mod Carriage
 pub mod Laws
+pub mod Devices
+pub mod DeviceLaws

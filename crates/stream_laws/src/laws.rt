@@ -1,6 +1,7 @@
 //! What holds of a requester and a responder on streams of frames, each law stated as the contract of an empty
 //! function.
 
+ghost use Rattle.stream_laws.specs.DeviceLaws.{EveryDeviceCarriageIsAWorld};
 ghost use Rattle.stream_laws.specs.Laws.{EveryCarriageIsAWorld, FirstIsDriven, ReadConfigurationKeepsLimits, ResponderIsServed, ScriptWorldsAreSuch, StreamsHold};
 
 /// What a text configures keeps all limits that the laws below ask for.
@@ -35,4 +36,11 @@ pub fn streams_hold()
 /// do, and all of that holds of them where no two tags agree by chance.
 pub fn every_carriage_is_a_world()
     ensures { EveryCarriageIsAWorld }
+{}
+
+/// Whatever is carried to a driven requester and a device, in whatever order, and whatever the device's application
+/// answers, the two do what the ends of one world do into which each reply is put where it is given, and all of that
+/// holds of them where no two tags agree by chance.
+pub fn every_device_carriage_is_a_world()
+    ensures { EveryDeviceCarriageIsAWorld }
 {}

@@ -9,7 +9,7 @@ use crate::bodies::{takes_answer, takes_request};
 use check_ends::{Party, walks_show};
 use check_fetched_ends::MarkedEnds;
 use check_laws::{Round, SessionTable};
-use check_requester::Asker;
+use check_requester::JudgedRequester;
 use mctp_framing::{Assembler, Fed, PacketView};
 use script_text::ReqPart;
 use spdm_basis::{Bytes, Eid, OutOfMemory, Psk};
@@ -78,7 +78,7 @@ impl JudgedPair {
             → number ≡ number_from 1 q.now.eid.number w.requesters
             → IfOk result (λ pair. StandsFor pair w (requester_in own.number q.now) [] []) }
     {
-        let asker = Asker::new(alloc, &setup_of(q), &q.psk)?;
+        let asker = JudgedRequester::new(alloc, &setup_of(q), &q.psk)?;
         let hint = Bytes::copy(alloc, q.hint.as_slice())?;
         let psk = copy_of(&q.psk);
         let party = Party::new(asker, number, &answering.towards(hint.as_slice(), &psk));

@@ -57,7 +57,7 @@ fn end_handshake(connection: &mut Connection)
         → (left : History) × IsWithoutHandshake h left × StandsFor connection.new r left }
 {
     if let Some(id) = handshake_id(connection) {
-        connection.drop_unseen(id);
+        connection.expire(id);
     }
 }
 

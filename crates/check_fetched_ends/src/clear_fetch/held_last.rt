@@ -35,7 +35,7 @@ use crate::clear_fetch::led::Led;
 use check_ends::Party;
 use check_late_laws::Marks;
 use check_laws::{Round, SessionTable, answer_accepts, last_chunk_changes};
-use check_responder::Answerer;
+use check_responder::JudgedResponder;
 use responder_core::Setup;
 use session_keys::{behind_type, byte_at};
 use spdm_basis::OutOfMemory;
@@ -43,7 +43,7 @@ use spdm_grammar::Why;
 use spdm_grammar::names::MAX_SESSIONS;
 
 // Whether the request of the large response is PSK_EXCHANGE.
-fn holds_exchange(answerer: &Answerer, held: &Held) -> bool
+fn holds_exchange(answerer: &JudgedResponder, held: &Held) -> bool
     ensures { (r : RspSetup) (h : History) (keys : AnswerKeys)
         (b : StandsBefore answerer.now keys held.now r h) → result ≡ takes PSK_EXCHANGE b.turn }
 {

@@ -19,13 +19,13 @@ ghost use Rattle.capture_machine.specs.Rounds.{no_draw};
 use crate::clear_fetch::held::Held;
 use crate::clear_fetch::held_whole::leads_to;
 use crate::clear_fetch::led::Led;
-use check_responder::Answerer;
+use check_responder::JudgedResponder;
 use responder_core::Setup;
 
 // As `leads_to`, of a request that passed before: the last record of the session that ended is put back. It is handed
 // in as the newest request, and PSK_EXCHANGE then forgets that record; at its place it came before END_SESSION.
 fn leads_late(
-    answerer: &mut Answerer,
+    answerer: &mut JudgedResponder,
     held: &Held,
     exchange: bool,
     setup: &Setup<'_>,
@@ -58,7 +58,7 @@ fn leads_late(
 /// As `leads_to`, of a request that came last, or of one that passed before. Where the fetch began late, the connection
 /// has the last record of the session that ended as it was.
 pub(crate) fn leads_there(
-    answerer: &mut Answerer,
+    answerer: &mut JudgedResponder,
     held: &Held,
     exchange: bool,
     setup: &Setup<'_>,

@@ -23,7 +23,7 @@ use crate::clear_fetch::held::Held;
 use crate::clear_fetch::held_given::give_all;
 use crate::clear_fetch::led::Led;
 use byteorder::{ByteOrder, LittleEndian};
-use check_responder::Answerer;
+use check_responder::JudgedResponder;
 use responder_core::{Connection, Setup};
 use session_keys::{byte_at, same_bytes};
 use spdm_basis::Frame;
@@ -43,7 +43,7 @@ fn drop_timed(connection: &mut Connection, id: u16)
         → connected.StandsFor connection.new r (with_dropped h (dropped_for h (Some id))) }
 {
     if connection.is_timed(id) {
-        connection.drop_unseen(id);
+        connection.expire(id);
     }
 }
 
@@ -98,7 +98,7 @@ fn drop_shown(connection: &mut Connection, exchange: bool, whole: &[u8])
 /// this tag: what its request, PSK_EXCHANGE or not, leads to at the values that they show. Where it leads to them, the
 /// connection stands for what is after all chunks.
 pub(crate) fn leads_to(
-    answerer: &mut Answerer,
+    answerer: &mut JudgedResponder,
     held: &Held,
     exchange: bool,
     setup: &Setup<'_>,

@@ -16,7 +16,7 @@ ghost use Rattle.spdm_grammar.specs.declared.names.TheConstants.{MAX_BODY_SIZE};
 
 use crate::session_fetch::in_session::InSession;
 use crate::session_fetch::session_prepared::prepared;
-use check_ends::{Onward, Party};
+use check_ends::{Continuation, Party};
 use check_laws::{Round, SessionTable, answer_accepts, large_answer_changes};
 use check_responder::Given;
 use responder_core::Setup;
@@ -34,7 +34,7 @@ pub enum BegunIn {
     /// It is LargeResponse in a session, and the requester requests a chunk in response.
     Fetching(InSession),
     /// It goes on otherwise, or why it is refused.
-    Told(Result<Onward, Why>),
+    Told(Result<Continuation, Why>),
 }
 
 /// Handles a complete response of at most 4,161 bytes, next in order after this round, while nothing is fetched: a
@@ -83,11 +83,11 @@ pub fn begins_in_session(
         Some(Given::Whole) => {
             let heard = party.go_on(round, Some(key), answer, false);
             if heard.fetches {
-                return Ok(BegunIn::Told(Ok(Onward::Asked(why))));
+                return Ok(BegunIn::Told(Ok(Continuation::Asked(why))));
             }
             let change = party.change(None, heard.accepted, taken);
             table.take(&mut party.places, party.number, &change)?;
-            Ok(BegunIn::Told(Ok(Onward::Kept)))
+            Ok(BegunIn::Told(Ok(Continuation::Kept)))
         }
         Some(Given::Large) => {
             let heard = party.go_on(round, Some(key), answer, false);
@@ -95,11 +95,11 @@ pub fn begins_in_session(
             table.take(&mut party.places, party.number, &change)?;
             if !heard.fetches {
                 party.answerer.connection.forget_in(fetched.id);
-                return Ok(BegunIn::Told(Ok(Onward::Kept)));
+                return Ok(BegunIn::Told(Ok(Continuation::Kept)));
             }
             Ok(BegunIn::Fetching(fetched))
         }
-        Some(Given::Last) => Ok(BegunIn::Told(Ok(Onward::Large))),
+        Some(Given::Last) => Ok(BegunIn::Told(Ok(Continuation::Large))),
         None => Ok(BegunIn::Told(Err(why))),
     }
 }

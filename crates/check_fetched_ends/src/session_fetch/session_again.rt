@@ -28,7 +28,7 @@ const HANDLE_AT: usize = 5;
 
 /// What is kept of a large response that is fetched late in a session, and the handle under which it goes.
 #[derive(Drop)]
-pub(crate) struct Again {
+pub(crate) struct LateResponse {
     pub(crate) fetched: InSession,
     pub(crate) handle: u8,
 }
@@ -89,7 +89,7 @@ pub(crate) fn prepared_again(
     setup: &Setup<'_>,
     request: &[u8],
     answer: &[u8],
-) -> Option<Again>
+) -> Option<LateResponse>
     ensures kept { (r : RspSetup) (h : History) → IsSetUp setup.now r → StandsFor connection.now r h
         → IsPreparedAgain r h request.now answer.now result }
     ensures few { IfSome result (λ again. again.fetched.least ≤ MAX_MESSAGE_SIZE) }
@@ -108,5 +108,5 @@ pub(crate) fn prepared_again(
     let message = behind_type(inner.as_slice());
     let fetched = kept_in(connection, setup, record_id(request).rsp, message)?;
     let handle = byte_at(reply.as_slice(), HANDLE_AT);
-    Some(Again { fetched, handle })
+    Some(LateResponse { fetched, handle })
 }

@@ -1,6 +1,6 @@
 ghost use Rattle.std.specs.Prelude.{◌≡◌, ◌≤◌, ◌<◌, ◌-◌, ◌^◌, ◌⊎◌, ℕ, List, MatchOption, drop, length, true, false};
 ghost use Rattle.check_responder.specs.AnswerKeys.{will_take};
-ghost use Rattle.check_responder.specs.Answerer.{IsAnswerer};
+ghost use Rattle.check_responder.specs.JudgedResponder.{IsAnswerer};
 ghost use Rattle.check_fetched_laws.specs.AnswerTexts.{Holds};
 ghost use Rattle.responder_machine.specs.BoundLaws.{messages_of};
 ghost use Rattle.responder_machine.specs.History.{History};
@@ -11,7 +11,7 @@ ghost use Rattle.spdm_grammar.specs.declared.names.TheConstants.{MAX_BODY_SIZE};
 ghost use Rattle.secured_record.specs.declared.TheConstants.{MIN_RECORD_SIZE};
 
 use check_fetched_laws::message_in;
-use check_responder::Answerer;
+use check_responder::JudgedResponder;
 use secured_record::MIN_RECORD_SIZE;
 use session_keys::{behind_type, byte_at};
 use spdm_basis::RecordFrame;
@@ -23,7 +23,7 @@ const MOST_TEXT: usize = 65535;
 /// What a record holds as the answer to one that its session takes, overwriting `text`. False where the session does
 /// not take that one. Requires fewer than 2^64 - 1 received messages.
 pub(crate) fn reads_text(
-    answerer: &mut Answerer,
+    answerer: &mut JudgedResponder,
     body: &[u8],
     answer: &[u8],
     text: &mut RecordFrame,

@@ -11,16 +11,16 @@ ghost use Rattle.spdm_grammar.specs.Message.{ChunkMessage, RequestMessage};
 ghost use Rattle.spdm_grammar.specs.Requests.{canonical_request};
 ghost use Rattle.spdm_grammar.specs.declared.names.TheConstants.{MAX_MESSAGE_SIZE};
 ghost use Rattle.requester_core.specs.Gathering.{Gathered, Gathers, Leaves};
-ghost use Rattle.requester_core.specs.Led.{IsCarried, IsTaken, is_large};
+ghost use Rattle.requester_core.specs.ReplyOutcome.{IsCarried, IsTaken, is_large};
 ghost use Rattle.requester_core.specs.Negotiating.{IsUpTo};
 ghost use Rattle.requester_core.specs.Outgoing.{IsCut};
 ghost use Rattle.requester_core.specs.Setup.{IsSetUp};
-ghost use Rattle.requester_core.specs.Talk.{Shows, StandsFor};
-ghost use Rattle.requester_core.specs.Waiting.{kind_of, way_of};
-ghost use Rattle.requester_core.specs.declared.clear.waiting.Way.TheVariants as ways;
+ghost use Rattle.requester_core.specs.ClearState.{Shows, StandsFor};
+ghost use Rattle.requester_core.specs.Outstanding.{kind_of, mode_of};
+ghost use Rattle.requester_core.specs.declared.clear.outstanding.TransferMode.TheVariants as modes;
 
 use crate::clear::bodies::error_in;
-use crate::{Asked, ReplyOutcome, Setup, Talk, Waiting, Way};
+use crate::{ClearState, Outstanding, PendingRequest, ReplyOutcome, Setup, TransferMode};
 use chunking::Collector;
 use spdm_basis::Frame;
 use spdm_grammar::{ReqIgnored, Response};
@@ -68,13 +68,13 @@ impl Ack<'_> {
     }
 }
 
-impl Talk {
+impl ClearState {
     // An acknowledgement of a chunk without a fault: its response refuses the request or answers it, or it calls for
     // the next chunk.
     fn on_ack(
         &mut self,
         setup: &Setup<'_>,
-        asked: Asked,
+        asked: PendingRequest,
         piece: &Piece,
         ack: &Ack<'_>,
         out: &mut Frame,
@@ -83,7 +83,7 @@ impl Talk {
             → Shows self.old h → IsAwaited q h request → kind_of request ≡ asked
             → self.old.outgoing.request ≡ canonical_request request
             → IsUpTo request (negotiation_of h) → length ack.now.response.now ≤ MAX_MESSAGE_SIZE
-            → IsCut (ways.ByChunks piece.now.handle piece.now.number)
+            → IsCut (modes.ByChunks piece.now.handle piece.now.number)
             (connection_terms h).common.to_responder.transfer (canonical_request request)
             → piece.now.last
             ≡ (piece_of (connection_terms h).common request piece.now.handle piece.now.number).last
@@ -103,13 +103,13 @@ impl Talk {
         if piece.last {
             return self.on_answer(setup, asked, ack.response, RESPONSE_AT, out);
         }
-        let way = Way::ByChunks {
+        let mode = TransferMode::ByChunks {
             handle: piece.handle,
             number: piece.number.saturating_add(1),
         };
         let transfer = self.negotiating.common().to_responder.transfer;
         ReplyOutcome::Sends {
-            tag: self.outgoing.send(asked, way, transfer, out),
+            tag: self.outgoing.send(asked, mode, transfer, out),
         }
     }
 
@@ -117,7 +117,7 @@ impl Talk {
     fn on_sent(
         &mut self,
         setup: &Setup<'_>,
-        asked: Asked,
+        asked: PendingRequest,
         handle: u8,
         number: u16,
         message: &[u8],
@@ -127,7 +127,7 @@ impl Talk {
             → Shows self.old h → IsAwaited q h request → kind_of request ≡ asked
             → self.old.outgoing.request ≡ canonical_request request
             → IsUpTo request (negotiation_of h) → length message.now ≤ MAX_MESSAGE_SIZE
-            → IsCut (ways.ByChunks handle number)
+            → IsCut (modes.ByChunks handle number)
             (connection_terms h).common.to_responder.transfer (canonical_request request)
             → IsCarried q h request (ack_carries h (connection_terms h).common request
             (piece_of (connection_terms h).common request handle number)
@@ -165,11 +165,11 @@ impl Talk {
     }
 
     // A message in the clear came to what is asked, which goes this way.
-    fn on_way(
+    fn on_transfer(
         &mut self,
         setup: &Setup<'_>,
-        asked: Asked,
-        way: Way,
+        asked: PendingRequest,
+        mode: TransferMode,
         gathered: &mut Collector,
         message: &[u8],
         out: &mut Frame,
@@ -177,17 +177,17 @@ impl Talk {
         ensures { (q : ReqSetup) (h : History) (sent : Sent) (request : RequestMessage)
             → IsSetUp setup.now q → StandsFor self.old q h → outstanding h ≡ Some sent
             → Gathers q (outstanding h) gathered.old → asked_in sent.aim ≡ Some request
-            → kind_of request ≡ asked → way_of sent.aim ≡ way
+            → kind_of request ≡ asked → mode_of sent.aim ≡ mode
             → length message.now ≤ MAX_MESSAGE_SIZE
             → IsTaken q h sent request message.now result self.old self.new out.new
             × Leaves q (carried_by q h message.now sent.aim) result gathered.old gathered.new }
     {
-        match way {
-            Way::Whole => self.on_answer(setup, asked, message, 0, out),
-            Way::ByChunks { handle, number } => {
+        match mode {
+            TransferMode::Whole => self.on_answer(setup, asked, message, 0, out),
+            TransferMode::ByChunks { handle, number } => {
                 self.on_sent(setup, asked, handle, number, message, out)
             }
-            Way::ForChunk { handle, number } => {
+            TransferMode::ForChunk { handle, number } => {
                 self.on_get(setup, asked, handle, number, gathered, message, out)
             }
         }
@@ -209,10 +209,10 @@ impl Talk {
             × Leaves q (carried_by q h message.now sent.aim) result gathered.old gathered.new }
     {
         match self.outgoing.waiting() {
-            Waiting::InClear { asked, way, .. } => {
-                self.on_way(setup, asked, way, gathered, message, out)
+            Outstanding::InClear { asked, mode, .. } => {
+                self.on_transfer(setup, asked, mode, gathered, message, out)
             }
-            Waiting::Nothing | Waiting::InSession { .. } => {
+            Outstanding::Nothing | Outstanding::InSession { .. } => {
                 ReplyOutcome::Ignored(ReqIgnored::NothingOutstanding)
             }
         }

@@ -20,14 +20,14 @@ ghost use Rattle.spdm_grammar.specs.declared.messages.capabilities.Caps.{Caps};
 ghost use Rattle.spdm_grammar.specs.declared.names.TheConstants.{MAX_MESSAGE_SIZE};
 ghost use Rattle.spdm_grammar.specs.declared.names.error_number.TheConstants.{LARGE_RESPONSE};
 ghost use Rattle.negotiate.specs.Choosing.{agreed};
-ghost use Rattle.requester_core.specs.Led.{IsAnswered, IsLed};
+ghost use Rattle.requester_core.specs.ReplyOutcome.{IsAnswered, IsLed};
 ghost use Rattle.requester_core.specs.Negotiating.{IsUpTo};
 ghost use Rattle.requester_core.specs.Setup.{IsSetUp};
-ghost use Rattle.requester_core.specs.Talk.{Shows, StandsFor};
-ghost use Rattle.requester_core.specs.Waiting.{IsClearRequest, kind_of};
+ghost use Rattle.requester_core.specs.ClearState.{Shows, StandsFor};
+ghost use Rattle.requester_core.specs.Outstanding.{IsClearRequest, kind_of};
 
 use crate::clear::commands::is_too_long;
-use crate::{Asked, ReplyOutcome, Setup, Talk, Way};
+use crate::{ClearState, PendingRequest, ReplyOutcome, Setup, TransferMode};
 use negotiate::{Common, agrees, choose_version, common, own_offer};
 use spdm_basis::Frame;
 use spdm_codec::read_response;
@@ -60,9 +60,13 @@ fn measured_number(op: u8, measured: &Measured<'_>) -> u8
     }
 }
 
-impl Talk {
+impl ClearState {
     // The response that bytes encode as an answer to what is asked, or their first fault.
-    pub(crate) fn read<'a>(&self, asked: Asked, bytes: &'a [u8]) -> Result<Response<'a>, Malformed>
+    pub(crate) fn read<'a>(
+        &self,
+        asked: PendingRequest,
+        bytes: &'a [u8],
+    ) -> Result<Response<'a>, Malformed>
         ensures { (h : History) (request : RequestMessage) → Shows self.now h
             → IsClearRequest request → kind_of request ≡ asked
             → Gives response_message result (reading_of h request bytes.now) }
@@ -72,13 +76,13 @@ impl Talk {
     }
 
     // The request was refused with an ERROR of this code.
-    pub(crate) fn refuse(&mut self, asked: Asked, code: u8) -> ReplyOutcome
+    pub(crate) fn refuse(&mut self, asked: PendingRequest, code: u8) -> ReplyOutcome
         ensures { (h : History) (request : RequestMessage) (out : List ℕ) → Shows self.old h
             → IsClearRequest request → kind_of request ≡ asked
             → IsLed h (Ok (is_refused code (Refuses request))) result self.old self.new out }
     {
         self.negotiating.refuse(asked.negotiates());
-        self.outgoing.rest();
+        self.outgoing.clear_outstanding();
         ReplyOutcome::Rests(Event::Refused(code))
     }
 
@@ -88,12 +92,12 @@ impl Talk {
             → IsLed h (Ok (stopped why)) result self.old self.new out }
     {
         self.negotiating.stop();
-        self.outgoing.rest();
+        self.outgoing.clear_outstanding();
         ReplyOutcome::Rests(Event::Stopped(why))
     }
 
     // Whether an ERROR of this code calls for a large response.
-    fn is_large(&self, asked: Asked, code: u8) -> bool
+    fn is_large(&self, asked: PendingRequest, code: u8) -> bool
         ensures { (h : History) (request : RequestMessage) → Shows self.now h
             → IsClearRequest request → kind_of request ≡ asked
             → result ≡ (code == LARGE_RESPONSE && may_be_large request
@@ -106,7 +110,7 @@ impl Talk {
     // ERROR: LargeResponse calls for the first chunk of a large response; any other refuses the request.
     pub(crate) fn on_error(
         &mut self,
-        asked: Asked,
+        asked: PendingRequest,
         code: u8,
         extended: &[u8],
         out: &mut Frame,
@@ -119,12 +123,12 @@ impl Talk {
             out.new }
     {
         if self.is_large(asked, code) {
-            let way = Way::ForChunk {
+            let mode = TransferMode::ForChunk {
                 handle: first_byte(extended),
                 number: 0,
             };
             return ReplyOutcome::Large {
-                tag: self.outgoing.send(asked, way, 0, out),
+                tag: self.outgoing.send(asked, mode, 0, out),
             };
         }
         self.refuse(asked, code)
@@ -152,7 +156,9 @@ impl Talk {
         self.outgoing
             .keep(&Request::GetCapabilities(setup.caps()), 0);
         ReplyOutcome::Sends {
-            tag: self.outgoing.send(Asked::Capabilities, Way::Whole, 0, out),
+            tag: self
+                .outgoing
+                .send(PendingRequest::Capabilities, TransferMode::Whole, 0, out),
         }
     }
 
@@ -208,7 +214,9 @@ impl Talk {
             .take_capabilities(self.outgoing.request(), answer, common);
         self.outgoing.keep(&Request::NegotiateAlgorithms(offer), 0);
         ReplyOutcome::Sends {
-            tag: self.outgoing.send_request(transfer, Asked::Algorithms, out),
+            tag: self
+                .outgoing
+                .send_request(transfer, PendingRequest::Algorithms, out),
         }
     }
 
@@ -239,7 +247,7 @@ impl Talk {
         };
         self.negotiating
             .take_algorithms(self.outgoing.request(), answer, choice);
-        self.outgoing.rest();
+        self.outgoing.clear_outstanding();
         ReplyOutcome::Rests(Event::Done(Finished::Connected))
     }
 
@@ -254,7 +262,7 @@ impl Talk {
     {
         self.brought.clear();
         let _ = self.brought.extend(measured.block_bytes);
-        self.outgoing.rest();
+        self.outgoing.clear_outstanding();
         ReplyOutcome::Rests(Event::Done(Finished::Measured(measured_number(op, measured))))
     }
 }

@@ -7,13 +7,13 @@ ghost use Rattle.spdm_grammar.specs.Message.{RequestMessage, response_message};
 ghost use Rattle.spdm_grammar.specs.Requests.{canonical_request};
 ghost use Rattle.spdm_grammar.specs.declared.messages.malformed.Malformed.{Malformed};
 ghost use Rattle.spdm_grammar.specs.declared.names.TheConstants.{MAX_MESSAGE_SIZE};
-ghost use Rattle.requester_core.specs.Led.{IsAnswered};
+ghost use Rattle.requester_core.specs.ReplyOutcome.{IsAnswered};
 ghost use Rattle.requester_core.specs.Negotiating.{IsUpTo};
 ghost use Rattle.requester_core.specs.Setup.{IsSetUp};
-ghost use Rattle.requester_core.specs.Talk.{Shows, StandsFor};
-ghost use Rattle.requester_core.specs.Waiting.{kind_of};
+ghost use Rattle.requester_core.specs.ClearState.{Shows, StandsFor};
+ghost use Rattle.requester_core.specs.Outstanding.{kind_of};
 
-use crate::{Asked, ReplyOutcome, Setup, Talk};
+use crate::{ClearState, PendingRequest, ReplyOutcome, Setup};
 use spdm_basis::Frame;
 use spdm_grammar::{ReqIgnored, Response};
 
@@ -34,13 +34,13 @@ fn put(bytes: &[u8], out: &mut Frame)
     let _ = out.replace(bytes);
 }
 
-impl Talk {
+impl ClearState {
     // Handles the complete response to the outstanding request, of at most 4,096 bytes. It begins at this offset of its
     // message, near the front.
     fn on_response(
         &mut self,
         setup: &Setup<'_>,
-        asked: Asked,
+        asked: PendingRequest,
         answer: &[u8],
         response: Response<'_>,
         place: usize,
@@ -58,19 +58,19 @@ impl Talk {
             (_, Response::Error { code, extended, .. }) => {
                 self.on_error(asked, code, extended, out)
             }
-            (Asked::Version, Response::Version { entries }) => {
+            (PendingRequest::Version, Response::Version { entries }) => {
                 self.on_version(setup, answer, entries, out)
             }
-            (Asked::Capabilities, Response::Capabilities(theirs)) => {
+            (PendingRequest::Capabilities, Response::Capabilities(theirs)) => {
                 self.on_capabilities(setup, answer, &theirs, out)
             }
-            (Asked::Algorithms, Response::Algorithms(reply)) => {
+            (PendingRequest::Algorithms, Response::Algorithms(reply)) => {
                 self.on_algorithms(setup, answer, &reply)
             }
-            (Asked::Measurements { op }, Response::Measurements(measured)) => {
+            (PendingRequest::Measurements { op }, Response::Measurements(measured)) => {
                 self.on_measurements(op, &measured)
             }
-            (Asked::Exchange { .. }, Response::PskExchangeRsp(_)) => {
+            (PendingRequest::Exchange { .. }, Response::PskExchangeRsp(_)) => {
                 put(answer, out);
                 ReplyOutcome::Exchange
             }
@@ -83,7 +83,7 @@ impl Talk {
     pub(crate) fn on_answer(
         &mut self,
         setup: &Setup<'_>,
-        asked: Asked,
+        asked: PendingRequest,
         answer: &[u8],
         place: usize,
         out: &mut Frame,

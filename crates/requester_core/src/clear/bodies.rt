@@ -4,10 +4,10 @@ ghost use Rattle.requester_machine.specs.History.{History, outstanding};
 ghost use Rattle.requester_machine.specs.Message.{Sent};
 ghost use Rattle.requester_machine.specs.Setup.{ReqSetup};
 ghost use Rattle.requester_core.specs.Setup.{IsSetUp};
-ghost use Rattle.requester_core.specs.Talk.{Shows};
-ghost use Rattle.requester_core.specs.Waiting.{waiting_of};
+ghost use Rattle.requester_core.specs.ClearState.{Shows};
+ghost use Rattle.requester_core.specs.Outstanding.{waiting_of};
 
-use crate::{Setup, Talk, Waiting};
+use crate::{ClearState, Outstanding, Setup};
 use spdm_codec::read_response;
 use spdm_grammar::names::message_type::{SECURED, SPDM};
 use spdm_grammar::{ReqIgnored, Response};
@@ -59,12 +59,12 @@ pub fn message_in(body: &[u8]) -> &[u8]
     }
 }
 
-impl Waiting {
+impl Outstanding {
     // Whether nothing is outstanding.
     fn is_nothing(self) -> bool
         ensures { (sent : Option Sent) → waiting_of sent ≡ self → result ≡ is_none sent }
     {
-        matches!(self, Waiting::Nothing)
+        matches!(self, Outstanding::Nothing)
     }
 
     // Whether the outstanding message has this tag.
@@ -72,8 +72,8 @@ impl Waiting {
         ensures { (sent : Option Sent) → waiting_of sent ≡ self → result ≡ bodies.has_tag sent tag }
     {
         match self {
-            Waiting::Nothing => false,
-            Waiting::InClear { tag: sent, .. } | Waiting::InSession { tag: sent, .. } => {
+            Outstanding::Nothing => false,
+            Outstanding::InClear { tag: sent, .. } | Outstanding::InSession { tag: sent, .. } => {
                 sent == tag
             }
         }
@@ -85,9 +85,11 @@ impl Waiting {
             → result ≡ bodies.is_misplaced sent body.now }
     {
         match self {
-            Waiting::Nothing => false,
-            Waiting::InClear { .. } => is_record(body),
-            Waiting::InSession { .. } => { is_clear(body) && error_in(message_in(body)).is_none() }
+            Outstanding::Nothing => false,
+            Outstanding::InClear { .. } => is_record(body),
+            Outstanding::InSession { .. } => {
+                is_clear(body) && error_in(message_in(body)).is_none()
+            }
         }
     }
 }
@@ -100,7 +102,7 @@ fn is_too_long(transfer: u32, body: &[u8]) -> bool
     is_clear(body) && message_in(body).len() > transfer as usize
 }
 
-impl Talk {
+impl ClearState {
     /// The cause for which a whole body, with its tag owner bit and tag, is ignored before its message is read, if
     /// there is one.
     #[tactic(auto, unfolding(requester_machine::specs::Bodies::body_fault))]

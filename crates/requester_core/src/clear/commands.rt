@@ -13,9 +13,9 @@ ghost use Rattle.spdm_machine.specs.Keys.{Draw};
 ghost use Rattle.requester_core.specs.Commands.{IsDone, IsRetried, IsTold};
 ghost use Rattle.requester_core.specs.Free.{IsFree};
 ghost use Rattle.requester_core.specs.Setup.{IsSetUp};
-ghost use Rattle.requester_core.specs.Talk.{Counts, Shows, StandsFor};
+ghost use Rattle.requester_core.specs.ClearState.{Counts, Shows, StandsFor};
 
-use crate::{Again, Asked, FreeValues, Setup, Talk, Waiting, Way};
+use crate::{ClearState, FreeValues, Outstanding, PendingRequest, Resend, Setup, TransferMode};
 use negotiate::Common;
 use spdm_basis::Frame;
 use spdm_grammar::names::{MAX_SESSIONS, PSK_EXCHANGE_FIELDS_LEN};
@@ -50,12 +50,12 @@ fn exchange_len(setup: &Setup<'_>, free: &FreeValues<'_>) -> usize
         .saturating_add(free.opaque.len())
 }
 
-impl Talk {
+impl ClearState {
     // Whether something is outstanding.
     pub(crate) fn is_busy(&self) -> bool
         ensures { (h : History) → Shows self.now h → result ≡ is_some (outstanding h) }
     {
-        !matches!(self.outgoing.waiting(), Waiting::Nothing)
+        !matches!(self.outgoing.waiting(), Outstanding::Nothing)
     }
 
     // Whether there is a connection.
@@ -144,7 +144,8 @@ impl Talk {
     {
         self.negotiating.begin();
         self.outgoing.keep(&Request::GetVersion, 0);
-        self.outgoing.send(Asked::Version, Way::Whole, 0, out)
+        self.outgoing
+            .send(PendingRequest::Version, TransferMode::Whole, 0, out)
     }
 
     /// Requests measurements in the clear, by an operation. The message sent overwrites `out`; returns its tag.
@@ -158,7 +159,7 @@ impl Talk {
         }
         self.outgoing.keep(&Request::GetMeasurements { op }, 0);
         let transfer = self.negotiating.common().to_responder.transfer;
-        let asked = Asked::Measurements { op };
+        let asked = PendingRequest::Measurements { op };
         Ok(self.outgoing.send_request(transfer, asked, out))
     }
 
@@ -190,7 +191,7 @@ impl Talk {
         self.outgoing
             .keep(&Request::PskExchange(exchange), hash_len);
         let transfer = self.negotiating.common().to_responder.transfer;
-        let asked = Asked::Exchange {
+        let asked = PendingRequest::Exchange {
             id: free.id,
             summary,
         };
@@ -198,17 +199,17 @@ impl Talk {
     }
 
     /// Resends the outstanding message. A clear one overwrites `out`.
-    pub fn retry(&self, out: &mut Frame) -> Result<Again, CommandFault>
+    pub fn retry(&self, out: &mut Frame) -> Result<Resend, CommandFault>
         ensures { (q : ReqSetup) (h : History) (f : Free) (d : Draw) → HasSizes q
             → StandsFor self.now q h → IsRetried q h f d result out.new }
     {
         match self.outgoing.waiting() {
-            Waiting::Nothing => Err(CommandFault::NothingToRetry),
-            Waiting::InSession { tag, id } => Ok(Again::InSession { tag, id }),
-            Waiting::InClear { tag, way, .. } => {
+            Outstanding::Nothing => Err(CommandFault::NothingToRetry),
+            Outstanding::InSession { tag, id } => Ok(Resend::InSession { tag, id }),
+            Outstanding::InClear { tag, mode, .. } => {
                 let transfer = self.negotiating.common().to_responder.transfer;
-                self.outgoing.write(way, transfer, out);
-                Ok(Again::InClear { tag })
+                self.outgoing.write(mode, transfer, out);
+                Ok(Resend::InClear { tag })
             }
         }
     }

@@ -11,13 +11,13 @@ ghost use Rattle.spdm_grammar.specs.Message.{ChunkMessage, RequestMessage, chunk
 ghost use Rattle.spdm_grammar.specs.Requests.{canonical_request};
 ghost use Rattle.spdm_grammar.specs.declared.names.TheConstants.{MAX_MESSAGE_SIZE};
 ghost use Rattle.requester_core.specs.Gathering.{IsFetched, is_other};
-ghost use Rattle.requester_core.specs.Led.{SendsNext};
+ghost use Rattle.requester_core.specs.ReplyOutcome.{SendsNext};
 ghost use Rattle.requester_core.specs.Negotiating.{IsUpTo};
 ghost use Rattle.requester_core.specs.Setup.{IsSetUp};
-ghost use Rattle.requester_core.specs.Talk.{Shows};
-ghost use Rattle.requester_core.specs.Waiting.{kind_of};
+ghost use Rattle.requester_core.specs.ClearState.{Shows};
+ghost use Rattle.requester_core.specs.Outstanding.{kind_of};
 
-use crate::{Asked, ReplyOutcome, Setup, Talk, Way};
+use crate::{ClearState, PendingRequest, ReplyOutcome, Setup, TransferMode};
 use chunking::{Collected, Collector};
 use spdm_basis::Frame;
 use spdm_grammar::{ChunkFault, ChunkView, ReqIgnored, Response};
@@ -35,9 +35,9 @@ fn other_chunk(handle: u8, number: u16, chunk: ChunkView<'_>) -> Option<ChunkFau
     None
 }
 
-impl Talk {
+impl ClearState {
     // CHUNK_GET for the chunk after this one is sent.
-    fn fetch(&mut self, asked: Asked, handle: u8, number: u16, out: &mut Frame) -> u8
+    fn fetch(&mut self, asked: PendingRequest, handle: u8, number: u16, out: &mut Frame) -> u8
         ensures { (h : History) (request : RequestMessage) (before : List ChunkMessage)
             → Shows self.old h → kind_of request ≡ asked
             → self.old.outgoing.request ≡ canonical_request request
@@ -45,18 +45,18 @@ impl Talk {
             → SendsNext h (goes_on Nothing (get_sent h request handle (number + 1) before))
             (get_sent h request handle (number + 1) before) result self.new out.new }
     {
-        let way = Way::ForChunk {
+        let mode = TransferMode::ForChunk {
             handle,
             number: number.saturating_add(1),
         };
-        self.outgoing.send(asked, way, 0, out)
+        self.outgoing.send(asked, mode, 0, out)
     }
 
     // The chunk came that is awaited of a large response to what is asked.
     fn on_chunk(
         &mut self,
         setup: &Setup<'_>,
-        asked: Asked,
+        asked: PendingRequest,
         chunk: ChunkView<'_>,
         gathered: &mut Collector,
         out: &mut Frame,
@@ -93,7 +93,7 @@ impl Talk {
     pub(crate) fn on_get(
         &mut self,
         setup: &Setup<'_>,
-        asked: Asked,
+        asked: PendingRequest,
         handle: u8,
         number: u16,
         gathered: &mut Collector,

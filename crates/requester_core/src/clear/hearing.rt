@@ -4,48 +4,48 @@ ghost use Rattle.requester_machine.specs.Setup.{ReqSetup};
 ghost use Rattle.requester_core.specs.Gathering.{Gathers};
 ghost use Rattle.requester_core.specs.Hearing.{IsHeard, IsRegathered, exchange_id, heard_in, heard_of, rested};
 ghost use Rattle.requester_core.specs.Setup.{IsSetUp};
-ghost use Rattle.requester_core.specs.Talk.{StandsFor};
+ghost use Rattle.requester_core.specs.ClearState.{StandsFor};
 
 use crate::clear::bodies::{error_in, is_clear, message_in};
-use crate::{Asked, Heard, ReplyOutcome, Setup, Talk, Waiting};
+use crate::{BodyOutcome, ClearState, Outstanding, PendingRequest, ReplyOutcome, Setup};
 use chunking::Collector;
 use spdm_basis::Frame;
 use spdm_grammar::{Event, ReqIgnored};
 
-impl Asked {
+impl PendingRequest {
     // The ReqSessionID of a PSK_EXCHANGE, and 0 for any other request.
     fn exchange_id(self) -> u16
         ensures { result ≡ exchange_id self }
     {
         match self {
-            Asked::Exchange { id, .. } => id,
+            PendingRequest::Exchange { id, .. } => id,
             _ => 0,
         }
     }
 
     // What is reported where nothing is sent on a message to a request that asks this.
-    fn rested(self, told: Event) -> Heard
+    fn rested(self, told: Event) -> BodyOutcome
         ensures { result ≡ rested self told }
     {
         match self {
-            Asked::Exchange { id, .. } => Heard::Closes { id, told },
-            _ => Heard::Rests(told),
+            PendingRequest::Exchange { id, .. } => BodyOutcome::Closes { id, told },
+            _ => BodyOutcome::Rests(told),
         }
     }
 }
 
 impl ReplyOutcome {
     // What is reported of a body with a message to a request that asks this.
-    fn heard(self, asked: Asked) -> Heard
+    fn heard(self, asked: PendingRequest) -> BodyOutcome
         ensures { result ≡ heard_of asked self }
     {
         match self {
-            ReplyOutcome::Ignored(cause) => Heard::Ignored(cause),
+            ReplyOutcome::Ignored(cause) => BodyOutcome::Ignored(cause),
             ReplyOutcome::Rests(told) => asked.rested(told),
             ReplyOutcome::Sends { tag }
             | ReplyOutcome::Large { tag }
-            | ReplyOutcome::More { tag } => Heard::Sends { tag },
-            ReplyOutcome::Exchange => Heard::Exchange {
+            | ReplyOutcome::More { tag } => BodyOutcome::Sends { tag },
+            ReplyOutcome::Exchange => BodyOutcome::Exchange {
                 id: asked.exchange_id(),
             },
         }
@@ -53,16 +53,16 @@ impl ReplyOutcome {
 }
 
 // A body came that no test refuses, while a record of the session with this ReqSessionID is outstanding.
-fn in_session(id: u16, body: &[u8]) -> Heard
+fn in_session(id: u16, body: &[u8]) -> BodyOutcome
     ensures { result ≡ heard_in id body.now }
 {
     if is_clear(body) {
-        return Heard::Warned(error_in(message_in(body)).unwrap_or(0));
+        return BodyOutcome::Warned(error_in(message_in(body)).unwrap_or(0));
     }
-    Heard::Record { id }
+    BodyOutcome::Record { id }
 }
 
-impl Talk {
+impl ClearState {
     /// Handles a complete message body, with its tag owner bit and tag. `gathered` has the chunks received of the large
     /// response to the outstanding request. The clear message sent next, if any, or the awaited PSK_EXCHANGE_RSP,
     /// overwrites `out`.
@@ -74,7 +74,7 @@ impl Talk {
         tag: u8,
         body: &[u8],
         out: &mut Frame,
-    ) -> Heard
+    ) -> BodyOutcome
         ensures heard { (q : ReqSetup) (h : History) → IsSetUp setup.now q → StandsFor self.old q h
             → Gathers q (outstanding h) gathered.old
             → IsHeard q h owner tag body.now result self.old self.new out.new }
@@ -83,12 +83,12 @@ impl Talk {
             → IsRegathered q h owner tag body.now result gathered.old gathered.new }
     {
         if let Some(cause) = self.body_fault(setup, owner, tag, body) {
-            return Heard::Ignored(cause);
+            return BodyOutcome::Ignored(cause);
         }
         match self.outgoing.waiting() {
-            Waiting::Nothing => Heard::Ignored(ReqIgnored::NothingOutstanding),
-            Waiting::InSession { id, .. } => in_session(id, body),
-            Waiting::InClear { asked, .. } => self
+            Outstanding::Nothing => BodyOutcome::Ignored(ReqIgnored::NothingOutstanding),
+            Outstanding::InSession { id, .. } => in_session(id, body),
+            Outstanding::InClear { asked, .. } => self
                 .on_clear(setup, gathered, message_in(body), out)
                 .heard(asked),
         }

@@ -3,17 +3,17 @@ ghost use Rattle.chunking.specs.Cutting as cutting;
 ghost use Rattle.chunking.specs.Cutting.{chunk_count};
 ghost use Rattle.negotiate.specs.declared.shared.Common.{Common};
 ghost use Rattle.requester_machine.specs.Sending.{request_sent};
-ghost use Rattle.requester_core.specs.Waiting.{kind_of};
+ghost use Rattle.requester_core.specs.Outstanding.{kind_of};
 ghost use Rattle.requester_machine.specs.History.{History, next_handle, next_tag};
 ghost use Rattle.spdm_grammar.specs.Message.{RequestMessage, request_message};
 ghost use Rattle.spdm_grammar.specs.Message.RequestMessage.{ChunkGet, ChunkSend};
 ghost use Rattle.spdm_grammar.specs.Requests.{IsSoundRequest, canonical_request};
 ghost use Rattle.spdm_grammar.specs.declared.names.TheConstants.{MAX_MESSAGE_SIZE, MIN_DATA_TRANSFER_SIZE};
 ghost use Rattle.requester_core.specs.Outgoing.{IsCut, Sends, message_for, passed_over, tag_after, taken_back};
-ghost use Rattle.requester_core.specs.declared.clear.waiting.Waiting.TheVariants as waits;
-ghost use Rattle.requester_core.specs.declared.clear.waiting.Way.TheVariants as ways;
+ghost use Rattle.requester_core.specs.declared.clear.outstanding.Outstanding.TheVariants as waits;
+ghost use Rattle.requester_core.specs.declared.clear.outstanding.TransferMode.TheVariants as modes;
 
-use crate::{Asked, Waiting, Way};
+use crate::{Outstanding, PendingRequest, TransferMode};
 use chunking::nth_chunk;
 use spdm_basis::Frame;
 use spdm_codec::write_request;
@@ -26,7 +26,7 @@ use std::marker::Model;
 pub struct Outgoing {
     tag: u8,
     handle: u8,
-    waiting: Waiting,
+    waiting: Outstanding,
     request: Frame,
 }
 
@@ -51,13 +51,13 @@ impl Outgoing {
         Outgoing {
             tag: 0,
             handle: 0,
-            waiting: Waiting::Nothing,
+            waiting: Outstanding::Nothing,
             request: Frame::new(),
         }
     }
 
     /// What is awaited.
-    pub fn waiting(&self) -> Waiting
+    pub fn waiting(&self) -> Outstanding
         ensures { result ≡ self.now.waiting }
     {
         self.waiting
@@ -79,27 +79,27 @@ impl Outgoing {
     }
 
     /// Clears what is outstanding.
-    pub fn rest(&mut self)
+    pub fn clear_outstanding(&mut self)
         ensures { self.new ≡ record self.old { waiting = waits.Nothing } }
     {
-        self.waiting = Waiting::Nothing;
+        self.waiting = Outstanding::Nothing;
     }
 
     /// The outstanding message was never sent: its tag is the next one again, and so is its handle,
     /// where it was the first chunk of a large request.
-    pub fn take_back(&mut self)
+    pub fn undo_send(&mut self)
         ensures { self.new ≡ taken_back self.old }
     {
         self.tag = (self.tag % 8 + 7) % 8;
         if self.waiting.is_first() {
             self.handle = self.handle.wrapping_sub(1);
         }
-        self.waiting = Waiting::Nothing;
+        self.waiting = Outstanding::Nothing;
     }
 
     /// A large request was sent in chunks, of which this was the number of the last, from 0 on: they took their tags,
     /// and it took its handle.
-    pub fn pass_over(&mut self, number: u16)
+    pub fn skip_chunks(&mut self, number: u16)
         ensures { self.new ≡ passed_over number self.old }
     {
         self.tag = (self.tag % 8 + (number % 8) as u8 + 1) % 8;
@@ -125,7 +125,7 @@ impl Outgoing {
         } }
     {
         let tag = self.take_tag();
-        self.waiting = Waiting::InSession { tag, id };
+        self.waiting = Outstanding::InSession { tag, id };
         tag
     }
 
@@ -141,26 +141,26 @@ impl Outgoing {
     }
 
     /// Overwrites `out` with the message that is sent for the kept request, to a responder of this DataTransferSize.
-    pub fn write(&self, way: Way, transfer: u32, out: &mut Frame)
-        ensures out { IsCut way transfer self.now.request
-            → out.new ≡ message_for way transfer self.now.request }
+    pub fn write(&self, mode: TransferMode, transfer: u32, out: &mut Frame)
+        ensures out { IsCut mode transfer self.now.request
+            → out.new ≡ message_for mode transfer self.now.request }
         ensures fits { length self.now.request ≤ MAX_MESSAGE_SIZE }
     {
         let request = self.request.as_slice();
-        match way {
-            Way::Whole => {
+        match mode {
+            TransferMode::Whole => {
                 let _ = out.replace(request);
             }
-            Way::ByChunks { handle, number } => {
+            TransferMode::ByChunks { handle, number } => {
                 write_piece(request, transfer, handle, number, out);
             }
-            Way::ForChunk { handle, number } => write_get(handle, number, out),
+            TransferMode::ForChunk { handle, number } => write_get(handle, number, out),
         }
     }
 
     /// Whether the chunk of this number of the kept request is the last, for a responder of this DataTransferSize.
     pub fn is_last(&self, transfer: u32, handle: u8, number: u16) -> bool
-        ensures { IsCut (ways.ByChunks handle number) transfer self.now.request → result
+        ensures { IsCut (modes.ByChunks handle number) transfer self.now.request → result
             ≡ (cutting.nth_chunk transfer handle self.now.request number).last }
     {
         match nth_chunk(self.request.as_slice(), transfer, handle, number) {
@@ -171,25 +171,31 @@ impl Outgoing {
 
     /// Sends the message for the stored request, to a responder with this DataTransferSize, overwriting `out`; returns
     /// its tag.
-    pub fn send(&mut self, asked: Asked, way: Way, transfer: u32, out: &mut Frame) -> u8
+    pub fn send(
+        &mut self,
+        asked: PendingRequest,
+        mode: TransferMode,
+        transfer: u32,
+        out: &mut Frame,
+    ) -> u8
         ensures tag { result ≡ self.old.tag }
         ensures new { self.new ≡ record self.old {
           tag = tag_after self.old.tag;
-          waiting = waits.InClear self.old.tag asked way;
+          waiting = waits.InClear self.old.tag asked mode;
         } }
-        ensures out { IsCut way transfer self.old.request
-            → out.new ≡ message_for way transfer self.old.request }
+        ensures out { IsCut mode transfer self.old.request
+            → out.new ≡ message_for mode transfer self.old.request }
         ensures fits { length self.old.request ≤ MAX_MESSAGE_SIZE }
     {
-        self.write(way, transfer, out);
+        self.write(mode, transfer, out);
         let tag = self.take_tag();
-        self.waiting = Waiting::InClear { tag, asked, way };
+        self.waiting = Outstanding::InClear { tag, asked, mode };
         tag
     }
 
     /// Sends the stored request to a responder with this DataTransferSize, overwriting `out`: unchunked, or in chunks
     /// under the next handle if it is longer. Returns the tag.
-    pub fn send_request(&mut self, transfer: u32, asked: Asked, out: &mut Frame) -> u8
+    pub fn send_request(&mut self, transfer: u32, asked: PendingRequest, out: &mut Frame) -> u8
         ensures { (h : History) (request : RequestMessage) (common : Common)
             → self.old.tag ≡ next_tag h → self.old.handle ≡ next_handle h
             → self.old.request ≡ canonical_request request → kind_of request ≡ asked
@@ -198,11 +204,11 @@ impl Outgoing {
             → Sends (request_sent common h request) self.old self.new result out.new }
     {
         if self.request.as_slice().len() <= transfer as usize {
-            return self.send(asked, Way::Whole, transfer, out);
+            return self.send(asked, TransferMode::Whole, transfer, out);
         }
         let handle = self.handle;
         self.handle = handle.wrapping_add(1);
-        let first = Way::ByChunks { handle, number: 0 };
+        let first = TransferMode::ByChunks { handle, number: 0 };
         self.send(asked, first, transfer, out)
     }
 }

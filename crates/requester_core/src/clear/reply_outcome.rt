@@ -20,7 +20,7 @@ pub enum ReplyOutcome {
 
 impl ReplyOutcome {
     ghost use Rattle.std.specs.Prelude.{◌≡◌};
-    ghost use Rattle.requester_core.specs.Led.{changes_nothing, is_large};
+    ghost use Rattle.requester_core.specs.ReplyOutcome.{changes_nothing, is_large};
 
     // Whether nothing changed.
     pub(crate) fn changes_nothing(&self) -> bool

@@ -12,12 +12,12 @@ ghost use Rattle.requester_machine.specs.Setup.{ReqSetup};
 ghost use Rattle.requester_machine.specs.UnderWay.{HasSizes};
 ghost use Rattle.spdm_machine.specs.Keys.{Draw};
 ghost use Rattle.requester_core.specs.InSession.{SendsRecord, Settles, brought_by, session_fault};
-ghost use Rattle.requester_core.specs.Talk.{Shows, StandsFor};
+ghost use Rattle.requester_core.specs.ClearState.{Shows, StandsFor};
 
-use crate::Talk;
+use crate::ClearState;
 use spdm_grammar::CommandFault;
 
-impl Talk {
+impl ClearState {
     /// The first fault of a command that asks something of a session, as far as it is seen without the session: `Busy`,
     /// then `NotConnected`.
     #[tactic(auto, unfolding(requester_machine::specs::Commands::command_fault))]
@@ -56,13 +56,13 @@ impl Talk {
     }
 
     /// Registers an accepted record without data; nothing is outstanding any more.
-    pub fn rest(&mut self)
+    pub fn clear_outstanding(&mut self)
         ensures { (q : ReqSetup) (h : History) (owner : Bool) (tag : ℕ) (body : List ℕ) (f : Free)
             (d : Draw) (entry : Entry) → StandsFor self.old q h
             → Settles q h owner tag body f d entry → brought_by entry ≡ None
             → StandsFor self.new q (entry ∷ h) }
     {
-        self.outgoing.rest();
+        self.outgoing.clear_outstanding();
     }
 
     /// Registers an accepted record with these bytes, application data or a measurement record; nothing is outstanding
@@ -75,6 +75,6 @@ impl Talk {
     {
         self.brought.clear();
         let _ = self.brought.extend(bytes);
-        self.outgoing.rest();
+        self.outgoing.clear_outstanding();
     }
 }

@@ -3,8 +3,8 @@ ghost use Rattle.spdm_machine.specs.Sessions as sessions;
 ghost use Rattle.spdm_grammar.specs.declared.names.TheConstants.{MAX_PADDING, MAX_SESSIONS};
 ghost use Rattle.secured_record.specs.declared.TheConstants.{MAX_RECORD_SIZE};
 
-use crate::{SessionLed, Slot, Talk};
-use psk_session::{Ask, OpenFault, Opening, SessionTerms};
+use crate::{ClearState, RecordOutcome, Slot};
+use psk_session::{OpenFault, Opening, SessionRequest, SessionTerms};
 use spdm_basis::{Psk, RecordFault};
 use spdm_grammar::names::{MAX_SESSIONS, SESSION_PLACES};
 use spdm_grammar::{CommandFault, ReqIgnored, SessionView};
@@ -53,12 +53,13 @@ fn least_free(first: bool, second: bool, third: bool) -> u16
 
 impl Sessions {
     ghost use Rattle.std.specs.Prelude.{◌≡◌, ◌≢◌, ◌≤◌, ◌<◌, ◌^◌, ◌-◌, ◌∷◌, [], None, Some, Bool, false, true, ℕ, List, drop, length};
-    ghost use Rattle.requester_core.specs.SessionLed.{IsStepped};
+    ghost use Rattle.requester_core.specs.RecordOutcome.{IsStepped};
     ghost use Rattle.requester_core.specs.SessionSteps.{BringsExchange, IsBegunBy, IsRecordOf, IsRecorded, IsToldTo};
     ghost use Rattle.requester_core.specs.Sessions.{IsNamed, StandsFor, session_for, slot_of};
     ghost use Rattle.requester_core.specs.Slot.{IsSlotOf, shown_of};
     ghost use Rattle.requester_core.specs.SlotSteps.{IsAcceptedBy, IsAskedOf};
-    ghost use Rattle.requester_core.specs.Talk as clear_part;
+    ghost use Rattle.requester_core.specs.ClearState as clear_part;
+    ghost use Rattle.requester_core.specs.Wiped.{IsWiped, IsWipedSlot};
     ghost use Rattle.requester_core.specs.declared.in_sessions.slot.Slot.TheVariants as slot;
     ghost use Rattle.psk_session.specs.AskLaws.{command_at};
     ghost use Rattle.psk_session.specs.Data.{data_of};
@@ -142,12 +143,33 @@ impl Sessions {
             → asks false q h Connect f d ≡ Adds (Told Connect sent d)
             → StandsFor self.new q (Told Connect sent d ∷ h) }
     {
+        self.wipe();
         *self = Sessions::none();
+    }
+
+    /// Overwrites the keys and the plaintexts of each session in place. Not to be gone on with, but to be cleared.
+    pub(crate) fn wipe(&mut self)
+        ensures { IsWiped self.new }
+    {
+        self.wipe_at(1);
+        self.wipe_at(2);
+        self.wipe_at(3);
+        self.wipe_at(4);
+    }
+
+    // Overwrites what the slot with this ReqSessionID holds.
+    fn wipe_at(&mut self, id: u16)
+        ensures own { IsWipedSlot (slot_of self.new id) }
+        ensures others { (i : ℕ) → i ≢ id → slot_of self.new i ≡ slot_of self.old i }
+    {
+        if id >= 1 && id <= MAX_SESSIONS as u16 {
+            self.slots[usize::from(id) - 1].wipe();
+        }
     }
 
     // Sends a request in the session with this ReqSessionID, in a record with this padding of at most 16 bytes, while
     // nothing is outstanding and the phase is Negotiated.
-    fn ask_at(&mut self, id: u16, ask: Ask<'_>, pad: &[u8]) -> Result<(), CommandFault>
+    fn ask_at(&mut self, id: u16, ask: SessionRequest<'_>, pad: &[u8]) -> Result<(), CommandFault>
         requires pad { length pad.now ≤ MAX_PADDING }
         ensures own { (psk : List ℕ) (s : Steps) → IsSlotOf (slot_of self.old id) psk s
             → FitsWaits Rests s → response_epoch s < 2 ^ 64 - 1
@@ -163,7 +185,7 @@ impl Sessions {
 
     /// Sends a request in the session with this ReqSessionID, in a record with this padding of at most 16 bytes, while
     /// nothing is outstanding and the phase is Negotiated.
-    pub fn ask(&mut self, id: u16, ask: Ask<'_>, pad: &[u8]) -> Result<(), CommandFault>
+    pub fn ask(&mut self, id: u16, ask: SessionRequest<'_>, pad: &[u8]) -> Result<(), CommandFault>
         requires pad { length pad.now ≤ MAX_PADDING }
         ensures { (q : ReqSetup) (h : History) (f : Free) (d : Draw) → f.pad ≡ pad.now
             → length h < 2 ^ 64 - 1 → outstanding h ≡ None → is_negotiated (phase_of h) ≡ true
@@ -180,7 +202,7 @@ impl Sessions {
     }
 
     // A record for the session with this ReqSessionID.
-    fn step(&mut self, id: u16, sealed: &[u8], pad: &[u8]) -> SessionLed
+    fn step(&mut self, id: u16, sealed: &[u8], pad: &[u8]) -> RecordOutcome
         requires pad { length pad.now ≤ MAX_PADDING }
         ensures own { (psk : List ℕ) (s : Steps) (a : message.Ask)
             → IsSlotOf (slot_of self.old id) psk s → waiting_ask s ≡ Some a
@@ -190,14 +212,14 @@ impl Sessions {
         ensures id { self.new.id ≡ self.old.id }
     {
         if id == 0 || id > MAX_SESSIONS as u16 {
-            return SessionLed::Ignored(RecordFault::KeySpent);
+            return RecordOutcome::Ignored(RecordFault::KeySpent);
         }
         self.slots[usize::from(id) - 1].take(sealed, pad)
     }
 
     /// Handles a record while one of a session is outstanding. A further record that is sent has this padding, of at
     /// most 16 bytes.
-    pub fn on_record(&mut self, sealed: &[u8], pad: &[u8]) -> SessionLed
+    pub fn on_record(&mut self, sealed: &[u8], pad: &[u8]) -> RecordOutcome
         requires pad { length pad.now ≤ MAX_PADDING }
         ensures { (q : ReqSetup) (h : History) (f : Free) (tag : ℕ) (d : Draw) (sent : Sent)
             (id : ℕ) (ask : message.Ask) → HasSizes q → f.pad ≡ pad.now
@@ -286,22 +308,27 @@ impl Sessions {
 
     /// PSK_EXCHANGE was sent, as the clear part holds it, with this ReqSessionID from 1 to 4 and this kind of
     /// measurement summary: its session begins, under this pre-shared key.
-    pub fn open(&mut self, talk: &Talk, psk: &Psk, id: u16, summary: u8)
+    pub fn open(&mut self, clear_state: &ClearState, psk: &Psk, id: u16, summary: u8)
         requires least { 1 ≤ id }
         requires most { id ≤ MAX_SESSIONS }
         ensures { (q : ReqSetup) (h : History) (f : Free) (d : Draw) (sent : Sent)
             → q.psk ≡ psk.now → f.id ≡ id
             → asks false q h (Open summary) f d ≡ Adds (Told (Open summary) sent d)
-            → clear_part.StandsFor talk.now q (Told (Open summary) sent d ∷ h)
+            → clear_part.StandsFor clear_state.now q (Told (Open summary) sent d ∷ h)
             → StandsFor self.old q h → StandsFor self.new q (Told (Open summary) sent d ∷ h) }
     {
         let terms = SessionTerms {
-            choice: talk.choice(),
-            common: *talk.common(),
+            choice: clear_state.choice(),
+            common: *clear_state.common(),
             summary: summary != 0,
             req_id: id,
         };
-        let state = Opening::start(talk.vca(), psk, talk.outgoing.request(), terms);
+        let state = Opening::start(
+            clear_state.vca(),
+            psk,
+            clear_state.outgoing.request(),
+            terms,
+        );
         self.put(id, Slot::Opening(state));
     }
 
@@ -343,7 +370,7 @@ impl Sessions {
         ensures id { self.new.id ≡ self.old.id }
     {
         if id >= 1 && id <= MAX_SESSIONS as u16 {
-            self.slots[usize::from(id) - 1] = Slot::Empty;
+            self.slots[usize::from(id) - 1].clear();
         }
     }
 

@@ -1,5 +1,5 @@
 ghost use Rattle.std.specs.Prelude.{◌≡◌, ◌≤◌, ◌<◌, ◌-◌, ◌^◌, ℕ, List, length};
-ghost use Rattle.requester_core.specs.SessionLed.{IsStepped, settled, told_led};
+ghost use Rattle.requester_core.specs.RecordOutcome.{IsStepped, settled, told_led};
 ghost use Rattle.requester_core.specs.Slot.{IsFinishing, IsResting};
 ghost use Rattle.requester_core.specs.SlotSteps.{IsAskedOf};
 ghost use Rattle.requester_core.specs.declared.in_sessions.slot.Slot.TheVariants as slot;
@@ -12,9 +12,10 @@ ghost use Rattle.requester_machine.specs.Session.{Steps, request_epoch, response
 ghost use Rattle.spdm_grammar.specs.declared.names.TheConstants.{MAX_PADDING};
 ghost use Rattle.secured_record.specs.declared.TheConstants.{MAX_RECORD_SIZE};
 
-use crate::SessionLed;
+use crate::RecordOutcome;
 use psk_session::{
-    Ask, AskFault, FinishTook, Finishing, OpenFault, Opening, Reply, ReqSession, Told,
+    AskFault, FinishTook, Finishing, OpenFault, Opening, Reply, ReqSession, ResponseOutcome,
+    SessionRequest,
 };
 use spdm_basis::{RecordFault, SessionId};
 use spdm_grammar::{CommandFault, Event, Finished, SessionView};
@@ -47,15 +48,15 @@ fn event_of(id: SessionId, reply: Reply) -> Event
 }
 
 // What is reported of a record in this session.
-fn led_as(id: SessionId, told: Told) -> SessionLed
+fn led_as(id: SessionId, told: ResponseOutcome) -> RecordOutcome
     ensures { result ≡ told_led id told }
 {
     match told {
-        Told::Answer(reply) => SessionLed::Rests(event_of(id, reply)),
-        Told::Next => SessionLed::Sends,
-        Told::Ended => SessionLed::Ends(Event::Done(Finished::Ended(id))),
-        Told::Bad(fault) => SessionLed::Ends(Event::Lost(id, fault)),
-        Told::Stay(fault) => SessionLed::Ignored(fault),
+        ResponseOutcome::Answer(reply) => RecordOutcome::Rests(event_of(id, reply)),
+        ResponseOutcome::Next => RecordOutcome::Sends,
+        ResponseOutcome::Ended => RecordOutcome::Ends(Event::Done(Finished::Ended(id))),
+        ResponseOutcome::Bad(fault) => RecordOutcome::Ends(Event::Lost(id, fault)),
+        ResponseOutcome::Stay(fault) => RecordOutcome::Ignored(fault),
     }
 }
 
@@ -71,21 +72,21 @@ fn fault_as(fault: AskFault) -> CommandFault
 }
 
 // A record for a session that awaits one.
-fn step(session: &mut ReqSession, sealed: &[u8], pad: &[u8]) -> SessionLed
+fn step(session: &mut ReqSession, sealed: &[u8], pad: &[u8]) -> RecordOutcome
     requires { length pad.now ≤ MAX_PADDING }
     ensures { (psk : List ℕ) (s : Steps) (a : message.Ask) → IsAwaiting session.old psk s a
         → request_epoch s < 2 ^ 64 - 1 → taken_of s < 2 ^ 64
         → IsStepped psk s a sealed.now pad.now (settled result (slot.Live session.new)) result }
 {
     if !session.is_awaiting() || session.request_epoch() == u64::MAX {
-        return SessionLed::Ignored(RecordFault::KeySpent);
+        return RecordOutcome::Ignored(RecordFault::KeySpent);
     }
     let id = session.view().id;
     led_as(id, session.take_with(sealed, pad))
 }
 
 // A record for a session that awaits PSK_FINISH_RSP.
-fn take_finish(state: Finishing, sealed: &[u8]) -> (Slot, SessionLed)
+fn take_finish(state: Finishing, sealed: &[u8]) -> (Slot, RecordOutcome)
     ensures { (psk : List ℕ) (s : Steps) (pad : List ℕ) → IsFinishing state psk s
         → IsStepped psk s AskFinish sealed.now pad (settled result.1 result.0) result.1 }
 {
@@ -93,18 +94,24 @@ fn take_finish(state: Finishing, sealed: &[u8]) -> (Slot, SessionLed)
     match state.take(sealed) {
         FinishTook::Open(open) => (
             Slot::Live(open.into_session()),
-            SessionLed::Rests(Event::Done(Finished::Opened(id))),
+            RecordOutcome::Rests(Event::Done(Finished::Opened(id))),
         ),
-        FinishTook::Bad(_, fault) => (Slot::Empty, SessionLed::Ends(Event::Lost(id, fault))),
-        FinishTook::Stay(state, fault) => (Slot::Finishing(state), SessionLed::Ignored(fault)),
+        // The session is gone: one of zeros is put over it, before its slot is emptied.
+        FinishTook::Bad(_, fault) => (
+            Slot::Live(ReqSession::wiped()),
+            RecordOutcome::Ends(Event::Lost(id, fault)),
+        ),
+        FinishTook::Stay(state, fault) => (Slot::Finishing(state), RecordOutcome::Ignored(fault)),
     }
 }
 
 impl Slot {
     ghost use Rattle.std.specs.Prelude.{◌≡◌, ◌≤◌, ◌<◌, ◌-◌, ◌^◌, [], ℕ, List, None, Some, length};
-    ghost use Rattle.requester_core.specs.SessionLed.{IsStepped, settled};
+    ghost use Rattle.requester_core.specs.RecordOutcome.{IsStepped, settled};
     ghost use Rattle.requester_core.specs.Slot.{IsFinishingSlot, IsSlotOf, shown_of};
     ghost use Rattle.requester_core.specs.SlotSteps.{IsAcceptedBy, IsAskedOf};
+    ghost use Rattle.requester_core.specs.Wiped.{IsWipedSlot};
+    ghost use Rattle.requester_core.specs.declared.in_sessions.slot.Slot.TheVariants as slot;
     ghost use Rattle.psk_session.specs.Data.{data_of};
     ghost use Rattle.psk_session.specs.Opening.{started};
     ghost use Rattle.psk_session.specs.Waiting.{IsNewest};
@@ -147,7 +154,7 @@ impl Slot {
     }
 
     /// Sends a request in the session.
-    pub(crate) fn ask(&mut self, ask: Ask<'_>, pad: &[u8]) -> Result<(), CommandFault>
+    pub(crate) fn ask(&mut self, ask: SessionRequest<'_>, pad: &[u8]) -> Result<(), CommandFault>
         requires { length pad.now ≤ MAX_PADDING }
         ensures { (psk : List ℕ) (s : Steps) → IsSlotOf self.old psk s → FitsWaits Rests s
             → response_epoch s < 2 ^ 64 - 1
@@ -161,7 +168,7 @@ impl Slot {
     }
 
     // A record for the session.
-    pub(crate) fn take(&mut self, sealed: &[u8], pad: &[u8]) -> SessionLed
+    pub(crate) fn take(&mut self, sealed: &[u8], pad: &[u8]) -> RecordOutcome
         requires { length pad.now ≤ MAX_PADDING }
         ensures { (psk : List ℕ) (s : Steps) (a : message.Ask) → IsSlotOf self.old psk s
             → waiting_ask s ≡ Some a → request_epoch s < 2 ^ 64 - 1 → taken_of s < 2 ^ 64
@@ -173,16 +180,36 @@ impl Slot {
     }
 
     // Empties the slot where the session is gone.
-    fn settle(&mut self, led: &SessionLed)
+    fn settle(&mut self, led: &RecordOutcome)
         ensures { self.new ≡ settled led.now self.old }
     {
         if led.is_end() {
-            *self = Slot::Empty;
+            self.clear();
+        }
+    }
+
+    /// Empties the slot: what it holds is overwritten before.
+    pub(crate) fn clear(&mut self)
+        ensures { self.new ≡ slot.Empty }
+    {
+        self.wipe();
+        *self = Slot::Empty;
+    }
+
+    /// Overwrites the keys and the plaintexts of the session in place. Not to be gone on with, but to be emptied.
+    pub(crate) fn wipe(&mut self)
+        ensures { IsWipedSlot self.new }
+    {
+        match self {
+            Slot::Empty => {}
+            Slot::Opening(state) => state.wipe(),
+            Slot::Finishing(state) => state.wipe(),
+            Slot::Live(session) => session.wipe(),
         }
     }
 
     // A record for the session, which stays in its slot.
-    fn answer(&mut self, sealed: &[u8], pad: &[u8]) -> SessionLed
+    fn answer(&mut self, sealed: &[u8], pad: &[u8]) -> RecordOutcome
         requires { length pad.now ≤ MAX_PADDING }
         ensures { (psk : List ℕ) (s : Steps) (a : message.Ask) → IsSlotOf self.old psk s
             → waiting_ask s ≡ Some a → request_epoch s < 2 ^ 64 - 1 → taken_of s < 2 ^ 64
@@ -191,13 +218,13 @@ impl Slot {
         match self {
             Slot::Live(session) => step(session, sealed, pad),
             Slot::Finishing(_) => self.finish(sealed),
-            Slot::Opening(_) => SessionLed::Ignored(RecordFault::KeySpent),
-            Slot::Empty => SessionLed::Ignored(RecordFault::KeySpent),
+            Slot::Opening(_) => RecordOutcome::Ignored(RecordFault::KeySpent),
+            Slot::Empty => RecordOutcome::Ignored(RecordFault::KeySpent),
         }
     }
 
     // A record for a session that awaits PSK_FINISH_RSP.
-    fn finish(&mut self, sealed: &[u8]) -> SessionLed
+    fn finish(&mut self, sealed: &[u8]) -> RecordOutcome
         ensures { (psk : List ℕ) (s : Steps) (a : message.Ask) (pad : List ℕ)
             → IsFinishingSlot self.old psk s → waiting_ask s ≡ Some a
             → IsStepped psk s a sealed.now pad (settled result self.new) result }
@@ -210,7 +237,7 @@ impl Slot {
             }
             other => {
                 *self = other;
-                SessionLed::Ignored(RecordFault::KeySpent)
+                RecordOutcome::Ignored(RecordFault::KeySpent)
             }
         }
     }
@@ -258,7 +285,7 @@ impl Slot {
 }
 
 // Asks something of a session that is open.
-fn ask_of(session: &mut ReqSession, ask: Ask<'_>, pad: &[u8]) -> Result<(), CommandFault>
+fn ask_of(session: &mut ReqSession, ask: SessionRequest<'_>, pad: &[u8]) -> Result<(), CommandFault>
     requires { length pad.now ≤ MAX_PADDING }
     ensures { (psk : List ℕ) (s : Steps) → IsResting session.old psk s
         → response_epoch s < 2 ^ 64 - 1

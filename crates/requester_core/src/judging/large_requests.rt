@@ -1,12 +1,12 @@
 use crate::body::write_clear;
-use crate::{Asked, Asking, Body, Talk, Waiting, Way};
+use crate::{Body, ClearState, Outstanding, PendingRequest, RequesterCore, TransferMode};
 use spdm_basis::Frame;
 
-impl Talk {
+impl ClearState {
     ghost use Rattle.std.specs.Prelude.{◌≡◌, ◌∷◌, None, Some, true};
     ghost use Rattle.requester_core.specs.LargeRequests.{IsBrokenOff, SendsPiece, next_piece, piece_behind};
     ghost use Rattle.requester_core.specs.Owed.{TookAny};
-    ghost use Rattle.requester_core.specs.Talk.{Counts, Shows, StandsFor};
+    ghost use Rattle.requester_core.specs.ClearState.{Counts, Shows, StandsFor};
     ghost use Rattle.requester_machine.specs.History.{History, begins_large, outstanding};
     ghost use Rattle.requester_machine.specs.History.Entry.{Told};
     ghost use Rattle.requester_machine.specs.Message as message;
@@ -17,10 +17,16 @@ impl Talk {
     ghost use Rattle.requester_machine.specs.UnderWay.{HasSizes};
     ghost use Rattle.spdm_grammar.specs.Message.{RequestMessage};
     ghost use Rattle.spdm_machine.specs.Keys.{Draw};
-    ghost use Rattle.requester_core.specs.Waiting.{kind_of};
+    ghost use Rattle.requester_core.specs.Outstanding.{kind_of};
 
     // Sends the chunk after the one of this number, which is outstanding, where that is not the last.
-    fn send_behind(&mut self, asked: Asked, handle: u8, number: u16, out: &mut Frame) -> Option<u8>
+    fn send_behind(
+        &mut self,
+        asked: PendingRequest,
+        handle: u8,
+        number: u16,
+        out: &mut Frame,
+    ) -> Option<u8>
         ensures { (q : ReqSetup) (h : History) (sent : Sent) (request : RequestMessage) → HasSizes q
             → StandsFor self.old q h → outstanding h ≡ Some sent
             → sent.aim ≡ ByChunks request handle number → kind_of request ≡ asked
@@ -30,11 +36,11 @@ impl Talk {
         if self.outgoing.is_last(transfer, handle, number) {
             return None;
         }
-        let way = Way::ByChunks {
+        let mode = TransferMode::ByChunks {
             handle,
             number: number.saturating_add(1),
         };
-        Some(self.outgoing.send(asked, way, transfer, out))
+        Some(self.outgoing.send(asked, mode, transfer, out))
     }
 
     // Sends the chunk after the one that is outstanding, where there is one.
@@ -43,9 +49,9 @@ impl Talk {
             → SendsPiece q h (next_piece h) result out.new self.old self.new }
     {
         match self.outgoing.waiting() {
-            Waiting::InClear {
+            Outstanding::InClear {
                 asked,
-                way: Way::ByChunks { handle, number },
+                mode: TransferMode::ByChunks { handle, number },
                 ..
             } => self.send_behind(asked, handle, number, out),
             _ => None,
@@ -60,13 +66,13 @@ impl Talk {
             → Shows self.old (with_next (Some sent) bare) → Shows self.new bare }
     {
         if self.is_busy() {
-            self.take_back();
+            self.undo_send();
         }
     }
 
     // A large request was sent in chunks, up to the one of this number, in place of the outstanding message, which was
     // never sent, if there is one.
-    fn pass_over(&mut self, number: u16)
+    fn skip_chunks(&mut self, number: u16)
         ensures told { (h over : History) (command : message.Command) (first : Sent) (d : Draw)
             → outstanding h ≡ None → Shows self.old h → begins_large first.aim ≡ true
             → IsBrokenOff (Told command first d ∷ h) number over → Counts self.new over }
@@ -75,12 +81,12 @@ impl Talk {
             → IsBrokenOff (with_next (Some first) bare) number over → Counts self.new over }
     {
         self.take_back_owed();
-        self.outgoing.pass_over(number);
+        self.outgoing.skip_chunks(number);
     }
 }
 
 // A large request of which chunks came; used only by the checker.
-impl Asking {
+impl RequesterCore {
     ghost use Rattle.std.specs.Prelude.{◌≡◌, ◌∷◌, None, Some, false, true};
     ghost use Rattle.requester_core.specs.Joined.{IsDone, StandsFor};
     ghost use Rattle.requester_core.specs.LargeRequests.{IsAcknowledged, IsBrokenOff, next_piece};
@@ -104,7 +110,7 @@ impl Asking {
         ensures { (q : ReqSetup) (h : History) → HasSizes q → StandsFor self.old q h
             → IsAcknowledged q h (next_piece h) result out.new self.new }
     {
-        let tag = self.talk.send_piece(&mut self.message)?;
+        let tag = self.clear_state.send_piece(&mut self.message)?;
         write_clear(self.message.as_slice(), out);
         Some(tag)
     }
@@ -124,7 +130,7 @@ impl Asking {
             → IsBrokenOff (with_next (Some first) bare) number over
             → IsDone q over (asks false q over Connect f d) result out.new self.new }
     {
-        self.talk.pass_over(number);
+        self.clear_state.skip_chunks(number);
         self.connect(out)
     }
 }

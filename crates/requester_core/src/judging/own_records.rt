@@ -1,18 +1,18 @@
-use crate::{Asking, Talk, Waiting};
+use crate::{ClearState, Outstanding, RequesterCore};
 use psk_session::InnerPair;
 use spdm_basis::RecordFrame;
 
-impl Talk {
+impl ClearState {
     ghost use Rattle.std.specs.Prelude.{◌≡◌};
     ghost use Rattle.requester_core.specs.OwnRecords.{awaits_record, session_awaited};
-    ghost use Rattle.requester_core.specs.Talk.{Shows};
+    ghost use Rattle.requester_core.specs.ClearState.{Shows};
     ghost use Rattle.requester_machine.specs.History.{History, outstanding};
 
     // Whether a record is outstanding.
     fn awaits_record(&self) -> bool
         ensures { (h : History) → Shows self.now h → result ≡ awaits_record (outstanding h) }
     {
-        matches!(self.outgoing.waiting(), Waiting::InSession { .. })
+        matches!(self.outgoing.waiting(), Outstanding::InSession { .. })
     }
 
     // The ReqSessionID of the session whose record is outstanding, where one is.
@@ -20,14 +20,14 @@ impl Talk {
         ensures { (h : History) → Shows self.now h → result ≡ session_awaited (outstanding h) }
     {
         match self.outgoing.waiting() {
-            Waiting::InSession { id, .. } => Some(id),
+            Outstanding::InSession { id, .. } => Some(id),
             _ => None,
         }
     }
 }
 
 // What a requester sealed itself; used only by the checker.
-impl Asking {
+impl RequesterCore {
     ghost use Rattle.std.specs.Prelude.{◌≡◌, ◌≤◌, ◌<◌, ◌-◌, ◌^◌, ◌∷◌, ℕ, Some, false, length, true};
     ghost use Rattle.requester_core.specs.Joined.{StandsFor};
     ghost use Rattle.requester_core.specs.Owed.{IsRepadded, IsRetold, TookFor, TookLast};
@@ -48,7 +48,7 @@ impl Asking {
         ensures { (q : ReqSetup) (h : History) → StandsFor self.now q h
             → result ≡ session_awaited (outstanding h) }
     {
-        self.talk.session_awaited()
+        self.clear_state.session_awaited()
     }
 
     /// The ReqSessionID of the session that a record names, the least.
@@ -79,7 +79,7 @@ impl Asking {
             → length bare < 2 ^ 64 - 1 → StandsFor self.now q (with_next (Some sent) bare)
             → OpensAs q.psk (session_named bare sealed.now) sealed.now result out.new }
     {
-        if self.talk.awaits_record() {
+        if self.clear_state.awaits_record() {
             self.sessions.open_before(sealed, out)
         } else {
             self.sessions.open_next(sealed, out)

@@ -18,13 +18,13 @@ use crate::clear::answers::{
     write_version,
 };
 use crate::clear::exchange::exchange_rsp_len;
-use crate::{FreeValues, Setup, Standing};
+use crate::{ClearState, FreeValues, Setup};
 use responder_rules::{LargeAnswer, Place, write_measurements};
 use spdm_basis::Frame;
 use spdm_grammar::Request;
 use spdm_grammar::names::CHUNK_SEND_ACK_FIELDS_LEN;
 
-impl Standing {
+impl ClearState {
     /// Writes the complete response to a request that passed its checks, and returns its length. A response above 4,096
     /// bytes is incomplete in `out`. For PSK_EXCHANGE_RSP only the length is returned.
     pub fn write_answer(

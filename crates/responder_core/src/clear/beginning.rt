@@ -12,13 +12,13 @@ ghost use Rattle.transcript.specs.Transcripts.{vca_of};
 ghost use Rattle.responder_core.specs.ClearPart as clear_parts;
 ghost use Rattle.responder_core.specs.Coming.{exchange_bytes};
 ghost use Rattle.responder_core.specs.Setup.{IsSetUp};
-ghost use Rattle.responder_core.specs.Standing.{StandsFor, place_at};
+ghost use Rattle.responder_core.specs.ClearState.{StandsFor, place_at};
 
-use crate::{Begun, ClearPart, Setup, Standing};
+use crate::{ClearPart, ClearState, ExchangeOrigin, Setup};
 use spdm_basis::HashBytes;
 use spdm_grammar::{Choice, Phase};
 
-impl Standing {
+impl ClearState {
     /// The messages of the negotiation, one after the other; VCA in phase Negotiated (DSP0274, "Transcript hash").
     pub fn vca(&self) -> &[u8]
         ensures { (turns : List Turn) → StandsFor self.now turns
@@ -90,7 +90,7 @@ impl Standing {
 
 impl ClearPart {
     /// The state apart from large requests.
-    pub fn standing(&self) -> &Standing
+    pub fn standing(&self) -> &ClearState
         ensures value { result.now ≡ self.now.requests.standing }
         ensures stands { (r : RspSetup) (h : History) → clear_parts.StandsFor self.now r h
             → StandsFor result.now (clear_turns h) }
@@ -99,12 +99,12 @@ impl ClearPart {
     }
 
     /// The bytes of the PSK_EXCHANGE that begins a session, in this clear message.
-    pub fn exchange<'a>(&'a self, begun: Begun, message: &'a [u8]) -> &'a [u8]
+    pub fn exchange<'a>(&'a self, begun: ExchangeOrigin, message: &'a [u8]) -> &'a [u8]
         ensures { result.now ≡ exchange_bytes begun message.now self.now.requests }
     {
         match begun {
-            Begun::InClear => message,
-            Begun::InChunks { .. } => self.requests().whole(),
+            ExchangeOrigin::InClear => message,
+            ExchangeOrigin::InChunks { .. } => self.requests().whole(),
         }
     }
 }

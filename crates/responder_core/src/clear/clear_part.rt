@@ -14,7 +14,7 @@ ghost use Rattle.responder_core.specs.Free.{IsFree};
 ghost use Rattle.responder_core.specs.Setup.{IsSetUp};
 
 use crate::clear::handling::replace;
-use crate::{Begun, Came, FreeValues, KeptReply, Requests, Setup, Told};
+use crate::{ClearOutcome, ExchangeOrigin, FreeValues, KeptReply, RequestOutcome, Requests, Setup};
 use spdm_basis::Frame;
 use spdm_grammar::Heard;
 use std::marker::Model;
@@ -94,7 +94,7 @@ impl ClearPart {
         message: &[u8],
         free: &FreeValues<'_>,
         out: &mut Frame,
-    ) -> Told
+    ) -> ClearOutcome
         ensures told { (r : RspSetup) (h : History) (f : Free) (d : Draw) → IsSetUp setup.now r
             → IsFree free.now f → StandsFor self.old r h → held_of h ≡ held
             → IsTold r h tag message.now f d result self.new out.new }
@@ -102,24 +102,24 @@ impl ClearPart {
     {
         if self.kept.is_repeat(tag, message) {
             replace(out, self.kept.reply());
-            return Told::Heard {
+            return ClearOutcome::Heard {
                 heard: Heard::Same,
                 drawn: false,
             };
         }
         match self.requests.on_request(setup, held, message, free, out) {
-            Came::Refused(code) => Told::Heard {
+            RequestOutcome::Refused(code) => ClearOutcome::Heard {
                 heard: Heard::Refused(code.number()),
                 drawn: false,
             },
-            Came::Answered { drawn } => {
+            RequestOutcome::Answered { drawn } => {
                 self.kept.keep(tag, message, out.as_slice());
-                Told::Heard {
+                ClearOutcome::Heard {
                     heard: Heard::Answered(code_at(message)),
                     drawn,
                 }
             }
-            Came::Begins(begun) => Told::Begins(begun),
+            RequestOutcome::Begins(begun) => ClearOutcome::Begins(begun),
         }
     }
 
@@ -127,7 +127,7 @@ impl ClearPart {
     /// bytes, with this handle if it is sent in chunks. The message sent overwrites `out`.
     pub fn begin(
         &mut self,
-        begun: Begun,
+        begun: ExchangeOrigin,
         tag: u8,
         message: &[u8],
         answer: &[u8],

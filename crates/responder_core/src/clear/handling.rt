@@ -9,13 +9,13 @@ ghost use Rattle.spdm_grammar.specs.Message.{ExchangeMessage, request_message};
 ghost use Rattle.spdm_grammar.specs.Message.RequestMessage.{PskExchange};
 ghost use Rattle.spdm_grammar.specs.declared.names.TheConstants.{MAX_MESSAGE_SIZE};
 ghost use Rattle.responder_core.specs.Free.{IsFree};
-ghost use Rattle.responder_core.specs.Handled.{IsHandled, IsUntouched};
+ghost use Rattle.responder_core.specs.HandledRequest.{IsHandled, IsUntouched};
 ghost use Rattle.responder_core.specs.Refused.{IsClear, IsPassed};
 ghost use Rattle.responder_core.specs.Setup.{IsSetUp};
-ghost use Rattle.responder_core.specs.Standing.{StandsFor, place_at};
+ghost use Rattle.responder_core.specs.ClearState.{StandsFor, place_at};
 ghost use Rattle.responder_core.specs.Taking.{IsTaking};
 
-use crate::{FreeValues, Handled, Setup, Standing};
+use crate::{ClearState, FreeValues, HandledRequest, Setup};
 use responder_rules::{Place, Where, write_large_response};
 use spdm_basis::Frame;
 use spdm_grammar::Request;
@@ -39,7 +39,7 @@ pub fn replace(out: &mut Frame, bytes: &[u8])
     let _ = out.replace(bytes);
 }
 
-impl Standing {
+impl ClearState {
     // Takes a request whose answer stands in `out`, and writes what is sent for it.
     fn answer(
         &mut self,
@@ -73,7 +73,7 @@ impl Standing {
         message: &'a [u8],
         free: &FreeValues<'_>,
         out: &mut Frame,
-    ) -> Handled<'a>
+    ) -> HandledRequest<'a>
         ensures handled { (r : RspSetup) (turns : List Turn) (f : Free) → IsSetUp setup.now r
             → IsFree free.now f → StandsFor self.old turns → IsClear (where_of at)
             → IsHandled r (place_at (where_of at) turns held) message.now f result self.old
@@ -85,15 +85,15 @@ impl Standing {
             Ok(request) => request,
             Err(refused) => {
                 place.write_error(refused.code, message, refused.answer_len, out);
-                return Handled::Refused(refused.code);
+                return HandledRequest::Refused(refused.code);
             }
         };
         match request {
-            Request::ChunkSend(chunk) => Handled::Chunk(chunk),
-            Request::PskExchange(exchange) => Handled::Exchange(exchange),
+            Request::ChunkSend(chunk) => HandledRequest::Chunk(chunk),
+            Request::PskExchange(exchange) => HandledRequest::Exchange(exchange),
             _ => {
                 self.answer(&place, setup, &request, message, free.handle, out);
-                Handled::Answered
+                HandledRequest::Answered
             }
         }
     }

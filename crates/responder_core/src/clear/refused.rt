@@ -1,5 +1,5 @@
-//! What is told of a refused request: a code and a length. Which request is refused, and in which order that is tested,
-//! stands in `tested.rt`.
+//! The report of a refused request: a code and a length. Which request is refused, in which order of tests, is decided in
+//! `tested.rt`.
 ghost use Rattle.std.specs.Prelude.{◌≡◌, ℕ};
 
 use spdm_grammar::ErrorCode;

@@ -16,13 +16,13 @@ ghost use Rattle.responder_core.specs.Coming.{Completes, IsBegun, IsCome, IsTake
 ghost use Rattle.responder_core.specs.Free.{IsFree};
 ghost use Rattle.responder_core.specs.Refused.{chunk_refusal};
 ghost use Rattle.responder_core.specs.Setup.{IsSetUp};
-ghost use Rattle.responder_core.specs.Standing as standings;
-ghost use Rattle.responder_core.specs.Standing.{place_at};
+ghost use Rattle.responder_core.specs.ClearState as standings;
+ghost use Rattle.responder_core.specs.ClearState.{place_at};
 
 use crate::clear::answers::write_acknowledgement;
 use crate::clear::clear_part::code_at;
 use crate::clear::gathering::{Gathered, gather};
-use crate::{Begun, Came, FreeValues, Handled, Setup, Standing};
+use crate::{ClearState, ExchangeOrigin, FreeValues, HandledRequest, RequestOutcome, Setup};
 use chunking::Collector;
 use responder_rules::Where;
 use spdm_basis::Frame;
@@ -33,7 +33,7 @@ use std::marker::Model;
 /// The request state of the clear part of a connection, and the large request that arrives in chunks.
 #[derive(Drop)]
 pub struct Requests {
-    pub(crate) standing: Standing,
+    pub(crate) standing: ClearState,
     pub(crate) collector: Collector,
     whole: Frame,
 }
@@ -66,7 +66,7 @@ impl Requests {
         ensures { (r : RspSetup) → IsSetUp setup.now r → StandsFor result r [] }
     {
         Requests {
-            standing: Standing::new(),
+            standing: ClearState::new(),
             collector: Collector::new(setup.max),
             whole: Frame::new(),
         }
@@ -106,7 +106,7 @@ impl Requests {
     }
 
     /// The state of the clear part.
-    pub fn standing(&self) -> &Standing
+    pub fn standing(&self) -> &ClearState
         ensures { result.now ≡ self.now.standing }
     {
         &self.standing
@@ -129,7 +129,7 @@ impl Requests {
         chunk: ChunkView<'_>,
         free: &FreeValues<'_>,
         out: &mut Frame,
-    ) -> Came
+    ) -> RequestOutcome
         ensures come { (r : RspSetup) (turns : List Turn) (m : List ℕ) (f : Free)
             → IsSetUp setup.now r → IsFree free.now f
             → Completes r (place_at InClear turns held) m f (chunk_message chunk.entry) self.old
@@ -142,22 +142,22 @@ impl Requests {
             .standing
             .handle(Where::InChunks, setup, held, whole, free, &mut response)
         {
-            Handled::Refused(_) => {
-                self.standing.take_nothing();
+            HandledRequest::Refused(_) => {
+                self.standing.take_chunk();
                 write_acknowledgement(chunk.handle, chunk.number, response.as_slice(), out);
-                Came::Answered { drawn: false }
+                RequestOutcome::Answered { drawn: false }
             }
-            Handled::Answered => {
+            HandledRequest::Answered => {
                 let drawn = code_at(whole) == GET_MEASUREMENTS;
                 write_acknowledgement(chunk.handle, chunk.number, response.as_slice(), out);
-                Came::Answered { drawn }
+                RequestOutcome::Answered { drawn }
             }
-            Handled::Exchange(_) => Came::Begins(Begun::InChunks {
+            HandledRequest::Exchange(_) => RequestOutcome::Begins(ExchangeOrigin::InChunks {
                 handle: chunk.handle,
                 number: chunk.number,
             }),
             // No chunk comes inside a large request.
-            Handled::Chunk(_) => Came::Answered { drawn: false },
+            HandledRequest::Chunk(_) => RequestOutcome::Answered { drawn: false },
         }
     }
 
@@ -170,7 +170,7 @@ impl Requests {
         message: &[u8],
         free: &FreeValues<'_>,
         out: &mut Frame,
-    ) -> Came
+    ) -> RequestOutcome
         ensures come { (r : RspSetup) (turns : List Turn) (f : Free) → IsSetUp setup.now r
             → IsFree free.now f → StandsFor self.old r turns
             → refused_form r (place_at InClear turns held) message.now ≡ None
@@ -186,12 +186,12 @@ impl Requests {
                 let code = code_of_fault(fault);
                 let place = self.standing.place(Where::InClear);
                 place.write_error(code, message, 0, out);
-                Came::Refused(code)
+                RequestOutcome::Refused(code)
             }
             Gathered::More => {
-                self.standing.take_nothing();
+                self.standing.take_chunk();
                 write_acknowledgement(chunk.handle, chunk.number, &[], out);
-                Came::Answered { drawn: false }
+                RequestOutcome::Answered { drawn: false }
             }
             Gathered::Whole => self.on_whole(setup, held, chunk, free, out),
         }
@@ -206,7 +206,7 @@ impl Requests {
         message: &[u8],
         free: &FreeValues<'_>,
         out: &mut Frame,
-    ) -> Came
+    ) -> RequestOutcome
         ensures come { (r : RspSetup) (turns : List Turn) (f : Free) → IsSetUp setup.now r
             → IsFree free.now f → StandsFor self.old r turns
             → IsCome r (place_at InClear turns held) message.now f result self.new out.new }
@@ -216,21 +216,21 @@ impl Requests {
             .standing
             .handle(Where::InClear, setup, held, message, free, out)
         {
-            Handled::Refused(code) => Came::Refused(code),
-            Handled::Answered => {
+            HandledRequest::Refused(code) => RequestOutcome::Refused(code),
+            HandledRequest::Answered => {
                 self.collector.clear();
-                Came::Answered {
+                RequestOutcome::Answered {
                     drawn: code_at(message) == GET_MEASUREMENTS,
                 }
             }
-            Handled::Exchange(_) => Came::Begins(Begun::InClear),
-            Handled::Chunk(chunk) => self.on_chunk(setup, held, chunk, message, free, out),
+            HandledRequest::Exchange(_) => RequestOutcome::Begins(ExchangeOrigin::InClear),
+            HandledRequest::Chunk(chunk) => self.on_chunk(setup, held, chunk, message, free, out),
         }
     }
 
     /// Completes the turn of a PSK_EXCHANGE that begins a session, with the complete PSK_EXCHANGE_RSP. The message sent
     /// overwrites `out`; it has this handle if it is sent in chunks.
-    pub fn begin(&mut self, begun: Begun, answer: &[u8], handle: u8, out: &mut Frame)
+    pub fn begin(&mut self, begun: ExchangeOrigin, answer: &[u8], handle: u8, out: &mut Frame)
         requires { length answer.now ≤ MAX_MESSAGE_SIZE }
         ensures { (r : RspSetup) (turns : List Turn) (held : ℕ) (m : List ℕ) (f : Free)
             → f.handle ≡ handle → r.transfer ≤ r.max → r.max ≤ MAX_MESSAGE_SIZE
@@ -240,11 +240,11 @@ impl Requests {
             → IsTakenTurn r (place_at InClear turns held) m f self.new out.new }
     {
         match begun {
-            Begun::InClear => {
+            ExchangeOrigin::InClear => {
                 self.standing.begin(Where::InClear, answer, handle, out);
                 self.collector.clear();
             }
-            Begun::InChunks {
+            ExchangeOrigin::InChunks {
                 handle: of_chunk,
                 number,
             } => {

@@ -13,10 +13,10 @@ ghost use Rattle.spdm_machine.specs.Sessions.{id_in_exchange};
 ghost use Rattle.responder_core.specs.ClearPart.{IsBeginning};
 ghost use Rattle.responder_core.specs.Free.{IsFree};
 ghost use Rattle.responder_core.specs.Setup.{IsSetUp};
-ghost use Rattle.responder_core.specs.Standing.{StandsFor, chosen_len, place_at};
+ghost use Rattle.responder_core.specs.ClearState.{StandsFor, chosen_len, place_at};
 ghost use Rattle.responder_core.specs.Starting.{IsStarted, IsStartedAt};
 
-use crate::{Begun, ClearPart, FreeValues, Setup, Standing};
+use crate::{ClearPart, ClearState, ExchangeOrigin, FreeValues, Setup};
 use byteorder::{ByteOrder, LittleEndian};
 use responder_session::{ExchangeParts, RspSession};
 use session_keys::{SessionTerms, byte_at};
@@ -40,7 +40,7 @@ fn summary_bytes(summary: &Option<HashBytes>) -> &[u8]
     }
 }
 
-impl Standing {
+impl ClearState {
     // What the session of a PSK_EXCHANGE stands under.
     fn terms(&self, exchange: &[u8], summary: bool) -> SessionTerms
         ensures value { (turns : List Turn) → StandsFor self.now turns
@@ -100,7 +100,7 @@ impl ClearPart {
     /// `out`. The context is at least as long as the hash.
     pub fn start(
         &self,
-        begun: Begun,
+        begun: ExchangeOrigin,
         setup: &Setup<'_>,
         message: &[u8],
         free: &FreeValues<'_>,

@@ -13,11 +13,11 @@ ghost use Rattle.spdm_grammar.specs.Message.RequestMessage.{PskExchange};
 ghost use Rattle.spdm_grammar.specs.declared.names.TheConstants.{MAX_MESSAGE_SIZE};
 ghost use Rattle.responder_core.specs.Negotiating as negotiations;
 ghost use Rattle.responder_core.specs.Setup.{IsSetUp};
-ghost use Rattle.responder_core.specs.Standing.{IsSettledAt, StandsFor, place_at};
+ghost use Rattle.responder_core.specs.ClearState.{IsSettledAt, StandsFor, place_at};
 ghost use Rattle.responder_core.specs.Taking.{IsTaking};
 
 use crate::clear::contents::{choice_of, code_of, common_with};
-use crate::{Negotiating, Setup, Standing};
+use crate::{ClearState, Negotiating, Setup};
 use responder_rules::{LargeAnswer, Place};
 use spdm_grammar::Request;
 use spdm_grammar::names::request_code::{CHUNK_GET, PSK_EXCHANGE};
@@ -73,7 +73,7 @@ fn settle_large(large: &mut LargeAnswer, place: &Place, code: u8, answer: &[u8],
     }
 }
 
-impl Standing {
+impl ClearState {
     /// Records an accepted request at this place, with its complete response of at most 4,096 bytes; if that is sent in
     /// chunks it has this handle.
     pub fn take(
@@ -112,7 +112,7 @@ impl Standing {
     }
 
     /// Records a chunk of an incomplete large request: it discards the pending large response.
-    pub fn take_nothing(&mut self)
+    pub fn take_chunk(&mut self)
         ensures { (turns : List Turn) (t : Turn) → StandsFor self.old turns → is_taken t ≡ true
             → t.effect ≡ NoEffect → StandsFor self.new (t ∷ turns) }
     {

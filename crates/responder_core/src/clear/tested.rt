@@ -18,12 +18,12 @@ ghost use Rattle.responder_core.specs.Contents.{asks_missing};
 ghost use Rattle.responder_core.specs.Free.{IsFree};
 ghost use Rattle.responder_core.specs.Refused.{IsClear, IsPendingFor, IsTested, tests_of_answer, tests_of_request};
 ghost use Rattle.responder_core.specs.Setup.{IsSetUp};
-ghost use Rattle.responder_core.specs.Standing.{StandsFor, place_at};
+ghost use Rattle.responder_core.specs.ClearState.{StandsFor, place_at};
 
 use crate::clear::contents::{
     are_caps_refused, code_of, has_no_block, is_exchange_refused, is_offer_refused,
 };
-use crate::{FreeValues, Refused, Setup, Standing};
+use crate::{ClearState, FreeValues, Refused, Setup};
 use responder_rules::{LargeAnswer, Place, Where};
 use spdm_basis::Frame;
 use spdm_grammar::names::MAX_SESSIONS;
@@ -68,7 +68,7 @@ fn answer_fault(place: &Place, code: u8, len: usize, held: u8) -> Option<ErrorCo
     None
 }
 
-impl Standing {
+impl ClearState {
     // The code for which the contents of a request are refused, but for those of a chunk.
     fn contents_fault(
         &self,

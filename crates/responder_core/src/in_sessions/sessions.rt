@@ -6,19 +6,19 @@ ghost use Rattle.spdm_grammar.specs.declared.names.TheConstants.{MAX_APP_DATA_LE
 ghost use Rattle.secured_record.specs.declared.TheConstants.{MAX_RECORD_SIZE};
 
 use crate::in_sessions::records::{record_id, replace_record, write_decrypt_error};
-use crate::{EndedRecord, Live};
+use crate::{EndedRecord, LiveSession, SessionSlot};
 use measurements::Inventory;
-use responder_session::{RecordFree, RspAct, RspSession, RspTold, Work};
+use responder_session::{ResponseValues, RspAct, RspSession, RspTold, Work};
 use spdm_basis::{RecordFrame, SessionId};
 use spdm_grammar::names::request_code::GET_VERSION;
 use spdm_grammar::names::{MAX_SESSIONS, SESSION_PLACES};
 use spdm_grammar::{Heard, Phase, SessionView};
 
 /// The sessions of a connection: a slot for each RspSessionID from 1 to 4, and the last record of the one ended
-/// session. Fixed size; never allocates.
+/// session. A slot without a session is overwritten (`SessionSlot`). Fixed size; never allocates.
 #[derive(Drop)]
 pub struct Sessions {
-    pub(crate) slots: [Option<Live>; SESSION_PLACES],
+    pub(crate) slots: [SessionSlot; SESSION_PLACES],
     pub(crate) ended: EndedRecord,
 }
 
@@ -67,13 +67,14 @@ impl Sessions {
     ghost use Rattle.responder_machine.specs.Session.{Events, after_tick, session_of, turns_of};
     ghost use Rattle.responder_session.specs.Data.{data_of};
     ghost use Rattle.responder_machine.specs.Setup.{RspSetup, inventory_of};
-    ghost use Rattle.responder_session.specs.Deeds.{AreFree};
+    ghost use Rattle.responder_session.specs.RequestEffects.{AreFree};
     ghost use Rattle.responder_session.specs.Updates.{HasEpochs};
     ghost use Rattle.spdm_grammar.specs.declared.names.request_code.TheConstants.{GET_VERSION};
     ghost use Rattle.spdm_machine.specs.Keys.{Draw};
-    ghost use Rattle.responder_core.specs.Live.{IsSlotOf, IsTakenIn};
+    ghost use Rattle.responder_core.specs.LiveSession.{IsSlotOf, IsTakenIn};
     ghost use Rattle.responder_core.specs.Sessions.{IsAnswered, IsDelivered, IsViewOf, StandsFor, is_held_in, slot_of};
-    ghost use Rattle.responder_core.specs.declared.in_sessions.live.Live.{Live};
+    ghost use Rattle.responder_core.specs.NoSessions.{HasNoSessions};
+    ghost use Rattle.responder_core.specs.declared.in_sessions.live_session.LiveSession.{LiveSession};
     ghost use Rattle.responder_session.specs.Session.{IsEnded};
 
     /// No sessions.
@@ -81,7 +82,12 @@ impl Sessions {
         ensures { (r : RspSetup) → StandsFor result r [] }
     {
         Sessions {
-            slots: [None, None, None, None],
+            slots: [
+                SessionSlot::empty(),
+                SessionSlot::empty(),
+                SessionSlot::empty(),
+                SessionSlot::empty(),
+            ],
             ended: EndedRecord::none(),
         }
     }
@@ -92,7 +98,7 @@ impl Sessions {
         id: u16,
         sealed: &[u8],
         inventory: &Inventory,
-        free: &RecordFree<'_>,
+        free: &ResponseValues<'_>,
         work: &mut Work,
         out: &mut RecordFrame,
     ) -> Option<RspTold>
@@ -109,10 +115,7 @@ impl Sessions {
         if id == 0 || id > MAX_SESSIONS as u16 {
             return None;
         }
-        match &mut self.slots[usize::from(id) - 1] {
-            Some(live) => Some(live.take(sealed, inventory, free, work, out)),
-            None => None,
-        }
+        self.slots[usize::from(id) - 1].take(sealed, inventory, free, work, out)
     }
 
     // Where END_SESSION ended the session with this RspSessionID, its last record and reply are kept apart, and its
@@ -121,7 +124,7 @@ impl Sessions {
         requires reply { length reply.now ≤ MAX_RECORD_SIZE }
         ensures live { (r : RspSetup) (s : Events) → IsSlotOf (slot_of self.old id) r s
             → self.new ≡ self.old }
-        ensures gone { (kept : Live) (bytes : List ℕ) → slot_of self.old id ≡ Some kept
+        ensures gone { (kept : LiveSession) (bytes : List ℕ) → slot_of self.old id ≡ Some kept
             → IsEnded kept.session bytes sealed.now reply.now → length sealed.now ≤ MAX_RECORD_SIZE
             → (slot_of self.new id ≡ None)
             × (self.new.ended ≡ Some (record { sealed = sealed.now; reply = reply.now })) }
@@ -131,13 +134,13 @@ impl Sessions {
             return;
         }
         let index = usize::from(id) - 1;
-        let is_ended = match &self.slots[index] {
+        let is_ended = match self.slots[index].live() {
             Some(live) => live.is_ended(),
             None => false,
         };
         if is_ended {
             self.ended.keep(sealed, reply);
-            self.slots[index] = None;
+            self.slots[index].clear();
         }
     }
 
@@ -170,7 +173,7 @@ impl Sessions {
         phase: Phase,
         sealed: &[u8],
         inventory: &Inventory,
-        free: &RecordFree<'_>,
+        free: &ResponseValues<'_>,
         work: &mut Work,
         out: &mut RecordFrame,
     ) -> Heard
@@ -207,14 +210,7 @@ impl Sessions {
         if id == 0 || id > MAX_SESSIONS as u16 {
             return;
         }
-        let index = usize::from(id) - 1;
-        let stays = match &mut self.slots[index] {
-            Some(live) => live.wait(seconds),
-            None => true,
-        };
-        if !stays {
-            self.slots[index] = None;
-        }
+        self.slots[usize::from(id) - 1].wait(seconds);
     }
 
     /// Advances the clock: removes each established session that has waited for twice its HeartbeatPeriod, with its
@@ -230,7 +226,7 @@ impl Sessions {
     }
 
     /// Removes the session with this RspSessionID, as if it timed out without a trace in the capture.
-    pub fn drop_unseen(&mut self, id: u16)
+    pub fn expire(&mut self, id: u16)
         ensures { (r : RspSetup) (h : History) → StandsFor self.old r h
             → StandsFor self.new r (Dropped id ∷ h) }
     {
@@ -244,7 +240,7 @@ impl Sessions {
         ensures ended { self.new.ended ≡ self.old.ended }
     {
         if id >= 1 && id <= MAX_SESSIONS as u16 {
-            self.slots[usize::from(id) - 1] = None;
+            self.slots[usize::from(id) - 1].clear();
         }
     }
 
@@ -259,12 +255,12 @@ impl Sessions {
             return;
         }
         let index = usize::from(id) - 1;
-        let stays = match &self.slots[index] {
+        let stays = match self.slots[index].live() {
             Some(live) => live.is_held(),
             None => true,
         };
         if !stays {
-            self.slots[index] = None;
+            self.slots[index].clear();
         }
     }
 
@@ -282,7 +278,7 @@ impl Sessions {
         self.leave(3);
         self.leave(4);
         self.ended.clear();
-        self.put(id, Live::begin(session, answer));
+        self.put(id, LiveSession::begin(session, answer));
     }
 
     /// GET_VERSION was accepted: removes all sessions, and the last record of an ended one.
@@ -296,6 +292,16 @@ impl Sessions {
         self.empty(3);
         self.empty(4);
         self.ended.clear();
+    }
+
+    /// Overwrites each session, before the memory of the responder is given back.
+    pub fn wipe(&mut self)
+        ensures { HasNoSessions self.new }
+    {
+        self.empty(1);
+        self.empty(2);
+        self.empty(3);
+        self.empty(4);
     }
 
     /// Applies the outcome of a clear message that begins no session: GET_VERSION removes all sessions, and nothing
@@ -323,14 +329,14 @@ impl Sessions {
     }
 
     // The session with this RspSessionID; `None` if there is none.
-    pub(crate) fn session(&self, id: u16) -> Option<&Live>
+    pub(crate) fn session(&self, id: u16) -> Option<&LiveSession>
         ensures { MatchOption result (slot_of self.now id ≡ None)
             (λ live. slot_of self.now id ≡ Some live.now) }
     {
         if id == 0 || id > MAX_SESSIONS as u16 {
             return None;
         }
-        self.slots[usize::from(id) - 1].as_ref()
+        self.slots[usize::from(id) - 1].live()
     }
 
     /// A view of the session with this RspSessionID; `None` if there is none. Requires fewer than 2^64 received
@@ -399,13 +405,13 @@ impl Sessions {
     }
 
     // Puts a session into the slot with this RspSessionID.
-    fn put(&mut self, id: u16, live: Live)
+    fn put(&mut self, id: u16, live: LiveSession)
         requires least { 1 ≤ id }
         requires most { id ≤ MAX_SESSIONS }
         ensures own { slot_of self.new id ≡ Some live }
         ensures others { (i : ℕ) → i ≢ id → slot_of self.new i ≡ slot_of self.old i }
         ensures ended { self.new.ended ≡ self.old.ended }
     {
-        self.slots[usize::from(id) - 1] = Some(live);
+        self.slots[usize::from(id) - 1].put(live);
     }
 }

@@ -1,4 +1,4 @@
-use crate::{Connection, Live, Sessions};
+use crate::{Connection, LiveSession, Sessions};
 use spdm_grammar::names::MAX_SESSIONS;
 
 impl Sessions {
@@ -6,7 +6,7 @@ impl Sessions {
     ghost use Rattle.responder_core.specs.Sessions.{slot_of};
 
     // Takes the session with this RspSessionID out of its slot; `None` if there is none.
-    fn take_out(&mut self, id: u16) -> Option<Live>
+    fn take_out(&mut self, id: u16) -> Option<LiveSession>
         ensures taken { result ≡ slot_of self.old id }
         ensures own { slot_of self.new id ≡ None }
         ensures others { (i : ℕ) → i ≢ id → slot_of self.new i ≡ slot_of self.old i }
@@ -15,11 +15,11 @@ impl Sessions {
         if id == 0 || id > MAX_SESSIONS as u16 {
             return None;
         }
-        self.slots[usize::from(id) - 1].take()
+        self.slots[usize::from(id) - 1].take_out()
     }
 
     // Puts it back.
-    fn put_back(&mut self, id: u16, session: Option<Live>)
+    fn put_back(&mut self, id: u16, session: Option<LiveSession>)
         ensures own { (before : Sessions) → session ≡ slot_of before id
             → slot_of self.new id ≡ slot_of before id }
         ensures others { (i : ℕ) → i ≢ id → slot_of self.new i ≡ slot_of self.old i }
@@ -28,7 +28,7 @@ impl Sessions {
         if id == 0 || id > MAX_SESSIONS as u16 {
             return;
         }
-        self.slots[usize::from(id) - 1] = session;
+        self.slots[usize::from(id) - 1].put_back(session);
     }
 }
 
@@ -43,7 +43,7 @@ impl Connection {
 
     /// Sets the session with this RspSessionID aside, if there is one: what is left is as if it had been dropped
     /// without a trace.
-    pub fn set_aside(&mut self, id: u16) -> Option<Live>
+    pub fn set_aside(&mut self, id: u16) -> Option<LiveSession>
         ensures stands { (r : RspSetup) (h : History) → StandsFor self.old r h
             → StandsFor self.new r (Dropped id ∷ h) }
         ensures aside { IsAside id self.old result self.new }
@@ -52,7 +52,7 @@ impl Connection {
     }
 
     /// Puts it back in its place.
-    pub fn put_back(&mut self, id: u16, session: Option<Live>)
+    pub fn put_back(&mut self, id: u16, session: Option<LiveSession>)
         ensures { (before : Connection) (r : RspSetup) (h : History)
             → IsAside id before session self.old → StandsFor before r h → StandsFor self.new r h }
     {

@@ -1,14 +1,14 @@
-use crate::{ClearPart, Connection, Live, Requests, Sessions, Standing};
+use crate::{ClearPart, ClearState, Connection, LiveSession, Requests, SessionSlot, Sessions};
 use spdm_grammar::names::MAX_SESSIONS;
 
 // The clear part without the MEASUREMENTS that were to go by LargeResponse in answer to what was taken last: they were
 // never seen.
-impl Standing {
+impl ClearState {
     ghost use Rattle.std.specs.Prelude.{◌∷◌, List};
     ghost use Rattle.responder_rules.specs.LargeAnswer.{turn_unseen};
     ghost use Rattle.responder_machine.specs.Turn.{Turn};
     ghost use Rattle.responder_core.specs.Pending.{GoesLarge};
-    ghost use Rattle.responder_core.specs.Standing.{StandsFor};
+    ghost use Rattle.responder_core.specs.ClearState.{StandsFor};
 
     fn forget(&mut self)
         ensures { (t : Turn) (older : List Turn) → GoesLarge t → StandsFor self.old (t ∷ older)
@@ -55,7 +55,7 @@ impl ClearPart {
 }
 
 // A session without the MEASUREMENTS that went by LargeResponse last, though chunks of them may have been given.
-impl Live {
+impl LiveSession {
     ghost use Rattle.std.specs.Prelude.{◌≡◌, is_some, true};
     ghost use Rattle.responder_rules.specs.LargeAnswer.{last_takes};
     ghost use Rattle.responder_machine.specs.LargeMessages.{large_of};
@@ -63,7 +63,7 @@ impl Live {
     ghost use Rattle.responder_machine.specs.Setup.{RspSetup};
     ghost use Rattle.responder_session.specs.Pending.{IsUncounted, events_unseen};
     ghost use Rattle.spdm_grammar.specs.declared.names.request_code.TheConstants.{GET_MEASUREMENTS};
-    ghost use Rattle.responder_core.specs.Live.{StandsFor};
+    ghost use Rattle.responder_core.specs.LiveSession.{StandsFor};
 
     fn forget(&mut self)
         ensures { (r : RspSetup) (s : Events) → is_some (large_of (turns_of s)) ≡ true
@@ -82,6 +82,37 @@ impl Live {
     }
 }
 
+impl SessionSlot {
+    ghost use Rattle.std.specs.Prelude.{◌≡◌, is_some, true};
+    ghost use Rattle.responder_rules.specs.LargeAnswer.{last_takes};
+    ghost use Rattle.responder_machine.specs.LargeMessages.{large_of};
+    ghost use Rattle.responder_machine.specs.Session.{Events, turns_of};
+    ghost use Rattle.responder_machine.specs.Setup.{RspSetup};
+    ghost use Rattle.responder_session.specs.Pending.{IsUncounted, events_unseen};
+    ghost use Rattle.spdm_grammar.specs.declared.names.request_code.TheConstants.{GET_MEASUREMENTS};
+    ghost use Rattle.responder_core.specs.LiveSession.{IsSlotOf};
+
+    fn forget(&mut self)
+        ensures { (r : RspSetup) (s : Events) → is_some (large_of (turns_of s)) ≡ true
+            → last_takes GET_MEASUREMENTS (turns_of s) ≡ true → IsSlotOf self.old r s
+            → IsSlotOf self.new r (events_unseen s) }
+    {
+        if self.is_there {
+            self.live.forget();
+        }
+    }
+
+    // Without the count of one that others came after.
+    fn uncount(&mut self)
+        ensures { (r : RspSetup) (s e : Events) → IsUncounted s e → IsSlotOf self.old r s
+            → IsSlotOf self.new r e }
+    {
+        if self.is_there {
+            self.live.uncount();
+        }
+    }
+}
+
 impl Sessions {
     ghost use Rattle.std.specs.Prelude.{◌≡◌, ◌≢◌, ℕ, is_some, true};
     ghost use Rattle.responder_rules.specs.LargeAnswer.{last_takes};
@@ -91,7 +122,7 @@ impl Sessions {
     ghost use Rattle.responder_machine.specs.Setup.{RspSetup};
     ghost use Rattle.responder_session.specs.Pending.{events_unseen};
     ghost use Rattle.spdm_grammar.specs.declared.names.request_code.TheConstants.{GET_MEASUREMENTS};
-    ghost use Rattle.responder_core.specs.Live.{IsSlotOf};
+    ghost use Rattle.responder_core.specs.LiveSession.{IsSlotOf};
     ghost use Rattle.responder_session.specs.Pending as sessions;
     ghost use Rattle.responder_core.specs.Pending.{history_unseen};
     ghost use Rattle.responder_core.specs.Sessions.{StandsFor, slot_of};
@@ -107,9 +138,7 @@ impl Sessions {
         if id == 0 || id > MAX_SESSIONS as u16 {
             return;
         }
-        if let Some(live) = &mut self.slots[usize::from(id) - 1] {
-            live.forget();
-        }
+        self.slots[usize::from(id) - 1].forget();
     }
 
     fn forget(&mut self, id: u16)
@@ -131,9 +160,7 @@ impl Sessions {
         if id == 0 || id > MAX_SESSIONS as u16 {
             return;
         }
-        if let Some(live) = &mut self.slots[usize::from(id) - 1] {
-            live.uncount();
-        }
+        self.slots[usize::from(id) - 1].uncount();
     }
 }
 

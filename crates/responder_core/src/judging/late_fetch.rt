@@ -1,14 +1,14 @@
-use crate::{Connection, EndedRecord, Live, Sessions};
+use crate::{Connection, EndedRecord, LiveSession, SessionSlot, Sessions};
 use spdm_grammar::names::MAX_SESSIONS;
 
 // A session in which MEASUREMENTS that were never seen are pending again.
-impl Live {
+impl LiveSession {
     ghost use Rattle.std.specs.Prelude.{◌≤◌, ◌<◌, ◌+◌, length};
     ghost use Rattle.responder_machine.specs.Session.{Events, session_terms, turns_of};
     ghost use Rattle.responder_machine.specs.Setup.{RspSetup};
     ghost use Rattle.responder_session.specs.LateFetch.{IsNewestUnseen, events_pending};
     ghost use Rattle.spdm_grammar.specs.declared.names.TheConstants.{MAX_MESSAGE_SIZE};
-    ghost use Rattle.responder_core.specs.Live.{StandsFor};
+    ghost use Rattle.responder_core.specs.LiveSession.{StandsFor};
 
     fn make_pending(&mut self, answer: &[u8], handle: u8)
         requires { length answer.now ≤ MAX_MESSAGE_SIZE }
@@ -21,6 +21,27 @@ impl Live {
     }
 }
 
+impl SessionSlot {
+    ghost use Rattle.std.specs.Prelude.{◌≤◌, ◌<◌, ◌+◌, length};
+    ghost use Rattle.responder_machine.specs.Session.{Events, session_terms, turns_of};
+    ghost use Rattle.responder_machine.specs.Setup.{RspSetup};
+    ghost use Rattle.responder_session.specs.LateFetch.{IsNewestUnseen, events_pending};
+    ghost use Rattle.spdm_grammar.specs.declared.names.TheConstants.{MAX_MESSAGE_SIZE};
+    ghost use Rattle.responder_core.specs.LiveSession.{IsSlotOf};
+
+    fn make_pending(&mut self, answer: &[u8], handle: u8)
+        requires { length answer.now ≤ MAX_MESSAGE_SIZE }
+        ensures { (r : RspSetup) (s : Events)
+            → (session_terms s).common.to_requester.transfer < length answer.now + 16
+            → IsNewestUnseen (turns_of s) → IsSlotOf self.old r s
+            → IsSlotOf self.new r (events_pending answer.now handle s) }
+    {
+        if self.is_there {
+            self.live.make_pending(answer, handle);
+        }
+    }
+}
+
 impl Sessions {
     ghost use Rattle.std.specs.Prelude.{◌≡◌, ◌≢◌, ◌≤◌, ◌<◌, ◌+◌, ℕ, length};
     ghost use Rattle.responder_machine.specs.History.{History};
@@ -29,7 +50,7 @@ impl Sessions {
     ghost use Rattle.responder_session.specs.LateFetch.{IsNewestUnseen, events_pending};
     ghost use Rattle.spdm_grammar.specs.declared.names.TheConstants.{MAX_MESSAGE_SIZE};
     ghost use Rattle.responder_core.specs.LateFetch.{history_pending};
-    ghost use Rattle.responder_core.specs.Live.{IsSlotOf};
+    ghost use Rattle.responder_core.specs.LiveSession.{IsSlotOf};
     ghost use Rattle.responder_core.specs.Sessions.{StandsFor, slot_of};
 
     // The session with this RspSessionID.
@@ -45,9 +66,7 @@ impl Sessions {
         if id == 0 || id > MAX_SESSIONS as u16 {
             return;
         }
-        if let Some(live) = &mut self.slots[usize::from(id) - 1] {
-            live.make_pending(answer, handle);
-        }
+        self.slots[usize::from(id) - 1].make_pending(answer, handle);
     }
 
     fn make_pending(&mut self, id: u16, answer: &[u8], handle: u8)

@@ -1,7 +1,7 @@
-use crate::{Connection, Live, Sessions};
+use crate::{Connection, LiveSession, SessionSlot, Sessions};
 use spdm_grammar::names::MAX_SESSIONS;
 
-impl Live {
+impl LiveSession {
     ghost use Rattle.std.specs.Prelude.{◌≡◌, ◌≤◌, ◌<◌, ◌+◌, length, true};
     ghost use Rattle.responder_rules.specs.LargeAnswer.{last_takes};
     ghost use Rattle.responder_machine.specs.Place.{session_place};
@@ -11,10 +11,10 @@ impl Live {
     ghost use Rattle.responder_session.specs.Pending.{events_with};
     ghost use Rattle.spdm_grammar.specs.declared.names.TheConstants.{MAX_MESSAGE_SIZE};
     ghost use Rattle.spdm_grammar.specs.declared.names.request_code.TheConstants.{GET_MEASUREMENTS};
-    ghost use Rattle.responder_core.specs.Live.{StandsFor};
+    ghost use Rattle.responder_core.specs.LiveSession.{StandsFor};
 
     // The MEASUREMENTS that are pending get these bytes.
-    fn put_pending(&mut self, answer: &[u8])
+    fn set_pending_bytes(&mut self, answer: &[u8])
         requires { length answer.now ≤ MAX_MESSAGE_SIZE }
         ensures { (r : RspSetup) (s : Events)
             → (session_terms s).common.to_requester.transfer < length answer.now + 16
@@ -22,7 +22,34 @@ impl Live {
             → last_takes GET_MEASUREMENTS (turns_of s) ≡ true → StandsFor self.old r s
             → StandsFor self.new r (events_with answer.now s) }
     {
-        self.session.put_pending(answer);
+        self.session.set_pending_bytes(answer);
+    }
+}
+
+impl SessionSlot {
+    ghost use Rattle.std.specs.Prelude.{◌≡◌, ◌≤◌, ◌<◌, ◌+◌, length, true};
+    ghost use Rattle.responder_rules.specs.LargeAnswer.{last_takes};
+    ghost use Rattle.responder_machine.specs.Place.{session_place};
+    ghost use Rattle.responder_machine.specs.Refusal.{has_pending};
+    ghost use Rattle.responder_machine.specs.Session.{Events, session_terms, turns_of};
+    ghost use Rattle.responder_machine.specs.Setup.{RspSetup};
+    ghost use Rattle.responder_session.specs.Pending.{events_with};
+    ghost use Rattle.spdm_grammar.specs.declared.names.TheConstants.{MAX_MESSAGE_SIZE};
+    ghost use Rattle.spdm_grammar.specs.declared.names.request_code.TheConstants.{GET_MEASUREMENTS};
+    ghost use Rattle.responder_core.specs.LiveSession.{IsSlotOf};
+
+    // The MEASUREMENTS that are pending get these bytes.
+    fn set_pending_bytes(&mut self, answer: &[u8])
+        requires { length answer.now ≤ MAX_MESSAGE_SIZE }
+        ensures { (r : RspSetup) (s : Events)
+            → (session_terms s).common.to_requester.transfer < length answer.now + 16
+            → has_pending (session_place s) ≡ true
+            → last_takes GET_MEASUREMENTS (turns_of s) ≡ true → IsSlotOf self.old r s
+            → IsSlotOf self.new r (events_with answer.now s) }
+    {
+        if self.is_there {
+            self.live.set_pending_bytes(answer);
+        }
     }
 }
 
@@ -37,7 +64,7 @@ impl Sessions {
     ghost use Rattle.responder_session.specs.Pending.{events_with};
     ghost use Rattle.spdm_grammar.specs.declared.names.TheConstants.{MAX_MESSAGE_SIZE};
     ghost use Rattle.spdm_grammar.specs.declared.names.request_code.TheConstants.{GET_MEASUREMENTS};
-    ghost use Rattle.responder_core.specs.Live.{IsSlotOf};
+    ghost use Rattle.responder_core.specs.LiveSession.{IsSlotOf};
     ghost use Rattle.responder_core.specs.Pending.{history_with};
     ghost use Rattle.responder_core.specs.Sessions.{StandsFor, slot_of};
 
@@ -55,14 +82,12 @@ impl Sessions {
         if id == 0 || id > MAX_SESSIONS as u16 {
             return;
         }
-        if let Some(live) = &mut self.slots[usize::from(id) - 1] {
-            live.put_pending(answer);
-        }
+        self.slots[usize::from(id) - 1].set_pending_bytes(answer);
     }
 
     /// The MEASUREMENTS that are pending in the session with this RspSessionID get these bytes, which are sent in
     /// chunks; as many chunks of them are given as were.
-    pub fn put_pending(&mut self, id: u16, answer: &[u8])
+    pub fn set_pending_bytes(&mut self, id: u16, answer: &[u8])
         requires { length answer.now ≤ MAX_MESSAGE_SIZE }
         ensures { (r : RspSetup) (h : History)
             → (session_terms (session_of id h)).common.to_requester.transfer
@@ -90,7 +115,7 @@ impl Connection {
 
     /// The MEASUREMENTS that are pending in the session with this RspSessionID get these bytes, which are sent in
     /// chunks; as many chunks of them are given as were. They need not be as long as those before.
-    pub fn put_pending(&mut self, id: u16, answer: &[u8])
+    pub fn set_pending_bytes(&mut self, id: u16, answer: &[u8])
         requires { length answer.now ≤ MAX_MESSAGE_SIZE }
         ensures { (r : RspSetup) (h : History)
             → (session_terms (session_of id h)).common.to_requester.transfer
@@ -98,6 +123,6 @@ impl Connection {
             → last_takes GET_MEASUREMENTS (turns_of (session_of id h)) ≡ true
             → StandsFor self.old r h → StandsFor self.new r (history_with id answer.now h) }
     {
-        self.sessions.put_pending(id, answer);
+        self.sessions.set_pending_bytes(id, answer);
     }
 }

@@ -1,13 +1,13 @@
-use crate::{Connection, Sessions, Standing};
+use crate::{ClearState, Connection, Sessions};
 use negotiate::Common;
 use session_keys::SessionTerms;
 
-impl Standing {
+impl ClearState {
     ghost use Rattle.std.specs.Prelude.{◌≡◌, List};
     ghost use Rattle.responder_machine.specs.History.{negotiation_of};
     ghost use Rattle.responder_machine.specs.Turn.{Turn};
     ghost use Rattle.spdm_machine.specs.Terms.{terms_of};
-    ghost use Rattle.responder_core.specs.Standing.{StandsFor};
+    ghost use Rattle.responder_core.specs.ClearState.{StandsFor};
 
     /// What both ends can do.
     pub fn common(&self) -> Common

@@ -1,12 +1,12 @@
 //! Which sessions have a period at all, so that a capture may have lost them without a packet. They are dropped by
-//! `Live::wait` in `in_sessions/live.rt`.
-use crate::{Connection, Live, Sessions};
+//! `LiveSession::wait` in `in_sessions/live_session.rt`.
+use crate::{Connection, LiveSession, Sessions};
 
-impl Live {
+impl LiveSession {
     ghost use Rattle.std.specs.Prelude.{◌≡◌};
     ghost use Rattle.responder_machine.specs.Session.{Events, is_timed};
     ghost use Rattle.responder_machine.specs.Setup.{RspSetup};
-    ghost use Rattle.responder_core.specs.Live.{StandsFor};
+    ghost use Rattle.responder_core.specs.LiveSession.{StandsFor};
 
     /// Whether the session is timed: it is established, and its HeartbeatPeriod is not 0.
     pub fn is_timed(&self) -> bool

@@ -1,5 +1,5 @@
 use crate::clear::clear_part::code_at;
-use crate::{ClearPart, Connection, FreeValues, Setup, Told, Tried};
+use crate::{ClearOutcome, ClearPart, Connection, DryRun, FreeValues, Setup};
 use spdm_basis::Frame;
 use spdm_grammar::Heard;
 
@@ -14,7 +14,7 @@ impl ClearPart {
     ghost use Rattle.responder_core.specs.ClearPart.{IsAnswered, StandsFor};
     ghost use Rattle.responder_core.specs.Free.{IsFree};
     ghost use Rattle.responder_core.specs.Setup.{IsSetUp};
-    ghost use Rattle.responder_core.specs.Standing.{chosen_len};
+    ghost use Rattle.responder_core.specs.ClearState.{chosen_len};
 
     // Handles a clear message with its tag; `held` counts established sessions. The response overwrites `out`. A
     // session that the message begins is not kept.
@@ -33,8 +33,8 @@ impl ClearPart {
             → held_of h ≡ held → IsAnswered r h tag message.now f d result self.new out.new }
     {
         match self.on_clear(setup, held, tag, message, free, out) {
-            Told::Heard { heard, drawn: _ } => heard,
-            Told::Begins(begun) => {
+            ClearOutcome::Heard { heard, drawn: _ } => heard,
+            ClearOutcome::Begins(begun) => {
                 let mut answer = Frame::new();
                 let _session = self.start(begun, setup, message, free, &mut answer);
                 self.begin(begun, tag, message, answer.as_slice(), free.handle, out);
@@ -71,7 +71,7 @@ impl Connection {
         message: &[u8],
         free: &FreeValues<'_>,
         out: &mut Frame,
-    ) -> Option<Tried>
+    ) -> Option<DryRun>
         requires { context_len self.now ≤ length free.now.context.now }
         ensures tried { (r : RspSetup) (h : History) (f : Free) (d : Draw) → IsSetUp setup.now r
             → IsFree free.now f → IsAllowed h (clear_place h) f → StandsFor self.now r h
@@ -84,6 +84,6 @@ impl Connection {
         let held = self.sessions.held();
         let heard = clear.answer(setup, held, tag, message, free, out);
         let pending = clear.standing().is_pending();
-        Some(Tried { heard, pending })
+        Some(DryRun { heard, pending })
     }
 }

@@ -1,10 +1,10 @@
-use crate::{ClearPart, Connection, Requests, Sessions, Standing};
+use crate::{ClearPart, ClearState, Connection, Requests, Sessions};
 
 // How the clear part follows a request that was taken, whose large response was never seen.
-impl Standing {
+impl ClearState {
     ghost use Rattle.std.specs.Prelude.{◌∷◌, List};
     ghost use Rattle.responder_machine.specs.Turn.{Turn};
-    ghost use Rattle.responder_core.specs.Standing.{StandsFor};
+    ghost use Rattle.responder_core.specs.ClearState.{StandsFor};
     ghost use Rattle.responder_core.specs.UnseenRequests.{IsUnseenTurn};
 
     fn skip_large_response(&mut self)

@@ -3,7 +3,7 @@ ghost use Rattle.script_text.specs.Configuring.{block_fault, after_block, block_
 ghost use Rattle.script_text.specs.Tests.{IsAnswerTo};
 
 use crate::configuration::config::{BLOCK_HEADER, RECORD_LIMIT};
-use crate::configuration::given::Given;
+use crate::configuration::partial_config::PartialConfig;
 use crate::reading::hex_words::{MOST_BYTES, bytes_of, hex_len};
 use crate::reading::numbers::number;
 use crate::reading::words::{has_words, word};
@@ -13,7 +13,7 @@ use std::alloc::Global;
 
 /// Takes the line `block INDEX TYPE TCB H`.
 #[tactic(auto, unfolding(crate::specs::Configuring::block_fault, crate::specs::Configuring::after_block, crate::specs::Configuring::block_of))]
-pub fn take_block(alloc: Global, given: &mut Given, line: &[u8]) -> Result<(), LineError>
+pub fn take_block(alloc: Global, given: &mut PartialConfig, line: &[u8]) -> Result<(), LineError>
     ensures answer { IsAnswerTo (block_fault given.old line.now) result }
     ensures after { OnOk result (given.new ≡ after_block given.old line.now) }
 {

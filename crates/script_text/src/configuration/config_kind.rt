@@ -4,8 +4,8 @@ ghost use Rattle.script_text.specs.Tests.{IsAnswerTo};
 
 use crate::configuration::block_line::take_block;
 use crate::configuration::end_line::take_end;
-use crate::configuration::given::Given;
 use crate::configuration::opaque_line::take_opaque;
+use crate::configuration::partial_config::PartialConfig;
 use crate::configuration::requester_line::take_requester;
 use crate::configuration::responder_line::take_responder;
 use crate::configuration::seed_line::take_seed;
@@ -53,7 +53,7 @@ pub fn kind_of(word: &[u8]) -> Option<ConfigKind>
 pub fn take_config(
     alloc: Global,
     needs_seed: bool,
-    given: &mut Given,
+    given: &mut PartialConfig,
     kind: ConfigKind,
     line: &[u8],
 ) -> Result<(), LineError>

@@ -5,7 +5,7 @@ ghost use Rattle.script_text.specs.Reading.{IsReading};
 
 use crate::configuration::config::ScriptConfig;
 use crate::configuration::config_kind::{kind_of, take_config};
-use crate::configuration::given::Given;
+use crate::configuration::partial_config::PartialConfig;
 use crate::reading::words::word;
 use crate::texts::faults::{LineError, LineFault, ScriptFault};
 use crate::texts::reader::{LineReader, read_text};
@@ -14,7 +14,7 @@ use std::alloc::Global;
 /// The longest text: 4 MiB.
 pub const TEXT_LIMIT: usize = 4 * 1024 * 1024;
 
-impl LineReader for Given {
+impl LineReader for PartialConfig {
     type Whole = ScriptConfig;
 
     ghost fault = { config_text_fault };
@@ -48,5 +48,5 @@ pub fn parse_config(alloc: Global, text: &[u8]) -> Result<ScriptConfig, ScriptFa
     requires { length text.now ≤ TEXT_LIMIT }
     ensures { IsReading (config_in text.now) result }
 {
-    read_text(alloc, Given::new(alloc), 1, text)
+    read_text(alloc, PartialConfig::new(alloc), 1, text)
 }

@@ -2,7 +2,7 @@ ghost use Rattle.std.specs.Prelude.{◌≡◌, OnOk};
 ghost use Rattle.script_text.specs.Configuring.{opaque_fault, after_opaque};
 ghost use Rattle.script_text.specs.Tests.{IsAnswerTo};
 
-use crate::configuration::given::Given;
+use crate::configuration::partial_config::PartialConfig;
 use crate::reading::hex_words::{bytes_of, hex_len};
 use crate::reading::words::{has_words, word};
 use crate::texts::faults::{LineError, LineFault};
@@ -11,7 +11,7 @@ use std::alloc::Global;
 
 /// Takes the line `opaque H`.
 #[tactic(auto, unfolding(crate::specs::Configuring::opaque_fault, crate::specs::Configuring::after_opaque))]
-pub fn take_opaque(alloc: Global, given: &mut Given, line: &[u8]) -> Result<(), LineError>
+pub fn take_opaque(alloc: Global, given: &mut PartialConfig, line: &[u8]) -> Result<(), LineError>
     ensures answer { IsAnswerTo (opaque_fault given.old line.now) result }
     ensures after { OnOk result (given.new ≡ after_opaque given.old line.now) }
 {

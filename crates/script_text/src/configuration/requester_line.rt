@@ -7,7 +7,7 @@ ghost use Rattle.script_text.specs.Tests.{IsAnswerTo};
 
 use crate::configuration::config::ReqPart;
 use crate::configuration::end_numbers::EndNumbers;
-use crate::configuration::given::{Given, SMALL_SUITES};
+use crate::configuration::partial_config::{PartialConfig, SMALL_SUITES};
 use crate::configuration::responder_line::{end_flags, has_eid};
 use crate::reading::hex_words::{bytes_of, hex_len, psk_of};
 use crate::reading::words::{has_words, word};
@@ -22,7 +22,11 @@ pub const MOST_REQUESTERS: usize = 8;
 
 /// Takes the line `requester EID TRANSFER MAX UNIT PAD FLAGS HINT PSK OPAQUE`.
 #[tactic(auto, unfolding(crate::specs::Configuring::requester_fault, crate::specs::Configuring::after_requester))]
-pub fn take_requester(alloc: Global, given: &mut Given, line: &[u8]) -> Result<(), LineError>
+pub fn take_requester(
+    alloc: Global,
+    given: &mut PartialConfig,
+    line: &[u8],
+) -> Result<(), LineError>
     ensures answer { IsAnswerTo (requester_fault given.old line.now) result }
     ensures after { OnOk result (given.new ≡ after_requester given.old line.now) }
 {

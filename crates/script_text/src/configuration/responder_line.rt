@@ -5,7 +5,7 @@ ghost use Rattle.script_text.specs.Tests.{IsAnswerTo};
 
 use crate::configuration::config::ReqPart;
 use crate::configuration::end_numbers::EndNumbers;
-use crate::configuration::given::{Given, RspLine};
+use crate::configuration::partial_config::{PartialConfig, RspLine};
 use crate::reading::choices::flags;
 use crate::reading::words::{has_words, word};
 use crate::texts::faults::{LineError, LineFault};
@@ -13,7 +13,7 @@ use spdm_grammar::FlagSet;
 
 /// Takes the line `responder EID TRANSFER MAX UNIT BEAT FLAGS`.
 #[tactic(auto, unfolding(crate::specs::Configuring::responder_fault, crate::specs::Configuring::after_responder))]
-pub fn take_responder(given: &mut Given, line: &[u8]) -> Result<(), LineError>
+pub fn take_responder(given: &mut PartialConfig, line: &[u8]) -> Result<(), LineError>
     ensures answer { IsAnswerTo (responder_fault given.old line.now) result }
     ensures after { OnOk result (given.new ≡ after_responder given.old line.now) }
 {
@@ -59,7 +59,7 @@ pub fn end_flags(transfer: u32, max: u32, word: &[u8]) -> Option<FlagSet>
 }
 
 /// Whether an end that was configured has this endpoint.
-pub fn has_eid(eid: u8, given: &Given) -> bool
+pub fn has_eid(eid: u8, given: &PartialConfig) -> bool
     ensures { result ≡ has_eid eid given.now }
 {
     responder_has_eid(eid, given.responder) || requester_has_eid(eid, given.requesters.as_slice())

@@ -2,7 +2,7 @@ ghost use Rattle.std.specs.Prelude.{◌≡◌, ◌≤◌, ◌<◌, length, OnOk}
 ghost use Rattle.script_text.specs.Configuring.{suite_fault, after_suite, after_suite_of};
 ghost use Rattle.script_text.specs.Tests.{IsAnswerTo};
 
-use crate::configuration::given::Given;
+use crate::configuration::partial_config::PartialConfig;
 use crate::reading::choices::{aead, end_number, hash};
 use crate::reading::words::{count_of_words, has_words, word};
 use crate::texts::faults::{LineError, LineFault};
@@ -10,7 +10,7 @@ use spdm_grammar::Suites;
 
 /// Takes the line `suite END HASH AEAD`.
 #[tactic(auto, unfolding(crate::specs::Configuring::suite_fault, crate::specs::Configuring::after_suite))]
-pub fn take_suite(given: &mut Given, line: &[u8]) -> Result<(), LineError>
+pub fn take_suite(given: &mut PartialConfig, line: &[u8]) -> Result<(), LineError>
     ensures answer { IsAnswerTo (suite_fault given.old line.now) result }
     ensures after { OnOk result (given.new ≡ after_suite given.old line.now) }
 {
@@ -42,7 +42,7 @@ pub fn take_suite(given: &mut Given, line: &[u8]) -> Result<(), LineError>
 }
 
 // Gives an end its algorithms.
-fn set_suites(given: &mut Given, end: usize, suites: Suites)
+fn set_suites(given: &mut PartialConfig, end: usize, suites: Suites)
     requires configured { end ≤ length given.old.requesters }
     requires few { end ≤ 8 }
     ensures { given.new ≡ after_suite_of end suites given.old }

@@ -3,7 +3,7 @@ ghost use Rattle.script_text.specs.Commands.{command_kind, command_fault, comman
 ghost use Rattle.script_text.specs.Tests.{IsAnswerTo};
 
 use crate::events::event::LinkEvent;
-use crate::events::said::{Said, what_is_said};
+use crate::events::parsed_command::{ParsedCommand, what_is_said};
 use crate::reading::hex_words::bytes_of;
 use crate::reading::words::word;
 use crate::texts::faults::LineError;
@@ -60,17 +60,17 @@ pub fn command(
     ensures value { IfOk result (λ event. event ≡ command_of q kind line.now) }
 {
     match what_is_said(requesters, q, kind, line) {
-        Ok(Said::Connect) => Ok(LinkEvent::Connect { q }),
-        Ok(Said::Retry) => Ok(LinkEvent::Retry { q }),
-        Ok(Said::Open { summary }) => Ok(LinkEvent::Open { q, summary }),
-        Ok(Said::Send { session }) => {
+        Ok(ParsedCommand::Connect) => Ok(LinkEvent::Connect { q }),
+        Ok(ParsedCommand::Retry) => Ok(LinkEvent::Retry { q }),
+        Ok(ParsedCommand::Open { summary }) => Ok(LinkEvent::Open { q, summary }),
+        Ok(ParsedCommand::Send { session }) => {
             let bytes = bytes_of(alloc, word(3, line))?;
             Ok(LinkEvent::Send { q, session, bytes })
         }
-        Ok(Said::Beat { session }) => Ok(LinkEvent::Beat { q, session }),
-        Ok(Said::End { session }) => Ok(LinkEvent::End { q, session }),
-        Ok(Said::Update { session, all }) => Ok(LinkEvent::Update { q, session, all }),
-        Ok(Said::Measure { session, op }) => Ok(LinkEvent::Measure { q, session, op }),
+        Ok(ParsedCommand::Beat { session }) => Ok(LinkEvent::Beat { q, session }),
+        Ok(ParsedCommand::End { session }) => Ok(LinkEvent::End { q, session }),
+        Ok(ParsedCommand::Update { session, all }) => Ok(LinkEvent::Update { q, session, all }),
+        Ok(ParsedCommand::Measure { session, op }) => Ok(LinkEvent::Measure { q, session, op }),
         Err(fault) => Err(LineError::Fault(fault)),
     }
 }

@@ -9,7 +9,7 @@ use crate::configuration::config::ScriptConfig;
 use crate::events::command::command;
 use crate::events::event::LinkEvent;
 use crate::events::event_kind::{EventKind, event_kind};
-use crate::events::said::{Said, what_is_said};
+use crate::events::parsed_command::{ParsedCommand, what_is_said};
 use crate::reading::hex_words::bytes_into;
 use crate::reading::lines::is_too_long;
 use crate::reading::words::word;
@@ -56,7 +56,7 @@ fn command_of_kind(
 #[derive(Clone, Copy, Debug, PartialEq, Eq)]
 pub struct CommandLine {
     pub q: u8,
-    pub said: Said,
+    pub said: ParsedCommand,
     pub count: usize,
 }
 
@@ -82,7 +82,7 @@ pub fn read_command(
         Err(fault) => return Err(fault),
     };
     let count = match said {
-        Said::Send { .. } => bytes_into(word(3, line), room),
+        ParsedCommand::Send { .. } => bytes_into(word(3, line), room),
         _ => 0,
     };
     Ok(CommandLine { q, said, count })

@@ -5,7 +5,7 @@ ghost use Rattle.script_text.specs.Tests.{IsAnswerTo};
 
 use crate::configuration::config_kind::{kind_of, take_config};
 use crate::configuration::config_text::TEXT_LIMIT;
-use crate::configuration::given::Given;
+use crate::configuration::partial_config::PartialConfig;
 use crate::events::event::MOST_EVENTS;
 use crate::reading::hex_words::hex_bytes;
 use crate::reading::numbers::number;
@@ -18,7 +18,7 @@ use std::alloc::Global;
 /// What the lines of a capture said so far.
 #[derive(Drop)]
 pub struct CaptureReader {
-    pub given: Given,
+    pub given: PartialConfig,
     pub packets: Packets,
 }
 
@@ -105,7 +105,7 @@ pub fn parse_capture(alloc: Global, text: &[u8]) -> Result<Capture, ScriptFault>
     ensures { IsReading (capture_in text.now) result }
 {
     let reader = CaptureReader {
-        given: Given::new(alloc),
+        given: PartialConfig::new(alloc),
         packets: Packets::new(alloc),
     };
     read_text(alloc, reader, 1, text)

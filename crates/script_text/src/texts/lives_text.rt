@@ -6,7 +6,7 @@ ghost use Rattle.script_text.specs.declared.events.event_kind.EventKind.{EventKi
 
 use crate::configuration::config_kind::{kind_of, take_config};
 use crate::configuration::config_text::TEXT_LIMIT;
-use crate::configuration::given::Given;
+use crate::configuration::partial_config::PartialConfig;
 use crate::events::event::{Entry, Events, MOST_EVENTS};
 use crate::events::event_kind::{EventKind, event, event_kind};
 use crate::reading::words::{has_words, word};
@@ -19,7 +19,7 @@ use std::mem;
 /// What the lines of lives said so far.
 #[derive(Drop)]
 pub struct LivesReader {
-    pub given: Given,
+    pub given: PartialConfig,
     /// How many events and cycles there were.
     pub count: u32,
     /// The lives before the present one.
@@ -139,7 +139,7 @@ pub fn parse_lives(alloc: Global, text: &[u8]) -> Result<Lives, ScriptFault>
     ensures { IsReading (lives_in text.now) result }
 {
     let reader = LivesReader {
-        given: Given::new(alloc),
+        given: PartialConfig::new(alloc),
         count: 0,
         earlier: LifeList::new(alloc),
         cycle_line: 0,

@@ -6,7 +6,7 @@ ghost use Rattle.script_text.specs.declared.events.event_kind.EventKind.{EventKi
 
 use crate::configuration::config_kind::{kind_of, take_config};
 use crate::configuration::config_text::TEXT_LIMIT;
-use crate::configuration::given::Given;
+use crate::configuration::partial_config::PartialConfig;
 use crate::events::event::{Entry, Events, MOST_EVENTS};
 use crate::events::event_kind::{EventKind, event, event_kind};
 use crate::reading::words::word;
@@ -18,7 +18,7 @@ use std::alloc::Global;
 /// What the lines of a script said so far.
 #[derive(Drop)]
 pub struct ScriptReader {
-    pub given: Given,
+    pub given: PartialConfig,
     pub events: Events,
 }
 
@@ -88,7 +88,7 @@ pub fn parse_script(alloc: Global, text: &[u8]) -> Result<Script, ScriptFault>
     ensures { IsReading (script_in text.now) result }
 {
     let reader = ScriptReader {
-        given: Given::new(alloc),
+        given: PartialConfig::new(alloc),
         events: Events::new(alloc),
     };
     read_text(alloc, reader, 1, text)

@@ -1,6 +1,6 @@
 use Rattle.attest_command.proofs.Answered.{all_attested, not_attested}
 use Rattle.attest_command.proofs.Streams.{same_stream}
-use Rattle.attest_command.specs.declared.begin.Begun.{Begun}
+use Rattle.attest_command.specs.declared.begin.AttestStart.{AttestStart}
 use Rattle.frame_stream.specs.Runs.{Counts}
 use Rattle.frame_stream.specs.Standing.{in_front}
 use Rattle.requester_attest.proofs.Steps.{some_appraised, some_attesting}
@@ -19,7 +19,7 @@ attest-requires-clause-sound g c = c.requires.read.1
 
 pub returns-in-Ok-clause-followed : goal.returns-in-Ok-clause-followed
 returns-in-Ok-clause-followed g c = λ left seeds others reads seeded_before seeded_after begun earlier.
-    let own : Begun = record { parsed = record { config = c.args.config.now; policy = c.args.policy }; seed = c.args.seed; before = c.args.before.now } in
+    let own : AttestStart = record { parsed = record { config = c.args.config.now; policy = c.args.policy }; seed = c.args.seed; before = c.args.before.now } in
     let rest = g.S.Source.remaining c.args.source.now in
     let before : Outside = outside left (g.K.Sink.contents c.args.sink.now) seeds reads (g.K.Sink.faults c.args.sink.now) seeded_before in
     let after : Outside = outside (g.S.Source.remaining c.attest.new.source) (g.K.Sink.contents c.attest.new.sink) others (g.S.Source.faults c.attest.new.source) (g.K.Sink.faults c.attest.new.sink) seeded_after in
@@ -36,7 +36,7 @@ of_driving-requires g c =
 
 pub returns-in-Err-clause-followed : goal.returns-in-Err-clause-followed
 returns-in-Err-clause-followed g c = λ left seeds others reads seeded_before seeded_after begun earlier.
-    let own : Begun = record { parsed = record { config = c.args.config.now; policy = c.args.policy }; seed = c.args.seed; before = c.args.before.now } in
+    let own : AttestStart = record { parsed = record { config = c.args.config.now; policy = c.args.policy }; seed = c.args.seed; before = c.args.before.now } in
     let rest = g.S.Source.remaining c.args.source.now in
     let before : Outside = outside left (g.K.Sink.contents c.args.sink.now) seeds reads (g.K.Sink.faults c.args.sink.now) seeded_before in
     let after : Outside = outside (g.S.Source.remaining c.attest.new.source) (g.K.Sink.contents c.attest.new.sink) others (g.S.Source.faults c.attest.new.source) (g.K.Sink.faults c.attest.new.sink) seeded_after in

@@ -1,5 +1,5 @@
 use Rattle.attest_command.proofs.ReadTexts.{is_set}
-use Rattle.attest_command.specs.Begun.{setting_as}
+use Rattle.attest_command.specs.AttestStart.{setting_as}
 use Rattle.attest_command.proofs.begin.begin.Goals as goal
 
 pub returns-in-Ok-seed-clause-begun : goal.returns-in-Ok-seed-clause-begun

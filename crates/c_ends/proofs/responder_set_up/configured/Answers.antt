@@ -5,13 +5,13 @@ use Rattle.c_ends.proofs.responder_set_up.configured.Goals as goal
 use Rattle.responder.specs.SetUp.{known_of}
 use Rattle.responder.specs.declared.config.Known.{Known}
 
-pub returns-in-Ok-new-clause-sound : goal.returns-in-Ok-new-clause-sound
-returns-in-Ok-new-clause-sound c = record {
+pub returns-in-Ok-made-clause-sound : goal.returns-in-Ok-made-clause-sound
+returns-in-Ok-made-clause-sound c = record {
   config = c.config_of-own.result;
   set = c.config_of-own.ensures c.args.known.now c.args.blocks.now
       (ap (λ (l : List Known). map known_of l) c.as_slice.ensures.value ∙ c.in-Ok.ensures)
       (c.as_slice-2.ensures.value ∙ c.in-Ok-all_blocks.ensures);
-  is = c.in-Ok-new.ensures.sound;
+  is = c.in-Ok-made.ensures.sound;
 }
 
 pub returns-clause-fault : goal.returns-clause-fault

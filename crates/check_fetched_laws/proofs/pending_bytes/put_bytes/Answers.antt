@@ -6,4 +6,4 @@ use Rattle.check_fetched_laws.proofs.pending_bytes.put_bytes.Goals as goal
 use Rattle.capture_machine.specs.LargeAnswers.{with_large}
 
 pub returns : goal.returns
-returns c = λ r h whole one other long stands. subst (λ (l : History). connected.StandsFor c.put_pending.new.self r l) (put_is c.args.id whole c.args.bytes.now h (one.large, other.large)) (c.put_pending.ensures r (with_large (Some c.args.id) whole h) long one.more one.measured stands)
+returns c = λ r h whole one other long stands. subst (λ (l : History). connected.StandsFor c.set_pending_bytes.new.self r l) (put_is c.args.id whole c.args.bytes.now h (one.large, other.large)) (c.set_pending_bytes.ensures r (with_large (Some c.args.id) whole h) long one.more one.measured stands)

@@ -5,7 +5,7 @@ use Rattle.requester_core.specs.Joined.{command_of}
 use Rattle.spdm_machine.specs.Bodies.{clear_body}
 use Rattle.check_requester.proofs.ClearTold.{told_by}
 use Rattle.check_requester.proofs.clear_commands.tells.Goals as goal
-use Rattle.check_requester.specs.Asker.{is_first_chunk}
+use Rattle.check_requester.specs.JudgedRequester.{is_first_chunk}
 use Rattle.check_requester.specs.Commanded.{IsToldAs}
 use Rattle.capture_machine.specs.Rounds.{no_draw}
 

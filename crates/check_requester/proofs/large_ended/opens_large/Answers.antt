@@ -2,7 +2,7 @@ use Rattle.std.proofs.Common.{◌∙◌, ap, refl, sym}
 use Rattle.spdm_grammar.specs.Message.{exchange_message}
 use Rattle.check_requester.proofs.LargeEnded.{fails_opens, not_opens, tells_opens}
 use Rattle.check_requester.proofs.large_ended.opens_large.Goals as goal
-use Rattle.check_requester.specs.Asker.{is_first_chunk}
+use Rattle.check_requester.specs.JudgedRequester.{is_first_chunk}
 use Rattle.check_requester.specs.Commanded.{values_in}
 use Rattle.capture_machine.specs.Rounds.{no_draw}
 

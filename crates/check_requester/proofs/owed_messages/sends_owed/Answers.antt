@@ -9,7 +9,7 @@ use Rattle.check_requester.proofs.OwedSent.{clear_told, goes, out_owed}
 use Rattle.check_requester.proofs.OwedSent.Goes.{AsRecord, InClear}
 use Rattle.check_requester.proofs.OwedTook.{same_long}
 use Rattle.check_requester.proofs.owed_messages.sends_owed.Goals as goal
-use Rattle.check_requester.specs.Asker.{IsSentOwed, is_first_chunk}
+use Rattle.check_requester.specs.JudgedRequester.{IsSentOwed, is_first_chunk}
 use Rattle.requester_machine.specs.Owed.{with_next}
 
 pub returns-then-byte_at-eq-SECURED : goal.returns-then-byte_at-eq-SECURED

@@ -9,6 +9,6 @@ use Rattle.capture_machine.specs.Rounds.{no_draw}
 
 pub returns : goal.returns
 returns c = λ q bare sent set_up took stands.
-    connected q bare (some_values q bare) c.connect_instead.result c.connect_instead.new.out c.args.body.now c.connect_instead.new.self c.eq.result set_up
-    (c.connect_instead.ensures q bare sent (some_values q bare) no_draw took stands)
+    connected q bare (some_values q bare) c.restart_instead.result c.restart_instead.new.out c.args.body.now c.restart_instead.new.self c.eq.result set_up
+    (c.restart_instead.ensures q bare sent (some_values q bare) no_draw took stands)
     (subst (λ (l : List _). Decides c.eq.result (l ≡ c.args.body.now)) c.as_slice.ensures.value (slice_eq-Decides Decides-eqb _ _ _ c.eq.ensures))

@@ -4,7 +4,7 @@ use Rattle.std.specs.Prelude.{nat_le}
 use Rattle.responder_machine.specs.Place.{place_terms}
 use Rattle.spdm_basis.specs.Sizes.{hash_size}
 use Rattle.spdm_machine.specs.Terms.{hash_len}
-use Rattle.check_responder.specs.Answerer.{are_few, is_id, is_unused}
+use Rattle.check_responder.specs.JudgedResponder.{are_few, is_id, is_unused}
 use Rattle.check_responder.proofs.choosing.are_allowed.Goals as goal
 
 second_false : (a b rest : Bool) → b ≡ false → false ≡ (a && (b && rest))

@@ -1,6 +1,6 @@
 use Rattle.std.proofs.Common.{◌∙◌, sym, ap, subst, ℕ, List, [], ◌∷◌, Bool, cond, Some}
 use Rattle.check_responder.proofs.ShownDrops.{begun_drops, large_drops}
-use Rattle.check_responder.specs.Answerer.{IsDropped, shows_large}
+use Rattle.check_responder.specs.JudgedResponder.{IsDropped, shows_large}
 use Rattle.check_laws.specs.DropsShown.{id_begun}
 use Rattle.check_responder.proofs.clear_answers.dropped_before.Goals as goal
 

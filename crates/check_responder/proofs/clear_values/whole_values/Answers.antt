@@ -9,7 +9,7 @@ use Rattle.spdm_grammar.specs.declared.names.TheConstants.{MAX_MESSAGE_SIZE}
 use Rattle.check_responder.proofs.ClearShown.{no_room, read_whole}
 use Rattle.check_responder.proofs.clear_values.whole_values.Goals as goal
 use Rattle.check_laws.specs.AnswersShown.{least_values, values_in}
-use Rattle.check_responder.specs.Answerer.{AreRead}
+use Rattle.check_responder.specs.JudgedResponder.{AreRead}
 
 pub returns-then-not-join : goal.returns-then-not-join
 returns-then-not-join c = λ r h m set at free so_far few some last ack.

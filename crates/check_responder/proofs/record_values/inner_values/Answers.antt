@@ -3,7 +3,7 @@ use Rattle.std.proofs.lemmas.Bool.{eq-eqb, ne_eqb}
 use Rattle.std.specs.Prelude.{slice_index}
 use Rattle.responder_core.specs.Free.{IsFree}
 use Rattle.responder_machine.specs.Place.{session_place}
-use Rattle.check_responder.specs.Answerer.{AreRead}
+use Rattle.check_responder.specs.JudgedResponder.{AreRead}
 use Rattle.check_laws.specs.AnswersShown.{values_in}
 use Rattle.check_responder.proofs.record_values.inner_values.Goals as goal
 

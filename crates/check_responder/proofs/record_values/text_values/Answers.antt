@@ -2,7 +2,7 @@ use Rattle.std.proofs.Common.{subst, drop, take, List, ℕ}
 use Rattle.byteorder.specs.Endian.{little_number}
 use Rattle.responder_machine.specs.Answer.{Free}
 use Rattle.responder_machine.specs.Place.{session_place}
-use Rattle.check_responder.specs.Answerer.{AreRead}
+use Rattle.check_responder.specs.JudgedResponder.{AreRead}
 use Rattle.check_laws.specs.AnswersShown.{values_in_inner}
 use Rattle.check_responder.proofs.record_values.text_values.Goals as goal
 

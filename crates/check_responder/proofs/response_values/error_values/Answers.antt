@@ -5,7 +5,7 @@ use Rattle.byteorder.specs.Endian.{little_number}
 use Rattle.responder_core.specs.Free.{IsFree}
 use Rattle.responder_machine.specs.Answer.{Free, answer_bytes, request_at}
 use Rattle.spdm_grammar.specs.declared.names.error_number.TheConstants.{LARGE_RESPONSE, RESPONSE_TOO_LARGE}
-use Rattle.check_responder.specs.Answerer.{AreRead}
+use Rattle.check_responder.specs.JudgedResponder.{AreRead}
 use Rattle.check_laws.specs.AnswersShown.{least_large, lengthened}
 use Rattle.check_responder.proofs.response_values.error_values.Goals as goal
 

@@ -2,7 +2,7 @@ use Rattle.std.proofs.Common.{◌-◌, subst, length, ℕ}
 use Rattle.responder_core.specs.Free.{IsFree}
 use Rattle.responder_machine.specs.Answer.{Free, answer_bytes, request_at}
 use Rattle.check_responder.proofs.ResponseRead.{handle_long}
-use Rattle.check_responder.specs.Answerer.{AreTooLong}
+use Rattle.check_responder.specs.JudgedResponder.{AreTooLong}
 use Rattle.check_laws.specs.AnswersShown.{least_large, lengthened}
 use Rattle.check_responder.proofs.response_values.large_values.Goals as goal
 

@@ -4,7 +4,7 @@ use Rattle.responder_machine.specs.Answer.{answer_bytes, request_at}
 use Rattle.spdm_basis.specs.Sizes.{hash_size}
 use Rattle.spdm_grammar.specs.Message.{RequestMessage, request_message}
 use Rattle.spdm_grammar.specs.Requests.{request_in}
-use Rattle.check_responder.specs.Answerer.{AreRead}
+use Rattle.check_responder.specs.JudgedResponder.{AreRead}
 use Rattle.check_laws.specs.AnswersShown.{lengthened}
 use Rattle.check_responder.proofs.response_values.long_values.Goals as goal
 

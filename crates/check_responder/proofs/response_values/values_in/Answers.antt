@@ -7,7 +7,7 @@ use Rattle.responder_machine.specs.Place.{place_terms}
 use Rattle.spdm_grammar.specs.Responses.{response_in}
 use Rattle.spdm_grammar.specs.declared.names.response_code.TheConstants.{ERROR}
 use Rattle.spdm_machine.specs.Terms.{hash_len}
-use Rattle.check_responder.specs.Answerer.{AreRead}
+use Rattle.check_responder.specs.JudgedResponder.{AreRead}
 use Rattle.check_laws.specs.AnswersShown.{asks_summary, values_in_error, with_fields}
 use Rattle.check_responder.proofs.response_values.values_in.Goals as goal
 

@@ -1,7 +1,7 @@
 use Rattle.std.proofs.Common.{sym, subst, Some}
 use Rattle.spdm_grammar.specs.Message.{request_message}
 use Rattle.spdm_grammar.specs.declared.messages.request.Request.{Request}
-use Rattle.check_responder.specs.Answerer.{AreLonger}
+use Rattle.check_responder.specs.JudgedResponder.{AreLonger}
 use Rattle.check_laws.specs.AnswersShown.{lengthened}
 use Rattle.check_responder.proofs.shown_values.lengthened.Goals as goal
 

@@ -4,7 +4,7 @@ use Rattle.link_world.proofs.Made.{askers_fault, askers_more, sound_more}
 use Rattle.script_ends.proofs.Made.{added}
 use Rattle.link_world.proofs.Shown.{next_number}
 use Rattle.link_world.specs.Making.{IsAskerFault}
-use Rattle.link_world.specs.declared.ends.Asker.{Asker}
+use Rattle.link_world.specs.declared.ends.AddressedRequester.{AddressedRequester}
 use Rattle.link_world.specs.declared.fault.WorldFault.{WorldFault}
 use Rattle.link_world.proofs.making.askers_of.Goals as goal
 
@@ -22,8 +22,8 @@ loop-q-preserved c =
     let inv = c.loop-q.invariant in
     let inside = c.loop-q-test.true in
     let number = next_number c.loop-q.number i (length qs) inv.number inside c.requires.few in
-    let x : Asker = c.in_ok-asker.asker in
-    let pushed = added {A = Asker} c.push.result c.loop-q.askers.items (x ∷ []) c.push.new.self.items c.push.ensures.items c.if-is_err.ensures.value in
+    let x : AddressedRequester = c.in_ok-asker.asker in
+    let pushed = added {A = AddressedRequester} c.push.result c.loop-q.askers.items (x ∷ []) c.push.new.self.items c.push.ensures.items c.if-is_err.ensures.value in
     let more = askers_more c.args.responder.number c.args.seed.now c.args.boot i ((c.loop-q.number + 1) % 256) qs q c.loop-q.askers.items x inside c.q-item.is number inv.all c.in_ok-asker.ensures.stands in
     record {
       number = number;

@@ -7,7 +7,7 @@ use Rattle.std.specs.Prelude.{replicate}
 use Rattle.stream_commands.proofs.DrivingAnswers.{all_driven, not_driven, of_driving}
 use Rattle.stream_commands.proofs.Streams.{same_stream}
 use Rattle.stream_commands.specs.Outside.{Outside, outside}
-use Rattle.stream_commands.specs.declared.begin.Begun.{Begun}
+use Rattle.stream_commands.specs.declared.begin.StreamStart.{StreamStart}
 use Rattle.stream_commands.proofs.driving.drive_behind.Goals as goal
 
 pub drive-requires-clause-some : goal.drive-requires-clause-some
@@ -15,7 +15,7 @@ drive-requires-clause-some g c = (config_sound c.requires.read.0 c.args.config.n
 
 pub returns-in-Ok-clause-followed : goal.returns-in-Ok-clause-followed
 returns-in-Ok-clause-followed g c = λ left seeds others reads seeded_before seeded_after begun earlier.
-    let own : Begun = record { config = c.args.config.now; seed = c.args.seed; before = c.args.before.now } in
+    let own : StreamStart = record { config = c.args.config.now; seed = c.args.seed; before = c.args.before.now } in
     let rest = g.S.Source.remaining c.args.source.now in
     let before : Outside = outside left (g.K.Sink.contents c.args.sink.now) seeds reads (g.K.Sink.faults c.args.sink.now) seeded_before in
     let after : Outside = outside (g.S.Source.remaining c.drive.new.source) (g.K.Sink.contents c.drive.new.sink) others (g.S.Source.faults c.drive.new.source) (g.K.Sink.faults c.drive.new.sink) seeded_after in
@@ -31,7 +31,7 @@ of_driving-requires g c =
 
 pub returns-in-Err-clause-followed : goal.returns-in-Err-clause-followed
 returns-in-Err-clause-followed g c = λ left seeds others reads seeded_before seeded_after begun earlier.
-    let own : Begun = record { config = c.args.config.now; seed = c.args.seed; before = c.args.before.now } in
+    let own : StreamStart = record { config = c.args.config.now; seed = c.args.seed; before = c.args.before.now } in
     let rest = g.S.Source.remaining c.args.source.now in
     let before : Outside = outside left (g.K.Sink.contents c.args.sink.now) seeds reads (g.K.Sink.faults c.args.sink.now) seeded_before in
     let after : Outside = outside (g.S.Source.remaining c.drive.new.source) (g.K.Sink.contents c.drive.new.sink) others (g.S.Source.faults c.drive.new.source) (g.K.Sink.faults c.drive.new.sink) seeded_after in

@@ -3,7 +3,7 @@ use Rattle.stream_commands.proofs.Answered.{answered_kept, no_boot, was_asked}
 use Rattle.stream_commands.proofs.Begun.{seeded, unread, with_bytes}
 use Rattle.stream_commands.proofs.Ends.{IsAnswerFor, driving_ends, kept_answer}
 use Rattle.stream_commands.proofs.Exactly.{kept_exactly}
-use Rattle.stream_commands.specs.Begun.{config_text}
+use Rattle.stream_commands.specs.StreamStart.{config_text}
 use Rattle.stream_commands.specs.Driven.{driving_command}
 use Rattle.stream_commands.specs.InputEnds.{HasEnd, IsStreamToDrive}
 use Rattle.stream_commands.specs.Kept.{IsNextBoot, KeeperState, keeper_state}

@@ -5,12 +5,12 @@ use Rattle.std.proofs.Common.{refl}
 use Rattle.stream_commands.proofs.ServingAnswers.{all_served, not_served, of_stream}
 use Rattle.stream_commands.proofs.Streams.{same_stream}
 use Rattle.stream_commands.specs.Outside.{Outside, outside}
-use Rattle.stream_commands.specs.declared.begin.Begun.{Begun}
+use Rattle.stream_commands.specs.declared.begin.StreamStart.{StreamStart}
 use Rattle.stream_commands.proofs.serving.serve_behind.Goals as goal
 
 pub returns-in-Ok-clause-followed : goal.returns-in-Ok-clause-followed
 returns-in-Ok-clause-followed g c = λ left seeds others reads seeded_before seeded_after begun earlier.
-    let own : Begun = record { config = c.args.config.now; seed = c.args.seed; before = c.args.before.now } in
+    let own : StreamStart = record { config = c.args.config.now; seed = c.args.seed; before = c.args.before.now } in
     let rest = g.S.Source.remaining c.args.source.now in
     let before : Outside = outside left (g.K.Sink.contents c.args.sink.now) seeds reads (g.K.Sink.faults c.args.sink.now) seeded_before in
     let after : Outside = outside (g.S.Source.remaining c.serve.new.source) (g.K.Sink.contents c.serve.new.sink) others (g.S.Source.faults c.serve.new.source) (g.K.Sink.faults c.serve.new.sink) seeded_after in
@@ -24,7 +24,7 @@ of_serving-requires g c =
 
 pub returns-in-Err-clause-followed : goal.returns-in-Err-clause-followed
 returns-in-Err-clause-followed g c = λ left seeds others reads seeded_before seeded_after begun earlier.
-    let own : Begun = record { config = c.args.config.now; seed = c.args.seed; before = c.args.before.now } in
+    let own : StreamStart = record { config = c.args.config.now; seed = c.args.seed; before = c.args.before.now } in
     let rest = g.S.Source.remaining c.args.source.now in
     let before : Outside = outside left (g.K.Sink.contents c.args.sink.now) seeds reads (g.K.Sink.faults c.args.sink.now) seeded_before in
     let after : Outside = outside (g.S.Source.remaining c.serve.new.source) (g.K.Sink.contents c.serve.new.sink) others (g.S.Source.faults c.serve.new.source) (g.K.Sink.faults c.serve.new.sink) seeded_after in

@@ -16,12 +16,12 @@ use Rattle.check_ends.proofs.WalkRows.{walk_round}
 use Rattle.check_ends.proofs.conversation.Conversation.replies_largely.Goals as goal
 use Rattle.check_ends.specs.Conversation.{IsJudgedAnswer, StandsAs}
 use Rattle.check_ends.specs.PartyReplies.{IsReplied}
-use Rattle.check_ends.specs.declared.onward.Onward.{Onward}
+use Rattle.check_ends.specs.declared.continuation.Continuation.{Continuation}
 use Rattle.check_laws.specs.declared.sending_large.large_request.LargeRequest.{LargeRequest}
 use Rattle.capture_machine.specs.Rounds.{Round}
 use Rattle.world_machine.specs.Setup.{known_of}
 
-if_ok : (P Q : Result Onward declared.Why → Type 0) (r : Result (Result Onward declared.Why) OutOfMemory) → ((x : Result Onward declared.Why) → P x → Q x) → IfOk r P → IfOk r Q
+if_ok : (P Q : Result Continuation declared.Why → Type 0) (r : Result (Result Continuation declared.Why) OutOfMemory) → ((x : Result Continuation declared.Why) → P x → Q x) → IfOk r P → IfOk r Q
 if_ok P Q (Ok x) goes is = goes x is
 if_ok P Q (Err e) goes is = is
 

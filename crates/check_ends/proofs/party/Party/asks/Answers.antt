@@ -3,7 +3,7 @@ use Rattle.spdm_grammar.specs.declared.told.why.Why as declared
 use Rattle.check_ends.proofs.PartyAsked.{beside_of, large_or_refused, whole_by}
 use Rattle.check_requester.proofs.CarriedBy.{keeps_carries}
 use Rattle.check_ends.proofs.party.Party.asks.Goals as goal
-use Rattle.check_requester.specs.Asker.{is_first_chunk}
+use Rattle.check_requester.specs.JudgedRequester.{is_first_chunk}
 use Rattle.check_ends.specs.Party.{IsAskedWhole}
 
 pub returns-in-Ok-clause-told : goal.returns-in-Ok-clause-told

@@ -1,6 +1,6 @@
 use Rattle.std.proofs.Common.{◌≡◌, ◌∙◌, sym, ap, subst, ℕ}
 use Rattle.check_ends.proofs.party.Party.go_on.Goals as goal
-use Rattle.check_requester.specs.Asker.{IsAsker}
+use Rattle.check_requester.specs.JudgedRequester.{IsAsker}
 use Rattle.check_requester.specs.HeardKept.{asks_upon, heard_kept}
 use Rattle.check_laws.specs.KeptChanges.{accepted_from}
 use Rattle.check_laws.specs.Order.{tag_in}

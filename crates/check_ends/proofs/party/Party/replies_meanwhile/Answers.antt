@@ -17,7 +17,7 @@ use Rattle.check_responder.proofs.SendingWhole.{never_large, never_last}
 use Rattle.check_ends.proofs.party.Party.replies_meanwhile.Goals as goal
 use Rattle.check_responder.specs.AnswerKeys as answer_keys
 use Rattle.check_responder.specs.AnswerKeys.{IsComingKey}
-use Rattle.check_responder.specs.Answerer.{history_shown}
+use Rattle.check_responder.specs.JudgedResponder.{history_shown}
 use Rattle.check_ends.specs.Conversation.{meanwhile}
 use Rattle.check_responder.specs.Given.{IsGiven}
 use Rattle.check_responder.specs.declared.given.Judged.{Judged}

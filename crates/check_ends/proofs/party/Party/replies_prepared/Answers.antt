@@ -21,8 +21,8 @@ use Rattle.check_ends.proofs.PartyReplied.{answers_round, apart_for, asked_upon,
 use Rattle.check_ends.proofs.PartyTold.{few_behind, is_change, is_step}
 use Rattle.check_ends.proofs.party.Party.replies_prepared.Goals as goal
 use Rattle.check_responder.specs.AnswerKeys.{IsComing, IsComingKey, StandFor}
-use Rattle.check_responder.specs.Answerer.{IsAnswerer, history_shown}
-use Rattle.check_requester.specs.Asker.{IsAsker}
+use Rattle.check_responder.specs.JudgedResponder.{IsAnswerer, history_shown}
+use Rattle.check_requester.specs.JudgedRequester.{IsAsker}
 use Rattle.check_requester.specs.HeardKept.{asks_upon, heard_kept}
 use Rattle.check_responder.specs.Given.{IsGiven}
 use Rattle.check_responder.specs.declared.given.Judged.{Judged}
@@ -50,8 +50,8 @@ returns-then-heard-clause-told c = λ w q older rows k route keeps below byte no
     let under = (answers_round w q older k route answer byte limits keeps turn rows seen now c.tag-in-Given-Whole.result c.tag-in-Given-Whole.ensures).1 in
     let fetches = c.hears-heard.ensures.fetches w q older k turn.round carries below turn.answers.0 under party.asker (sym (kept_asks_none w q older k keeps)) in
     let asks : asks_upon k route.tag answer ≡ true = ap (λ (n : ℕ). asks_upon k n answer) (sym turn.answers.1 ∙ under) ∙ sym fetches ∙ c.if-heard.true in
-    let why = c.why_so-why.ensures r (restored k) turn.round (c.opening_with-told.ensures.told r (restored k) turn.round party.answerer small party.keys (sym body) coming) in
-    asked_upon w q older k route answer byte limits keeps turn rows c.why_so-why.result given.0 asks why c.args.self.now c.args.table.now
+    let why = c.reason_for-why.ensures r (restored k) turn.round (c.opening_with-told.ensures.told r (restored k) turn.round party.answerer small party.keys (sym body) coming) in
+    asked_upon w q older k route answer byte limits keeps turn rows c.reason_for-why.result given.0 asks why c.args.self.now c.args.table.now
 
 pub returns-in_ok-take-in-Given-Whole-clause-told : goal.returns-in_ok-take-in-Given-Whole-clause-told
 returns-in_ok-take-in-Given-Whole-clause-told c = λ w q older rows k route keeps below byte now set_up none party had stands.
@@ -172,5 +172,5 @@ returns-in-Refused-clause-told c = λ w q older rows k route keeps below byte no
     let second = subst (λ (x : Connection). connected.StandsFor x r k.responder) (sym c.opening_with-told.ensures.same) party.answerer in
     let told = c.judges_with.ensures r (restored k) turn.round set_up second small (answers_round w q older k route answer byte limits keeps turn rows seen now c.tag-2.result c.tag-2.ensures).1 (sym body) (subst IsBody (sym body) (kept_body w q older k turn.round carries turn.answers.0)) (kept_apart w q older k turn.round answer carries) coming in
     let given = subst (λ (x : Judged). IsGiven r (restored k) turn.round answer x c.judges_with.new.self) c.in-Refused.is told in
-    let why = c.why_so.ensures r (restored k) turn.round (c.opening_with-told.ensures.told r (restored k) turn.round party.answerer small party.keys (sym body) coming) in
-    refused_for w q older k route answer byte limits keeps turn rows c.why_so.result given.0 given.1 why c.args.self.now c.args.table.now
+    let why = c.reason_for.ensures r (restored k) turn.round (c.opening_with-told.ensures.told r (restored k) turn.round party.answerer small party.keys (sym body) coming) in
+    refused_for w q older k route answer byte limits keeps turn rows c.reason_for.result given.0 given.1 why c.args.self.now c.args.table.now

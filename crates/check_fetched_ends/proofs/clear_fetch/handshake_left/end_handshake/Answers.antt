@@ -11,7 +11,7 @@ abbrev IsIn : History → Option ℕ → Type 0
 IsIn h o = MatchOption o ((id : ℕ) → id ≢ 0 → is_in_handshake (session_of id h) ≡ false) (λ (id : ℕ). is_in_handshake (session_of id h) ≡ true)
 
 pub returns-in-Some : goal.returns-in-Some
-returns-in-Some c = λ r h stands few. (Dropped c.in-Some.id ∷ h, inr (c.in-Some.id, subst (IsIn h) c.in-Some.is (c.handshake_id.ensures r h stands few), refl), c.drop_unseen.ensures r h stands)
+returns-in-Some c = λ r h stands few. (Dropped c.in-Some.id ∷ h, inr (c.in-Some.id, subst (IsIn h) c.in-Some.is (c.handshake_id.ensures r h stands few), refl), c.expire.ensures r h stands)
 
 pub returns-in_default : goal.returns-in_default
 returns-in_default c = λ r h stands few. (h, inl (subst (IsIn h) c.in_default.is (c.handshake_id.ensures r h stands few), refl), stands)

@@ -5,7 +5,7 @@ use Rattle.check_requester.proofs.CarriedBy.{keeps_carries}
 use Rattle.check_ends.proofs.InTurn.{answers_in_turn}
 use Rattle.check_laws.proofs.KnownFetches.{kept_asks_none}
 use Rattle.check_ends.proofs.PartyReplied.{few_messages, kept_limits}
-use Rattle.check_requester.specs.Asker.{IsAsker}
+use Rattle.check_requester.specs.JudgedRequester.{IsAsker}
 use Rattle.check_requester.specs.HeardKept.{asks_upon, heard_kept}
 use Rattle.check_ends.specs.declared.party.Party.{Party}
 use Rattle.check_laws.proofs.KeptAnswers.{kept_is_restored}
@@ -118,7 +118,7 @@ returns-then-not-heard-clause-told c = λ w q older rows k route keeps below byt
     let idle : asks_upon k route.tag answer ≡ false = ap (λ (n : ℕ). asks_upon k n answer) (sym turn.answers.1 ∙ tag) ∙ sym fetches ∙ is_false c.hears-heard.result.fetches c.if-not-heard.true in
     let type = here.type in
     let large = here.large in
-    let holds = subst (λ (x : ReqSetup). Holds x (restored k).requester) (sym party.asker.setup) party.asker.stands.talk.holds in
+    let holds = subst (λ (x : ReqSetup). Holds x (restored k).requester) (sym party.asker.setup) party.asker.stands.clear_state.holds in
     let sizes = subst HasSizes (sym party.asker.setup) party.asker.kept.sizes in
     let free = is_free w q older k route answer byte keeps turn type large holds sizes idle in
     let f = next w q older k route answer byte limits carries turn type large in

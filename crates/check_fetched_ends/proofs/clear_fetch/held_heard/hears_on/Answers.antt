@@ -1,7 +1,7 @@
 use Rattle.std.proofs.Common.{◌≡◌, ◌∙◌, ◌<◌, ◌≤◌, ◌+◌, ◌-◌, ◌^◌, ℕ, List, Bool, true, false, Option, Some, None, refl, sym, ap, subst, length, arith, inl, inr, is_some, Result}
 use Rattle.std.specs.Prelude.{OnOk}
 use Rattle.spdm_basis.specs.declared.OutOfMemory.{OutOfMemory}
-use Rattle.check_requester.specs.Asker.{IsAsker}
+use Rattle.check_requester.specs.JudgedRequester.{IsAsker}
 use Rattle.check_requester.specs.HeardKept.{asks_upon, heard_kept}
 use Rattle.check_laws.specs.Keeping.{Kept, restored}
 use Rattle.check_laws.specs.KeptChanges.{accepted_from}

@@ -5,7 +5,7 @@ use Rattle.std.proofs.lemmas.Option.{same_Some}
 use Rattle.spdm_basis.specs.declared.OutOfMemory.{OutOfMemory}
 use Rattle.check_requester.proofs.FewMessages.{kept_messages}
 use Rattle.check_ends.proofs.InTurn.{answers_in_turn}
-use Rattle.check_requester.specs.Asker.{IsAsker}
+use Rattle.check_requester.specs.JudgedRequester.{IsAsker}
 use Rattle.check_requester.specs.HeardKept.{heard_kept}
 use Rattle.check_ends.specs.declared.party.Party.{Party}
 use Rattle.check_laws.specs.Keeping.{restored}

@@ -6,7 +6,7 @@ use Rattle.check_requester.proofs.CarriedBy.{keeps_carries}
 use Rattle.check_ends.proofs.InTurn.{answers_in_turn}
 use Rattle.check_laws.proofs.KnownFetches.{kept_asks_none}
 use Rattle.check_ends.proofs.PartyReplied.{few_messages, kept_limits}
-use Rattle.check_requester.specs.Asker.{IsAsker}
+use Rattle.check_requester.specs.JudgedRequester.{IsAsker}
 use Rattle.check_requester.specs.HeardKept.{asks_upon, heard_kept}
 use Rattle.check_ends.specs.declared.party.Party.{Party}
 use Rattle.check_laws.proofs.AnswerSteps.{kept_answer_is_step}
@@ -43,7 +43,7 @@ idle : (w : Configuration) (q : ReqSetup) (older : List (List ℕ)) (k : Kept) �
 idle w q older k keeps = none_pends_in_clear w q older (restored k) (kept_is_restored w q older k keeps).0
 
 holds_of : (w : Configuration) (q : ReqSetup) (k : Kept) (seen : Party) → IsAsker seen.asker q k → Holds k.setup (restored k).requester
-holds_of w q k seen asker = subst (λ (x : ReqSetup). Holds x (restored k).requester) (sym asker.setup) asker.stands.talk.holds
+holds_of w q k seen asker = subst (λ (x : ReqSetup). Holds x (restored k).requester) (sym asker.setup) asker.stands.clear_state.holds
 
 sizes_of : (w : Configuration) (q : ReqSetup) (k : Kept) (seen : Party) → IsAsker seen.asker q k → HasSizes k.setup
 sizes_of w q k seen asker = subst HasSizes (sym asker.setup) asker.kept.sizes

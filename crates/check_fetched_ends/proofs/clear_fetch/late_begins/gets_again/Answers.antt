@@ -6,7 +6,7 @@ use Rattle.std.proofs.lemmas.Slice.Eq.{bytes_eq-Decides}
 use Rattle.check_laws.proofs.LeastValues.{least_allowed}
 use Rattle.check_laws.specs.AnswersShown.{least_values}
 use Rattle.responder_core.specs.Trying.{IsTried}
-use Rattle.responder_core.specs.declared.judging.tried.Tried.{Tried}
+use Rattle.responder_core.specs.declared.judging.dry_run.DryRun.{DryRun}
 use Rattle.responder_machine.specs.Handling.{turn_of}
 use Rattle.responder_machine.specs.History.{History, kept_of}
 use Rattle.responder_machine.specs.History.Entry.{Clear}
@@ -24,7 +24,7 @@ same_body : (r : RspSetup) (h : History) (tag : ℕ) (m : List ℕ) (f : Free) �
 unfolding on_clear
 same_body r h tag m f again = ap (λ (b : Bool). body_of (cond b (Same (clear_body (kept_reply (kept_of h)))) (Adds (Clear tag (turn_of r (clear_place h) m f) no_draw)))) again
 
-written : (o : Option Tried) (h : History) (out : Outcome) (sent : List ℕ) → is_some o ≡ true → IfSome o (λ tried. IsTried h out tried sent) → sent ≡ body_of out
+written : (o : Option DryRun) (h : History) (out : Outcome) (sent : List ℕ) → is_some o ≡ true → IfSome o (λ tried. IsTried h out tried sent) → sent ≡ body_of out
 written None h out sent some is = absurd (false≢true some)
 written (Some tried) h out sent some is = is.body
 

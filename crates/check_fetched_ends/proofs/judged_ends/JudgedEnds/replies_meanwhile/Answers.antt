@@ -1,7 +1,7 @@
 use Rattle.std.proofs.Common.{◌∙◌, Option, Some, Result, Ok, Err, ap, subst, sym}
 use Rattle.std.specs.Prelude.{OnErr}
 use Rattle.spdm_basis.specs.declared.OutOfMemory.{OutOfMemory}
-use Rattle.check_ends.specs.declared.onward.Onward.{Onward}
+use Rattle.check_ends.specs.declared.continuation.Continuation.{Continuation}
 use Rattle.check_fetched_ends.proofs.judged_ends.JudgedEnds.replies_meanwhile.Goals as goal
 use Rattle.check_fetched_ends.specs.JudgedEnds.{MayBegin, StandsAs}
 use Rattle.check_fetched_ends.specs.declared.fetch.Fetch.{Fetch}
@@ -31,7 +31,7 @@ returns-in-Some-InSession-clause-memory c =
     subst (λ (o : Option Fetch). OnErr c.replies_fetched.result (MayBegin o c.args.answer.now)) (sym (sym c.take.ensures.value ∙ c.in-Some-InSession.is ∙ ap Some c.in-Some-InSession.field-0-is)) c.replies_fetched.ensures.memory
 
 -- Nothing is claimed of memory.
-on_any : (x : Result (Result Onward declared_why.Why) OutOfMemory) → OnErr x (Unit {0})
+on_any : (x : Result (Result Continuation declared_why.Why) OutOfMemory) → OnErr x (Unit {0})
 on_any (Ok told) = tt
 on_any (Err e) = tt
 

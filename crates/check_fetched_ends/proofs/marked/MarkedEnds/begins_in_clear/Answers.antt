@@ -51,7 +51,7 @@ returns-in-Not-clause-told c = λ w q older rows packet route at few byte round 
     let turn = answers_in_turn k route answer right in
     let clear = subst (λ (o : Option Round). (slice_index (body_in o) 0 == 5) ≡ true) (now ∙ turn.answers.0) type in
     let asker = own.2.asker in
-    let holds = subst (λ (x : ReqSetup). Holds x (restored k).requester) (sym asker.setup) asker.stands.talk.holds in
+    let holds = subst (λ (x : ReqSetup). Holds x (restored k).requester) (sym asker.setup) asker.stands.clear_state.holds in
     let sizes = subst HasSizes (sym asker.setup) asker.kept.sizes in
     let asked = clear_asked w q older packet route answer at byte k keeps turn clear holds sizes own.2.answerer.sizes (λ other keeps_other left. none_of_each w q older rows packet route answer k keeps is.0 other keeps_other left) in
     c.judges.ensures.told w q older rows packet route at few byte round set_up why asked (stands_on, stands.1) table_on

@@ -6,10 +6,10 @@ use Rattle.check_ends.proofs.InTurn.{answers_in_turn}
 use Rattle.check_laws.proofs.KnownFetches.{kept_asks_none}
 use Rattle.check_ends.proofs.PartyReplied.{few_messages, kept_limits}
 use Rattle.check_responder.specs.AnswerKeys.{StandFor, will_take}
-use Rattle.check_responder.specs.Answerer.{IsAnswerer}
-use Rattle.check_requester.specs.Asker.{IsAsker}
+use Rattle.check_responder.specs.JudgedResponder.{IsAnswerer}
+use Rattle.check_requester.specs.JudgedRequester.{IsAsker}
 use Rattle.check_requester.specs.HeardKept.{asks_upon, heard_kept}
-use Rattle.check_responder.specs.declared.answerer.Answerer.{Answerer}
+use Rattle.check_responder.specs.declared.judged_responder.JudgedResponder.{JudgedResponder}
 use Rattle.check_laws.specs.AnswersShown.{least_values}
 use Rattle.check_laws.specs.Keeping.{restored}
 use Rattle.check_laws.specs.Order.{body_in, tag_in}
@@ -85,7 +85,7 @@ returns-then-not-heard-clause-told c = λ w q older rows k route keeps below byt
     let coming = subst (λ (b : List ℕ). will_take r h b ≡ false) (sym (ap body_in at)) (not_taken w q older k route answer byte limits keeps turn type sealed handle blocks connection party.answerer prepared.0) in
     let new = c.go_on-heard.new.self in
     let keys = subst (StandFor new.keys r) quiet (c.go_on-heard.ensures.keys r h [] f no_draw party.keys coming (subst (IsAnswerer c.args.party.now.answerer r) (sym quiet) party.answerer)) in
-    let answerer = subst (λ (x : Answerer). IsAnswerer x r h) (sym c.go_on-heard.ensures.answerer) party.answerer in
+    let answerer = subst (λ (x : JudgedResponder). IsAnswerer x r h) (sym c.go_on-heard.ensures.answerer) party.answerer in
     let asker = subst (λ (n : ℕ). IsAsker new.asker q (heard_kept k h n turn.round answer)) turn.answers.1
     (c.go_on-heard.ensures.asker w q older k h turn.round carries below turn.answers.0 at party.asker) in
     let then = next w q older k route answer byte limits keeps turn type in
@@ -142,7 +142,7 @@ returns-clause-told c = λ w q older rows k route keeps below byte now set_up no
     let coming = subst (λ (b : List ℕ). will_take r h b ≡ false) (sym (ap body_in at)) (not_taken w q older k route answer byte limits keeps turn type sealed handle blocks connection party.answerer prepared.0) in
     let new = c.go_on-heard.new.self in
     let keys = subst (StandFor new.keys r) quiet (c.go_on-heard.ensures.keys r h [] f no_draw party.keys coming (subst (IsAnswerer c.args.party.now.answerer r) (sym quiet) party.answerer)) in
-    let answerer = subst (λ (x : Answerer). IsAnswerer x r h) (sym c.go_on-heard.ensures.answerer) party.answerer in
+    let answerer = subst (λ (x : JudgedResponder). IsAnswerer x r h) (sym c.go_on-heard.ensures.answerer) party.answerer in
     let asker = subst (λ (n : ℕ). IsAsker new.asker q (heard_kept k h n turn.round answer)) turn.answers.1
     (c.go_on-heard.ensures.asker w q older k h turn.round carries below turn.answers.0 at party.asker) in
     let then = next w q older k route answer byte limits keeps turn type in

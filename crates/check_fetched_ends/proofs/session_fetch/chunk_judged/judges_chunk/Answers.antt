@@ -6,11 +6,11 @@ use Rattle.std.proofs.lemmas.Option.{none-some}
 use Rattle.check_ends.proofs.InTurn.{answers_in_turn}
 use Rattle.check_ends.proofs.PartyReplied.{kept_limits}
 use Rattle.check_responder.specs.AnswerKeys.{IsComingKey, StandFor}
-use Rattle.check_responder.specs.Answerer.{IsAnswerer}
-use Rattle.check_requester.specs.Asker.{IsAsker}
+use Rattle.check_responder.specs.JudgedResponder.{IsAnswerer}
+use Rattle.check_requester.specs.JudgedRequester.{IsAsker}
 use Rattle.check_requester.specs.HeardKept.{asks_upon, heard_kept}
 use Rattle.check_responder.specs.RecordAnswers.{history_behind}
-use Rattle.check_responder.specs.declared.answerer.Answerer.{Answerer}
+use Rattle.check_responder.specs.declared.judged_responder.JudgedResponder.{JudgedResponder}
 use Rattle.check_responder.specs.declared.given.Given.{Given}
 use Rattle.check_responder.specs.declared.given.Given.TheVariants as given
 use Rattle.check_laws.specs.KeptChanges.{taken_shown}
@@ -58,7 +58,7 @@ returns-then-not-heard-clause-told c = λ w q older rows f route own below byte 
     (subst (λ (x : Option Given). IfSome x (λ (y : Given). IsAnswerer c.answers_record.new.self r (history_behind r g turn.round.tag (record_body c.behind_type.result.now) answer y))) is (c.answers_record.ensures.stands r g turn.round.tag set_up first small)) in
     let new = c.go_on-heard.new.self in
     let e = entry w q older rows f route answer byte limits own turn c.args.party.now c.args.fetched.now c.args.message.now c.args.whole.now read in
-    let answerer = subst (λ (x : Answerer). IsAnswerer x r (e ∷ g)) (sym c.go_on-heard.ensures.answerer) behind in
+    let answerer = subst (λ (x : JudgedResponder). IsAnswerer x r (e ∷ g)) (sym c.go_on-heard.ensures.answerer) behind in
     let coming = subst (λ (b : List ℕ). IsComingKey r g b c.coming_key-key.result) c.body-body.ensures (c.coming_key-key.ensures.key r g (judges w q older rows f route answer byte limits own turn c.args.party.now c.args.fetched.now c.args.message.now c.args.whole.now read) small) in
     let adds = adds_at w q older rows f route answer byte limits own turn c.args.party.now c.args.fetched.now c.args.message.now c.args.whole.now read c.args.round.now at in
     let keys = subst (StandFor new.keys r) adds (c.go_on-heard.ensures.keys r g [] (values w q older rows f route answer byte limits own turn c.args.party.now c.args.fetched.now c.args.message.now c.args.whole.now read) no_draw (keys_before w q older rows f route answer byte limits own turn c.args.party.now c.args.fetched.now c.args.message.now c.args.whole.now read) coming
@@ -82,7 +82,7 @@ returns-then-not-heard-clause-told c = λ w q older rows f route own below byte 
     let fetches = c.go_on-heard.ensures.fetches w q older f.kept turn.round carry below turn.answers.0 at in_body.kept.beside.asker (awaits w q older rows f route answer byte limits own turn c.args.party.now c.args.fetched.now c.args.message.now c.args.whole.now read) in
     let idle = sym (ap (λ (n : ℕ). asks_upon f.kept n answer) turn.answers.1) ∙ sym fetches ∙ not-true _ c.if-not-heard.true in
     let asker = c.go_on-heard.ensures.asker w q older f.kept (e ∷ f.kept.responder) turn.round carry below turn.answers.0 at in_body.kept.beside.asker in
-    let left : Answerer = record new.answerer { connection = c.forget_bytes.new.connection } in
+    let left : JudgedResponder = record new.answerer { connection = c.forget_bytes.new.connection } in
     let last = record new { places = c.take.new.places; answerer = left } in
     let forgotten = c.forget_bytes.ensures r (e ∷ f.kept.responder) c.args.whole.now (flipped c.args.whole.now) (apart w q older rows f route answer byte limits own turn c.args.party.now c.args.fetched.now c.args.message.now c.args.whole.now read shown) (one_measured w q older rows f route answer byte limits own turn c.args.party.now c.args.fetched.now c.args.message.now c.args.whole.now read shown) (other_measured w q older rows f route answer byte limits own turn c.args.party.now c.args.fetched.now c.args.message.now c.args.whole.now read shown) (judges_then w q older rows f route answer byte limits own turn c.args.party.now c.args.fetched.now c.args.message.now c.args.whole.now read shown new.answerer answerer) in
     ended_unasked w q older rows f route answer byte limits own turn c.args.party.now c.args.fetched.now c.args.message.now c.args.whole.now read shown last c.args.fetched.now c.take.new.self idle
@@ -162,7 +162,7 @@ returns-else-not-heard-clause-told c = λ w q older rows f route own below byte 
     (subst (λ (x : Option Given). IfSome x (λ (y : Given). IsAnswerer c.answers_record.new.self r (history_behind r g turn.round.tag (record_body c.behind_type.result.now) answer y))) is (c.answers_record.ensures.stands r g turn.round.tag set_up first small)) in
     let new = c.go_on-heard.new.self in
     let e = entry w q older rows f route answer byte limits own turn c.args.party.now c.args.fetched.now c.args.message.now c.args.whole.now read in
-    let answerer = subst (λ (x : Answerer). IsAnswerer x r (e ∷ g)) (sym c.go_on-heard.ensures.answerer) behind in
+    let answerer = subst (λ (x : JudgedResponder). IsAnswerer x r (e ∷ g)) (sym c.go_on-heard.ensures.answerer) behind in
     let coming = subst (λ (b : List ℕ). IsComingKey r g b c.coming_key-key.result) c.body-body.ensures (c.coming_key-key.ensures.key r g (judges w q older rows f route answer byte limits own turn c.args.party.now c.args.fetched.now c.args.message.now c.args.whole.now read) small) in
     let adds = adds_at w q older rows f route answer byte limits own turn c.args.party.now c.args.fetched.now c.args.message.now c.args.whole.now read c.args.round.now at in
     let keys = subst (StandFor new.keys r) adds (c.go_on-heard.ensures.keys r g [] (values w q older rows f route answer byte limits own turn c.args.party.now c.args.fetched.now c.args.message.now c.args.whole.now read) no_draw (keys_before w q older rows f route answer byte limits own turn c.args.party.now c.args.fetched.now c.args.message.now c.args.whole.now read) coming
@@ -227,7 +227,7 @@ returns-in_ok-take-in-Some-Last-clause-told c = λ w q older rows f route own be
     (subst (λ (x : Option Given). IfSome x (λ (y : Given). IsAnswerer c.answers_record.new.self r (history_behind r g turn.round.tag (record_body c.behind_type.result.now) answer y))) is (c.answers_record.ensures.stands r g turn.round.tag set_up first small)) in
     let new = c.go_on-heard-in-Some-Last.new.self in
     let e = entry w q older rows f route answer byte limits own turn c.args.party.now c.args.fetched.now c.args.message.now c.args.whole.now read in
-    let answerer = subst (λ (x : Answerer). IsAnswerer x r (e ∷ g)) (sym c.go_on-heard-in-Some-Last.ensures.answerer) behind in
+    let answerer = subst (λ (x : JudgedResponder). IsAnswerer x r (e ∷ g)) (sym c.go_on-heard-in-Some-Last.ensures.answerer) behind in
     let coming = subst (λ (b : List ℕ). IsComingKey r g b c.coming_key-key.result) c.body-body.ensures (c.coming_key-key.ensures.key r g (judges w q older rows f route answer byte limits own turn c.args.party.now c.args.fetched.now c.args.message.now c.args.whole.now read) small) in
     let adds = adds_at w q older rows f route answer byte limits own turn c.args.party.now c.args.fetched.now c.args.message.now c.args.whole.now read c.args.round.now at in
     let keys = subst (StandFor new.keys r) adds (c.go_on-heard-in-Some-Last.ensures.keys r g [] (values w q older rows f route answer byte limits own turn c.args.party.now c.args.fetched.now c.args.message.now c.args.whole.now read) no_draw (keys_before w q older rows f route answer byte limits own turn c.args.party.now c.args.fetched.now c.args.message.now c.args.whole.now read) coming

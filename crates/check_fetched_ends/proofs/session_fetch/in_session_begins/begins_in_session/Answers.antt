@@ -9,12 +9,12 @@ use Rattle.check_laws.proofs.KnownFetches.{kept_asks_none}
 use Rattle.check_ends.proofs.PartyReplied.{asked_upon, behind_whole, few_messages, goes_whole, is_part, kept_limits, refused_for, whole_kept}
 use Rattle.check_ends.proofs.PartyTold.{few_behind, is_change, is_step}
 use Rattle.check_responder.specs.AnswerKeys.{IsComingKey, StandFor}
-use Rattle.check_responder.specs.Answerer.{IsAnswerer, history_shown}
-use Rattle.check_requester.specs.Asker.{IsAsker}
+use Rattle.check_responder.specs.JudgedResponder.{IsAnswerer, history_shown}
+use Rattle.check_requester.specs.JudgedRequester.{IsAsker}
 use Rattle.check_responder.specs.ClearAnswers.{is_large_given}
 use Rattle.check_requester.specs.HeardKept.{asks_upon, heard_kept}
 use Rattle.check_responder.specs.RecordAnswers.{IsGivenTo, history_behind}
-use Rattle.check_responder.specs.declared.answerer.Answerer.{Answerer}
+use Rattle.check_responder.specs.declared.judged_responder.JudgedResponder.{JudgedResponder}
 use Rattle.check_responder.specs.declared.given.Given.{Given}
 use Rattle.check_responder.specs.declared.given.Given.TheVariants as given
 use Rattle.check_laws.specs.KeptChanges.{taken_shown}
@@ -158,14 +158,14 @@ returns-in_ok-take-in-Some-Whole-clause-told c = λ w q older rows k route keeps
     (subst (λ (x : Option Given). IfSome x (λ (y : Given). IsAnswerer c.answers_record.new.self r (history_behind r h turn.round.tag (record_body c.behind_type-request.result.now) answer y))) is (c.answers_record.ensures.stands r h turn.round.tag set_up second small)) in
     let new = c.go_on-heard.new.self in
     let same = c.go_on-heard.ensures.answerer in
-    let answerer = subst (λ (x : Answerer). IsAnswerer x r behind) (sym same) there in
+    let answerer = subst (λ (x : JudgedResponder). IsAnswerer x r behind) (sym same) there in
     let coming = subst (λ (b : List ℕ). IsComingKey r h b (Some c.in-Some-coming_key.key)) c.body-body.ensures (c.in-Some-coming_key.ensures.key r h first small) in
     let seen = c.args.round.now in
     let last = record new { places = c.take.new.places } in
     let are = behind_whole w q older k route answer byte limits keeps turn rows seen now last answerer
     (λ l. c.go_on-heard.ensures.asker w q older k l turn.round carries below turn.answers.0 at party.asker)
     (λ ids f here. c.go_on-heard.ensures.keys r h ids f no_draw party.keys coming
-    (subst (λ (x : Answerer). IsAnswerer x r (after (with_dropped h ids) (on_body r (with_dropped h ids) (tag_in seen) (body_in seen) f no_draw))) same here)) in
+    (subst (λ (x : JudgedResponder). IsAnswerer x r (after (with_dropped h ids) (on_body r (with_dropped h ids) (tag_in seen) (body_in seen) f no_draw))) same here)) in
     let then = whole_kept w q older k route answer byte limits keeps turn rows in
     let change = is_change w q older k route answer byte limits keeps turn rows shown c.change-change.result
     (c.change-change.ensures.begun ∙ none_begun h turn.round.tag turn.round.body answer type)
@@ -218,7 +218,7 @@ returns-then-not-heard-clause-told c = λ w q older rows k route keeps below byt
     (subst (λ (x : Option Given). IfSome x (λ (y : Given). IsAnswerer c.answers_record.new.self r (history_behind r h turn.round.tag (record_body c.behind_type-request.result.now) answer y))) is (c.answers_record.ensures.stands r h turn.round.tag set_up second small)) in
     let behind = behind_large w q older k route answer byte limits carries turn type will shown op prepared.asks c.answers_record.new.self there in
     let new = c.go_on-heard-in-Some-Large.new.self in
-    let answerer = subst (λ (x : Answerer). IsAnswerer x r (e ∷ h)) (sym c.go_on-heard-in-Some-Large.ensures.answerer) behind in
+    let answerer = subst (λ (x : JudgedResponder). IsAnswerer x r (e ∷ h)) (sym c.go_on-heard-in-Some-Large.ensures.answerer) behind in
     let adds = adds_there w q older k route answer byte limits carries turn type will shown op prepared.asks c.args.round.now at in
     let keys = subst (StandFor new.keys r) adds (c.go_on-heard-in-Some-Large.ensures.keys r h [] (f0 r h turn.round.tag turn.round.body answer type will shown) no_draw party.keys coming
     (subst (IsAnswerer c.answers_record.new.self r) (sym adds) behind)) in
@@ -279,7 +279,7 @@ returns-else-not-heard-clause-told c = λ w q older rows k route keeps below byt
     (subst (λ (x : Option Given). IfSome x (λ (y : Given). IsAnswerer c.answers_record.new.self r (history_behind r h turn.round.tag (record_body c.behind_type-request.result.now) answer y))) is (c.answers_record.ensures.stands r h turn.round.tag set_up second small)) in
     let behind = behind_large w q older k route answer byte limits carries turn type will shown op prepared.asks c.answers_record.new.self there in
     let new = c.go_on-heard-in-Some-Large.new.self in
-    let answerer = subst (λ (x : Answerer). IsAnswerer x r (e ∷ h)) (sym c.go_on-heard-in-Some-Large.ensures.answerer) behind in
+    let answerer = subst (λ (x : JudgedResponder). IsAnswerer x r (e ∷ h)) (sym c.go_on-heard-in-Some-Large.ensures.answerer) behind in
     let adds = adds_there w q older k route answer byte limits carries turn type will shown op prepared.asks c.args.round.now at in
     let keys = subst (StandFor new.keys r) adds (c.go_on-heard-in-Some-Large.ensures.keys r h [] (f0 r h turn.round.tag turn.round.body answer type will shown) no_draw party.keys coming
     (subst (IsAnswerer c.answers_record.new.self r) (sym adds) behind)) in

@@ -6,11 +6,11 @@ use Rattle.std.proofs.lemmas.Option.{none-some, same_Some}
 use Rattle.check_ends.proofs.InTurn.{answers_in_turn}
 use Rattle.check_ends.proofs.PartyReplied.{kept_limits}
 use Rattle.check_responder.specs.AnswerKeys.{IsComingKey, StandFor}
-use Rattle.check_responder.specs.Answerer.{IsAnswerer, history_shown}
-use Rattle.check_requester.specs.Asker.{IsAsker}
+use Rattle.check_responder.specs.JudgedResponder.{IsAnswerer, history_shown}
+use Rattle.check_requester.specs.JudgedRequester.{IsAsker}
 use Rattle.check_requester.specs.HeardKept.{asks_upon, heard_kept}
 use Rattle.check_responder.specs.RecordAnswers.{history_behind}
-use Rattle.check_responder.specs.declared.answerer.Answerer.{Answerer}
+use Rattle.check_responder.specs.declared.judged_responder.JudgedResponder.{JudgedResponder}
 use Rattle.check_responder.specs.declared.given.Given.{Given}
 use Rattle.check_responder.specs.declared.given.Given.TheVariants as given
 use Rattle.check_laws.specs.KeptChanges.{taken_shown}
@@ -72,12 +72,12 @@ returns-then-heard-clause-told c = λ w q older rows f route own below byte now 
     let behind = behind_given w q older rows f route answer byte limits own turn party fetched kept refuses other c.answers_record.new.self c.behind_type-request.result.now request
     (subst (λ (x : Option Given). IfSome x (λ (y : Given). IsAnswerer c.answers_record.new.self r (history_behind r g turn.round.tag (record_body c.behind_type-request.result.now) answer y))) is (c.answers_record.ensures.stands r g turn.round.tag set_up second small)) in
     let new = c.go_on-heard.new.self in
-    let answerer = subst (λ (x : Answerer). IsAnswerer x r G) (sym c.go_on-heard.ensures.answerer) behind in
+    let answerer = subst (λ (x : JudgedResponder). IsAnswerer x r G) (sym c.go_on-heard.ensures.answerer) behind in
     let coming = subst (λ (b : List ℕ). IsComingKey r g b c.coming_key-key.result) c.body-body.ensures (c.coming_key-key.ensures.key r g first small) in
     let seen = c.args.round.now in
     let keys = keys_then w q older rows f route answer byte limits own turn party fetched kept refuses other shown seen at new
     (λ ids v here. c.go_on-heard.ensures.keys r g ids v no_draw keys_before coming
-    (subst (λ (x : Answerer). IsAnswerer x r (after (with_dropped g ids) (on_body r (with_dropped g ids) (tag_in seen) (body_in seen) v no_draw))) c.go_on-heard.ensures.answerer here)) answerer in
+    (subst (λ (x : JudgedResponder). IsAnswerer x r (after (with_dropped g ids) (on_body r (with_dropped g ids) (tag_in seen) (body_in seen) v no_draw))) c.go_on-heard.ensures.answerer here)) answerer in
     let few = few_then w q older rows f route answer byte limits own turn party fetched kept refuses other shown small in
     let next = (then_kept w q older rows f route answer byte limits own turn party fetched kept refuses other shown).kept in
     let took = c.taken-taken.ensures r g second ∙ ap (λ (b : List ℕ). taken_shown g b answer) body in
@@ -132,12 +132,12 @@ returns-else-heard-clause-told c = λ w q older rows f route own below byte now 
     let behind = behind_given w q older rows f route answer byte limits own turn party fetched kept refuses other c.answers_record.new.self c.behind_type-request.result.now request
     (subst (λ (x : Option Given). IfSome x (λ (y : Given). IsAnswerer c.answers_record.new.self r (history_behind r g turn.round.tag (record_body c.behind_type-request.result.now) answer y))) is (c.answers_record.ensures.stands r g turn.round.tag set_up second small)) in
     let new = c.go_on-heard.new.self in
-    let answerer = subst (λ (x : Answerer). IsAnswerer x r G) (sym c.go_on-heard.ensures.answerer) behind in
+    let answerer = subst (λ (x : JudgedResponder). IsAnswerer x r G) (sym c.go_on-heard.ensures.answerer) behind in
     let coming = subst (λ (b : List ℕ). IsComingKey r g b c.coming_key-key.result) c.body-body.ensures (c.coming_key-key.ensures.key r g first small) in
     let seen = c.args.round.now in
     let keys = keys_then w q older rows f route answer byte limits own turn party fetched kept refuses other shown seen at new
     (λ ids v here. c.go_on-heard.ensures.keys r g ids v no_draw keys_before coming
-    (subst (λ (x : Answerer). IsAnswerer x r (after (with_dropped g ids) (on_body r (with_dropped g ids) (tag_in seen) (body_in seen) v no_draw))) c.go_on-heard.ensures.answerer here)) answerer in
+    (subst (λ (x : JudgedResponder). IsAnswerer x r (after (with_dropped g ids) (on_body r (with_dropped g ids) (tag_in seen) (body_in seen) v no_draw))) c.go_on-heard.ensures.answerer here)) answerer in
     let few = few_then w q older rows f route answer byte limits own turn party fetched kept refuses other shown small in
     let next = (then_kept w q older rows f route answer byte limits own turn party fetched kept refuses other shown).kept in
     let took = c.taken-taken.ensures r g second ∙ ap (λ (b : List ℕ). taken_shown g b answer) body in
@@ -160,7 +160,7 @@ returns-else-heard-clause-told c = λ w q older rows f route own below byte now 
     let asker = c.go_on-heard.ensures.asker w q older f.kept (then w q older rows f route answer byte limits own turn party fetched kept refuses other shown) turn.round carry below turn.answers.0 at kept.beside.asker in
     let taken = taken_is w q older rows f route answer byte limits own turn party fetched kept refuses other shown c.whole_answer_changes.ensures c.taken-taken.result took in
     let left = c.left_then-left.ensures ∙ ap (λ (b : Bool). left_then fetched.left b c.is_none.result refuses) c.is_some-live.ensures ∙ ap (λ (b : Bool). left_then fetched.left (is_some c.view.result) b refuses) (none_of c.taken-taken.result c.is_none.result c.is_none.ensures) in
-    let forgotten : Answerer = record new.answerer { connection = c.forgets.new.connection } in
+    let forgotten : JudgedResponder = record new.answerer { connection = c.forgets.new.connection } in
     let last = record new { places = c.take.new.places; answerer = forgotten } in
     let may = subst (λ (b : Bool). MayForget fetched.id (then w q older rows f route answer byte limits own turn party fetched kept refuses other shown) kept.whole c.left_then-left.result b) (sym c.is_some-live.ensures)
     (may_forget w q older rows f route answer byte limits own turn party fetched kept refuses other shown c.view.result (c.view.ensures r G answerer few) c.taken-taken.result taken c.left_then-left.result left) in
@@ -229,7 +229,7 @@ returns-then-not-heard-clause-told c = λ w q older rows f route own below byte 
     (behind_large w q older rows f route answer byte limits own turn party fetched kept refuses other c.answers_record.new.self c.behind_type-request.result.now request
     (subst (λ (x : Option Given). IfSome x (λ (y : Given). IsAnswerer c.answers_record.new.self r (history_behind r g turn.round.tag (record_body c.behind_type-request.result.now) answer y))) is (c.answers_record.ensures.stands r g turn.round.tag set_up second small))) in
     let new = c.go_on-heard-in-Some-Large.new.self in
-    let answerer = subst (λ (x : Answerer). IsAnswerer x r (e ∷ g)) (sym c.go_on-heard-in-Some-Large.ensures.answerer) behind in
+    let answerer = subst (λ (x : JudgedResponder). IsAnswerer x r (e ∷ g)) (sym c.go_on-heard-in-Some-Large.ensures.answerer) behind in
     let coming = subst (λ (b : List ℕ). IsComingKey r g b c.coming_key-key.result) c.body-body.ensures (c.coming_key-key.ensures.key r g first small) in
     let adds = both_added w q older rows f route answer byte limits own turn party fetched kept refuses other will shown op prepared.asks c.args.round.now at in
     let keys = subst (StandFor new.keys r) adds (c.go_on-heard-in-Some-Large.ensures.keys r g [] (f0 r g turn.round.tag turn.round.body answer other.record_is will shown) no_draw keys_before coming
@@ -292,7 +292,7 @@ returns-else-not-heard-clause-told c = λ w q older rows f route own below byte 
     (behind_large w q older rows f route answer byte limits own turn party fetched kept refuses other c.answers_record.new.self c.behind_type-request.result.now request
     (subst (λ (x : Option Given). IfSome x (λ (y : Given). IsAnswerer c.answers_record.new.self r (history_behind r g turn.round.tag (record_body c.behind_type-request.result.now) answer y))) is (c.answers_record.ensures.stands r g turn.round.tag set_up second small))) in
     let new = c.go_on-heard-in-Some-Large.new.self in
-    let answerer = subst (λ (x : Answerer). IsAnswerer x r (e ∷ g)) (sym c.go_on-heard-in-Some-Large.ensures.answerer) behind in
+    let answerer = subst (λ (x : JudgedResponder). IsAnswerer x r (e ∷ g)) (sym c.go_on-heard-in-Some-Large.ensures.answerer) behind in
     let coming = subst (λ (b : List ℕ). IsComingKey r g b c.coming_key-key.result) c.body-body.ensures (c.coming_key-key.ensures.key r g first small) in
     let adds = both_added w q older rows f route answer byte limits own turn party fetched kept refuses other will shown op prepared.asks c.args.round.now at in
     let keys = subst (StandFor new.keys r) adds (c.go_on-heard-in-Some-Large.ensures.keys r g [] (f0 r g turn.round.tag turn.round.body answer other.record_is will shown) no_draw keys_before coming

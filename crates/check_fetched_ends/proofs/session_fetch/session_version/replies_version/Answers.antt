@@ -4,11 +4,11 @@ use Rattle.check_ends.proofs.InTurn.{answers_in_turn}
 use Rattle.check_ends.proofs.KeptTyped.{kept_body}
 use Rattle.check_ends.proofs.PartyReplied.{kept_limits}
 use Rattle.check_responder.specs.AnswerKeys.{IsComingKey, StandFor}
-use Rattle.check_responder.specs.Answerer.{IsAnswerer}
-use Rattle.check_requester.specs.Asker.{Carries, IsAsker}
+use Rattle.check_responder.specs.JudgedResponder.{IsAnswerer}
+use Rattle.check_requester.specs.JudgedRequester.{Carries, IsAsker}
 use Rattle.check_requester.specs.HeardKept.{heard_kept}
 use Rattle.check_responder.specs.Given.{IsApartInClear, IsGiven}
-use Rattle.check_responder.specs.declared.answerer.Answerer.{Answerer}
+use Rattle.check_responder.specs.declared.judged_responder.JudgedResponder.{JudgedResponder}
 use Rattle.check_responder.specs.declared.given.Judged.{Judged}
 use Rattle.check_responder.specs.declared.given.Judged.TheVariants as judged
 use Rattle.check_laws.specs.Keeping.{restored}
@@ -63,7 +63,7 @@ returns-in_ok-take-in-Given-Whole-clause-told c = λ w q older rows f route own 
     let one = version_entry turn.round.tag in
     let there = stands_behind w q older rows f route answer byte limits own turn fetched.id kept.at kept.whole kept.stands clear kept.room kept.anew sized c.judges.new.self (subst (IsAnswerer c.judges.new.self r) its.1 given.1) in
     let new = c.go_on-heard.new.self in
-    let answerer = subst (λ (x : Answerer). IsAnswerer x r (one ∷ h)) (sym c.go_on-heard.ensures.answerer) there in
+    let answerer = subst (λ (x : JudgedResponder). IsAnswerer x r (one ∷ h)) (sym c.go_on-heard.ensures.answerer) there in
     let adds = adds_there w q older rows f route answer byte limits own turn fetched.id kept.at kept.whole kept.stands clear kept.room kept.anew sized c.args.round.now at in
     let coming = subst (λ (b : List ℕ). IsComingKey r h b None) (sym (ap body_in at)) (none_coming w q older rows f route answer byte limits own turn fetched.id kept.at kept.whole kept.stands clear kept.room kept.anew sized) in
     let values = given_values w q older rows f route answer byte limits own turn fetched.id kept.at kept.whole kept.stands clear kept.room kept.anew sized in

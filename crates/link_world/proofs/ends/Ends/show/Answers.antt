@@ -4,7 +4,7 @@ use Rattle.link_world.proofs.Writing.{both_lines, both_prefix, on_err, prefix_li
 use Rattle.link_world.specs.Showing.{asker_lines}
 use Rattle.link_world.specs.Standing.{AreAskers}
 use Rattle.link_world.specs.Written.{text_of}
-use Rattle.link_world.specs.declared.ends.Asker.{Asker}
+use Rattle.link_world.specs.declared.ends.AddressedRequester.{AddressedRequester}
 use Rattle.requester_machine.specs.Requesting.{Requesting}
 use Rattle.responder_machine.specs.Responding.{connection_of}
 use Rattle.spdm_basis.specs.Stream.{Takes}
@@ -26,7 +26,7 @@ loop-asker-preserved g c =
     record {
       taken = λ w s.
           let r = w.responder in
-          let t = is_there i c.as_slice-asker-items.result.now w.requesters x c.loop-asker-test.true c.asker-item.is (subst (λ (xs : List Asker). AreAskers xs w.requesters) (sym c.as_slice-asker-items.ensures.value) s.requesters) in
+          let t = is_there i c.as_slice-asker-items.result.now w.requesters x c.loop-asker-test.true c.asker-item.is (subst (λ (xs : List AddressedRequester). AreAskers xs w.requesters) (sym c.as_slice-asker-items.ensures.value) s.requesters) in
           let number = next_number c.loop-asker.q i (length w.requesters) (c.loop-asker.invariant.number w s) t.inside s.few in
           let before = all_end_lines r 1 (take i w.requesters) in
           let own = asker_lines q t.a in
@@ -35,7 +35,7 @@ loop-asker-preserved g c =
           (turn_lines r i q x.eid.number w.requesters t.a t.at number t.stands.eid) first (c.in_ok-show_towards.ensures.whole r s.responder);
       number = λ w s.
           let r = w.responder in
-          let t = is_there i c.as_slice-asker-items.result.now w.requesters x c.loop-asker-test.true c.asker-item.is (subst (λ (xs : List Asker). AreAskers xs w.requesters) (sym c.as_slice-asker-items.ensures.value) s.requesters) in
+          let t = is_there i c.as_slice-asker-items.result.now w.requesters x c.loop-asker-test.true c.asker-item.is (subst (λ (xs : List AddressedRequester). AreAskers xs w.requesters) (sym c.as_slice-asker-items.ensures.value) s.requesters) in
           let number = next_number c.loop-asker.q i (length w.requesters) (c.loop-asker.invariant.number w s) t.inside s.few in
           number;
       later = omega (arith, c.loop-asker.invariant.later, c.show_asker.ensures.later, c.show_towards.ensures.later);
@@ -50,7 +50,7 @@ returns-in_err-show_asker-clause-prefix g c = λ w s.
     let start = g.K.Sink.contents c.loop-asker.sink in
     let middle = g.K.Sink.contents c.show_asker.new.sink in
     let r = w.responder in
-    let t = is_there i c.as_slice-asker-items.result.now w.requesters x c.loop-asker-test.true c.asker-item.is (subst (λ (xs : List Asker). AreAskers xs w.requesters) (sym c.as_slice-asker-items.ensures.value) s.requesters) in
+    let t = is_there i c.as_slice-asker-items.result.now w.requesters x c.loop-asker-test.true c.asker-item.is (subst (λ (xs : List AddressedRequester). AreAskers xs w.requesters) (sym c.as_slice-asker-items.ensures.value) s.requesters) in
     let number = next_number c.loop-asker.q i (length w.requesters) (c.loop-asker.invariant.number w s) t.inside s.few in
     let before = all_end_lines r 1 (take i w.requesters) in
     let own = asker_lines q t.a in
@@ -68,7 +68,7 @@ returns-in_err-show_towards-clause-prefix g c = λ w s.
     let start = g.K.Sink.contents c.loop-asker.sink in
     let middle = g.K.Sink.contents c.show_asker.new.sink in
     let r = w.responder in
-    let t = is_there i c.as_slice-asker-items.result.now w.requesters x c.loop-asker-test.true c.asker-item.is (subst (λ (xs : List Asker). AreAskers xs w.requesters) (sym c.as_slice-asker-items.ensures.value) s.requesters) in
+    let t = is_there i c.as_slice-asker-items.result.now w.requesters x c.loop-asker-test.true c.asker-item.is (subst (λ (xs : List AddressedRequester). AreAskers xs w.requesters) (sym c.as_slice-asker-items.ensures.value) s.requesters) in
     let number = next_number c.loop-asker.q i (length w.requesters) (c.loop-asker.invariant.number w s) t.inside s.few in
     let before = all_end_lines r 1 (take i w.requesters) in
     let own = asker_lines q t.a in
@@ -82,6 +82,6 @@ returns-in_err-show_towards-clause-prefix g c = λ w s.
 pub returns-clause-whole : goal.returns-clause-whole
 returns-clause-whole g c = λ w s.
     let i = c.loop-asker.asker-index in
-    let are = subst (λ (xs : List Asker). AreAskers xs w.requesters) (sym c.as_slice-asker-items.ensures.value) s.requesters in
+    let are = subst (λ (xs : List AddressedRequester). AreAskers xs w.requesters) (sym c.as_slice-asker-items.ensures.value) s.requesters in
     subst (λ (l : List Requesting). Takes (g.K.Sink.contents c.args.sink.now) (text_of (all_end_lines w.responder 1 l)) (g.K.Sink.contents c.loop-asker.sink))
     (all_there i c.as_slice-asker-items.result.now w.requesters are c.loop-asker-test.false) (c.loop-asker.invariant.taken w s)

@@ -32,8 +32,8 @@ returns-in-Whole c = λ psk s epoch handle number before sealed keeps gathered m
     ∙ ap (λ (n : ℕ). whole_verdict (has_reached 65300 s) op (response_reading n false whole)) (c.size-hash_len.ensures ∙ ap (λ (x : Choice). hash_size x.hash) keeps.choice) in
     let short = c.in-Whole.ensures.fits in
     let fits = whole_fits s op handle number (hash_len (session_terms s)) before whole (omega (arith, short)) in
-    let same : verdict_with c.put_down.result c.put_down.new.out ≡ verdict =
-    c.put_down.ensures s a whole (subst (λ (v : verdicts.Verdict). Fits s a whole v) (sym is) fits) ∙ is in (
+    let same : verdict_with c.store_data.result c.store_data.new.out ≡ verdict =
+    c.store_data.ensures s a whole (subst (λ (v : verdicts.Verdict). Fits s a whole v) (sym is) fits) ∙ is in (
       whole,
       ap (λ (x : Collection). chunk_course psk s op handle number before sealed piece x) (sym came)
           ∙ ap (λ (v : verdicts.Verdict). course_of psk s a sealed whole v) (sym same),

@@ -1,7 +1,7 @@
 use Rattle.std.proofs.Common.{◌≡◌, sym}
 use Rattle.std.specs.Prelude.{None}
 use Rattle.requester_machine.specs.Session.{response_epoch}
-use Rattle.psk_session.specs.Asking.{ask_fault}
+use Rattle.psk_session.specs.SessionRequest.{ask_fault}
 use Rattle.psk_session.proofs.req_session.ReqSession.ask.Goals as goal
 
 pub returns-in-Some-clause-asked : goal.returns-in-Some-clause-asked

@@ -4,7 +4,7 @@ use Rattle.requester_machine.specs.Session.{session_terms}
 use Rattle.psk_session.specs.Course.{with_asked}
 use Rattle.psk_session.specs.ReqSession.{IsAwaiting}
 use Rattle.psk_session.specs.Waiting.{Awaits}
-use Rattle.psk_session.specs.declared.ask.Awaited.TheVariants.{Chunk}
+use Rattle.psk_session.specs.declared.session_request.Awaited.TheVariants.{Chunk}
 use Rattle.psk_session.proofs.req_session.ReqSession.fetch.Goals as goal
 
 pub returns-clause-asked : goal.returns-clause-asked

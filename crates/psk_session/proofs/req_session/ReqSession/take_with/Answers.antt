@@ -12,7 +12,7 @@ use Rattle.requester_machine.specs.Setup.{ReqSetup}
 use Rattle.requester_machine.specs.UnderWay.{AreUnderWay}
 use Rattle.spdm_grammar.specs.Message.{ChunkMessage, chunk_message}
 use Rattle.psk_session.specs.Course.{Course, TakesCourse}
-use Rattle.psk_session.specs.declared.told.Told.{Told}
+use Rattle.psk_session.specs.declared.response_outcome.ResponseOutcome.{ResponseOutcome}
 use Rattle.spdm_machine.specs.Sessions.{is_past_handshake}
 use Rattle.spdm_machine.specs.Terms.{hash_len}
 use Rattle.psk_session.specs.Held.{seen_meaning, verdict_of}
@@ -23,7 +23,7 @@ use Rattle.psk_session.specs.Stepped.{Follows, IsToldOf}
 use Rattle.psk_session.specs.Verdict.{Fits, Meaning, chunk_course, course_of, meaning_of}
 use Rattle.psk_session.specs.Verdict as verdicts
 use Rattle.psk_session.specs.Waiting.{awaited_by, awaited_epoch}
-use Rattle.psk_session.specs.declared.ask.Awaited.{Awaited}
+use Rattle.psk_session.specs.declared.session_request.Awaited.{Awaited}
 use Rattle.psk_session.specs.declared.kept.Kept.{Kept}
 use Rattle.psk_session.specs.declared.req_session.ReqSession.{ReqSession}
 use Rattle.psk_session.proofs.Chunks.{chunk_awaited}
@@ -69,7 +69,7 @@ has_meaning old opened sealed inner meaning what psk s a stands is =
     record { waits = waits; course = takes psk s a sealed inner meaning waits past is.fault is.inner m; fitting = fits s a inner meaning is.short at.few m }
 
 -- A verdict: what comes of its outcome.
-done : (old opened : ReqSession) (sealed inner pad : List ℕ) (meaning : Meaning) (verdict : verdicts.Verdict) (what : Awaited) (psk : List ℕ) (s : Steps) (a : Ask) (new : ReqSession) (t : Told) → IsAwaiting old psk s a
+done : (old opened : ReqSession) (sealed inner pad : List ℕ) (meaning : Meaning) (verdict : verdicts.Verdict) (what : Awaited) (psk : List ℕ) (s : Steps) (a : Ask) (new : ReqSession) (t : ResponseOutcome) → IsAwaiting old psk s a
     → IsOpened old opened sealed inner meaning what psk s a → meaning ≡ verdicts.Meaning.Done verdict
     → (Fits s a (drop 1 (answer_inner psk s a sealed)) verdict → waiting_ask s ≡ Some a → Keeps opened.kept psk s (awaited_epoch s a)
     → Follows psk s a sealed pad new t (course_of psk s a sealed (drop 1 (answer_inner psk s a sealed)) verdict))
@@ -93,7 +93,7 @@ record IsPiece (old opened : ReqSession) (sealed : List ℕ) (op : ℕ) (c : Chu
   keeps : Keeps opened.kept psk s (response_epoch s)
   course : TakesCourse psk s (AskChunk op handle number before) sealed (chunk_course psk s op handle number before sealed c (collected (session_terms s).common.to_requester.max before c))
 
-piece : (old opened : ReqSession) (sealed inner pad : List ℕ) (meaning : Meaning) (op : ℕ) (c : ChunkMessage) (what : Awaited) (psk : List ℕ) (s : Steps) (a : Ask) (new : ReqSession) (t : Told) → IsAwaiting old psk s a
+piece : (old opened : ReqSession) (sealed inner pad : List ℕ) (meaning : Meaning) (op : ℕ) (c : ChunkMessage) (what : Awaited) (psk : List ℕ) (s : Steps) (a : Ask) (new : ReqSession) (t : ResponseOutcome) → IsAwaiting old psk s a
     → IsOpened old opened sealed inner meaning what psk s a → meaning ≡ verdicts.Meaning.Piece op c
     → ((handle number : ℕ) (before : List ChunkMessage) → IsPiece old opened sealed op c psk s handle number before
     → Follows psk s (AskChunk op handle number before) sealed pad new t
@@ -144,7 +144,7 @@ returns-in-Done-clause-told c = λ psk s a stands.
     let answer = drop 1 (answer_inner psk s a sealed) in
     done old opened sealed inner pad (seen_meaning c.meaning.result) verdict c.awaited.result psk s a c.led.new.self c.led.result stands is (ap seen_meaning c.in-Done.is)
     (λ fit waits keeps.
-    let put = c.put_down-outcome.ensures s a answer fit in
+    let put = c.store_data-outcome.ensures s a answer fit in
     subst (λ (v : verdicts.Verdict). Follows psk s a sealed pad c.led.new.self c.led.result (course_of psk s a sealed answer v)) put
     (c.led.ensures.follows psk s a sealed answer keeps stands.1.stage waits stands.1.few (subst (λ (v : verdicts.Verdict). Fits s a answer v) (sym put) fit)))
 

@@ -6,7 +6,7 @@ use Rattle.spdm_grammar.specs.Message.RequestMessage.{KeyUpdate}
 use Rattle.psk_session.specs.Course.{with_asked}
 use Rattle.psk_session.specs.ReqSession.{IsAwaiting}
 use Rattle.psk_session.specs.Waiting.{Awaits}
-use Rattle.psk_session.specs.declared.ask.Awaited.TheVariants.{Verify}
+use Rattle.psk_session.specs.declared.session_request.Awaited.TheVariants.{Verify}
 use Rattle.psk_session.proofs.req_session.ReqSession.verify.Goals as goal
 
 pub returns-clause-asked : goal.returns-clause-asked

@@ -2,9 +2,9 @@ use Rattle.std.proofs.Common.{◌∙◌, ◌≡◌, subst, sym, Option}
 use Rattle.responder_core.proofs.Recorded.{standing_with}
 use Rattle.responder_core.specs.Coming as coming
 use Rattle.responder_core.specs.Connected.{HasSizesAt}
-use Rattle.responder_core.specs.Live.{IsSlotOf}
+use Rattle.responder_core.specs.LiveSession.{IsSlotOf}
 use Rattle.responder_core.specs.Sessions.{slot_of}
-use Rattle.responder_core.specs.declared.in_sessions.live.Live.{Live}
+use Rattle.responder_core.specs.declared.in_sessions.live_session.LiveSession.{LiveSession}
 use Rattle.responder_machine.specs.Session.{session_of}
 use Rattle.responder_core.proofs.connected.Connection.uncount_in.Goals as goal
 
@@ -18,7 +18,7 @@ returns c = λ r h k is stands.
         kept = stands.clear.kept ∙ is.kept;
       };
       sessions = standing_with now r k id (c.uncount_at.ensures.own r (session_of id h) (session_of id k) is.own (stands.sessions.slots id))
-          (λ i other. subst (IsSlotOf (slot_of now i) r) (is.others i other) (subst (λ (y : Option Live). IsSlotOf y r (session_of i h)) (sym (c.uncount_at.ensures.others i other)) (stands.sessions.slots i)))
+          (λ i other. subst (IsSlotOf (slot_of now i) r) (is.others i other) (subst (λ (y : Option LiveSession). IsSlotOf y r (session_of i h)) (sym (c.uncount_at.ensures.others i other)) (stands.sessions.slots i)))
           (c.uncount_at.ensures.ended ∙ stands.sessions.ended ∙ is.ended);
       queue = stands.queue ∙ is.queue;
       sizes = subst (HasSizesAt r) is.turns stands.sizes;

@@ -6,7 +6,7 @@ use Rattle.responder_machine.specs.Responder.{inner_reply}
 use Rattle.responder_machine.specs.Session.{session_terms, turns_of}
 use Rattle.spdm_grammar.specs.Message.RequestMessage.{GetMeasurements}
 use Rattle.spdm_grammar.specs.declared.names.TheConstants.{MIN_DATA_TRANSFER_SIZE}
-use Rattle.responder_session.specs.Deeds.{large_turn}
+use Rattle.responder_session.specs.RequestEffects.{large_turn}
 use Rattle.responder_session.specs.Turns.{KeepsKeys}
 use Rattle.responder_session.proofs.Moves.{kept_plain}
 use Rattle.responder_session.proofs.Stands.{stands_by}

@@ -1,7 +1,7 @@
 use Rattle.std.proofs.Common.{◌≡◌, ◌∙◌, sym, subst, ℕ, List}
 use Rattle.std.proofs.lemmas.Option.{same_Some}
 use Rattle.responder_machine.specs.Session.{stage_of}
-use Rattle.responder_session.specs.Deeds.{IsInnerDeed, turn_for}
+use Rattle.responder_session.specs.RequestEffects.{IsInnerDeed, turn_for}
 use Rattle.responder_session.proofs.Taken.{repeats_kept, taken}
 use Rattle.responder_session.proofs.session.RspSession.take_given.Goals as goal
 

@@ -1,6 +1,6 @@
 use Rattle.std.proofs.Common.{◌≡◌, ◌≢◌, ℕ, Some, subst, sym}
 use Rattle.requester_core.proofs.SessionsRecorded.{awaited, few_requests, few_taken, named_is, recorded}
-use Rattle.requester_core.specs.SessionLed.{IsStepped}
+use Rattle.requester_core.specs.RecordOutcome.{IsStepped}
 use Rattle.requester_core.specs.Sessions.{slot_of}
 use Rattle.requester_machine.specs.Order.{waiting_ask}
 use Rattle.requester_machine.specs.Session.{session_of}

@@ -1,7 +1,7 @@
 use Rattle.std.proofs.Common.{refl, ◌∷◌, ◌∙◌, List, ℕ, ap, subst, sym}
 use Rattle.std.specs.Prelude.{◌==◌, not}
 use Rattle.requester_core.proofs.SessionsBegun.{open_request, open_terms, opens}
-use Rattle.requester_core.specs.Talk.{Seen}
+use Rattle.requester_core.specs.ClearState.{Seen}
 use Rattle.psk_session.specs.Opening as opening
 use Rattle.requester_machine.specs.Commands.{exchange_for}
 use Rattle.requester_machine.specs.History.{History, negotiation_of}
@@ -18,7 +18,7 @@ returns c = λ q h f d sent key its adds told stands.
     let later : History = Told (Open summary) sent d ∷ h in
     let n = negotiation_of h in
     let x = canonical_request (exchange_for q f summary) in
-    let request = c.request.ensures.value ∙ ap (λ (s : Seen). s.outgoing.request) c.talk.view_is ∙ open_request c.args.talk.now q h f d sent summary adds told.shows in
+    let request = c.request.ensures.value ∙ ap (λ (s : Seen). s.outgoing.request) c.clear_state.view_is ∙ open_request c.args.clear_state.now q h f d sent summary adds told.shows in
     let terms : SessionTerms = record { choice = c.choice.result; common = c.common.result.now; summary = not (summary == 0); req_id = c.args.id } in
     let are = open_terms q h f summary c.args.id terms its c.requires.most (c.choice.ensures later told.shows) (c.common.ensures later told.shows) refl refl in
     let begins = c.start-state.ensures.stands n (c.vca.ensures later told.shows) (subst (λ (e : List ℕ). AreTermsOf terms n e) (sym request) are) in

@@ -4,14 +4,14 @@ use Rattle.responder_core.proofs.NoExchange.{begins_none, refused_begins_none, r
 use Rattle.responder_core.proofs.Whole.{refused_answered, repeated, taken_answered, turn_short}
 use Rattle.responder_core.specs.ClearPart.{Seen, StandsFor}
 use Rattle.responder_core.specs.Coming.{IsCome}
-use Rattle.responder_core.specs.Standing.{place_at}
+use Rattle.responder_core.specs.ClearState.{place_at}
 use Rattle.responder_machine.specs.History.{Kept, clear_turns, kept_of}
 use Rattle.responder_machine.specs.Place.Where.{InClear}
 use Rattle.responder_machine.specs.Responder.{is_repeat, kept_reply}
 use Rattle.spdm_grammar.specs.declared.names.TheConstants.{MAX_MESSAGE_SIZE}
 use Rattle.spdm_grammar.specs.declared.told.heard.Heard.TheVariants as hearing
 use Rattle.responder_core.specs.ClearPart.{IsAnswered}
-use Rattle.responder_core.specs.declared.clear.came.Came.TheVariants as came
+use Rattle.responder_core.specs.declared.clear.request_outcome.RequestOutcome.TheVariants as came
 use Rattle.responder_core.proofs.clear.clear_part.ClearPart.on_clear.Goals as goal
 
 pub returns-then-is_repeat-clause-told : goal.returns-then-is_repeat-clause-told

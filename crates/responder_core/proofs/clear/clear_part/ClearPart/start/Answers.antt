@@ -3,7 +3,7 @@ use Rattle.responder_core.proofs.Exchanged.{Starts, exchange_shown, started_at}
 use Rattle.responder_core.proofs.clear.clear_part.ClearPart.start.Goals as goal
 use Rattle.responder_machine.specs.History.{clear_turns}
 use Rattle.responder_machine.specs.Place.{clear_place, held_of}
-use Rattle.responder_core.specs.Standing as standing
+use Rattle.responder_core.specs.ClearState as standing
 
 pub returns : goal.returns
 returns c = λ r h tag f setup free allowed beginning.

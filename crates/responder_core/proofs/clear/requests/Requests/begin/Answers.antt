@@ -2,7 +2,7 @@ use Rattle.std.proofs.Common.{refl, ◌≡◌, ◌∙◌, ◌+◌, ◌≤◌, sy
 use Rattle.responder_core.proofs.Chunked.{chunk_known, reply_fits, turned_last_taken, turned_plain}
 use Rattle.responder_core.proofs.Passing.{settled_at}
 use Rattle.responder_core.specs.Coming.{Seen, StandsFor}
-use Rattle.responder_core.specs.Standing.{place_at}
+use Rattle.responder_core.specs.ClearState.{place_at}
 use Rattle.responder_machine.specs.Handling.{request_reply}
 use Rattle.responder_machine.specs.Place.{Place}
 use Rattle.responder_machine.specs.Place.Where.{InChunks, InClear}
@@ -12,7 +12,7 @@ use Rattle.spdm_grammar.specs.declared.names.TheConstants.{MAX_MESSAGE_SIZE}
 use Rattle.responder_core.proofs.Taken.{effect_is, message_short}
 use Rattle.responder_core.proofs.clear.requests.Requests.begin.Goals as goal
 use Rattle.responder_core.specs.Coming.{BeginsInChunks, BeginsInClear, IsBegun, exchange_bytes, exchange_place}
-use Rattle.responder_core.specs.declared.clear.came.Begun.{Begun}
+use Rattle.responder_core.specs.declared.clear.request_outcome.ExchangeOrigin.{ExchangeOrigin}
 use Rattle.responder_machine.specs.Answer.{answer_bytes}
 use Rattle.responder_machine.specs.Handling.{chunk_in, plain_turn, sent_for}
 use Rattle.spdm_grammar.specs.Message.ResponseMessage.{ChunkSendAck}
@@ -26,8 +26,8 @@ returns-in-InClear c = λ r turns held m f handle ordered most begun answered.
     let answer : List ℕ = c.args.answer.now in
     let before : Seen = record { standing = c.self.inside.standing; collector = c.self.inside.collector; whole = c.self.inside.whole } in
     let same : c.args.self.now ≡ before = sym c.self.view_is in
-    let begins : BeginsInClear r p m f c.args.self.now = subst (λ (b : Begun). IsBegun r p m f b c.args.self.now) c.in-InClear.is begun in
-    let told : answer ≡ answer_bytes r p m f = subst (λ (b : Begun). answer ≡ answer_bytes r (exchange_place b p) (exchange_bytes b m c.args.self.now) f) c.in-InClear.is answered in
+    let begins : BeginsInClear r p m f c.args.self.now = subst (λ (b : ExchangeOrigin). IsBegun r p m f b c.args.self.now) c.in-InClear.is begun in
+    let told : answer ≡ answer_bytes r p m f = subst (λ (b : ExchangeOrigin). answer ≡ answer_bytes r (exchange_place b p) (exchange_bytes b m c.args.self.now) f) c.in-InClear.is answered in
     let stood = subst (λ (s : Seen). StandsFor s r turns) same begins.stands in
     let asked = PskExchange begins.exchange in
     let now : Seen = record { standing = c.begin.new.self; collector = c.clear.new.self; whole = c.self.inside.whole } in
@@ -54,9 +54,9 @@ returns-in-InChunks c = λ r turns held m f handle ordered most begun answered.
     let h : ℕ = c.in-InChunks.of_chunk in
     let n : ℕ = c.in-InChunks.number in
     let begins : BeginsInChunks r p m f h n before =
-    subst (λ (s : Seen). BeginsInChunks r p m f h n s) same (subst (λ (b : Begun). IsBegun r p m f b c.args.self.now) c.in-InChunks.is begun) in
+    subst (λ (s : Seen). BeginsInChunks r p m f h n s) same (subst (λ (b : ExchangeOrigin). IsBegun r p m f b c.args.self.now) c.in-InChunks.is begun) in
     let told : answer ≡ answer_bytes r within before.whole f =
-    subst (λ (s : Seen). answer ≡ answer_bytes r within s.whole f) same (subst (λ (b : Begun). answer ≡ answer_bytes r (exchange_place b p) (exchange_bytes b m c.args.self.now) f) c.in-InChunks.is answered) in
+    subst (λ (s : Seen). answer ≡ answer_bytes r within s.whole f) same (subst (λ (b : ExchangeOrigin). answer ≡ answer_bytes r (exchange_place b p) (exchange_bytes b m c.args.self.now) f) c.in-InChunks.is answered) in
     let done = begins.completes in
     let chunk : ChunkMessage = begins.chunk in
     let asked = PskExchange begins.exchange in

@@ -2,7 +2,7 @@
 use Rattle.std.proofs.Common.{◌∙◌, ap, sym, subst, is_some}
 use Rattle.std.proofs.lemmas.Bool.{false≢true}
 use Rattle.responder_core.specs.Coming as coming
-use Rattle.responder_core.specs.Standing as standings
+use Rattle.responder_core.specs.ClearState as standings
 use Rattle.responder_core.proofs.clear.requests.Requests.idle_copy.Goals as goal
 
 pub returns-in_err-standing-clause-idle : goal.returns-in_err-standing-clause-idle

@@ -5,7 +5,7 @@ use Rattle.responder_core.proofs.Draws.{more_draws}
 use Rattle.responder_core.proofs.NoExchange.{more_takes_none}
 use Rattle.responder_core.specs.Coming.{Seen, StandsFor}
 use Rattle.responder_core.specs.Refused.{chunk_refusal}
-use Rattle.responder_core.specs.Standing.{place_at}
+use Rattle.responder_core.specs.ClearState.{place_at}
 use Rattle.responder_machine.specs.Place.{Place}
 use Rattle.responder_machine.specs.Place.Where.{InClear}
 use Rattle.spdm_grammar.specs.Message.{ChunkMessage, chunk_message}
@@ -50,8 +50,8 @@ returns-in-More-clause-come c = λ r turns f setup free stands form asked_is ref
     let more = rule_more rule chunk (joined_with (under_way (chunks_of turns)) chunk) (c.in-More.ensures.answer (chunks_of turns) stood.collector) in
     let collector = subst (λ (x : Option ChunkFault). keeping.StandsFor c.gather.new.collector (accepted_unless x (chunks_of turns) chunk)) more.0 (c.in-More.ensures.stands (chunks_of turns) stood.collector) in
     let taken_is = refused ∙ ap chunk_refusal (own ∙ more.0) in (
-      turned_more r InClear turns c.args.held m f chunk (record gathered { standing = c.take_nothing.new.self }) c.write_acknowledgement.new.out asked_is taken_is more.1
-          (λ t taken nothing. c.take_nothing.ensures turns t stood.standing taken nothing) collector (c.in-More.ensures.max ∙ stood.max) (c.write_acknowledgement.ensures (omega arith)),
+      turned_more r InClear turns c.args.held m f chunk (record gathered { standing = c.take_chunk.new.self }) c.write_acknowledgement.new.out asked_is taken_is more.1
+          (λ t taken nothing. c.take_chunk.ensures turns t stood.standing taken nothing) collector (c.in-More.ensures.max ∙ stood.max) (c.write_acknowledgement.ensures (omega arith)),
       more_takes_none r p m f chunk asked_is taken_is more.1,
       sym (more_draws r p m f chunk asked_is taken_is more.1),
     )

@@ -6,8 +6,8 @@ use Rattle.responder_machine.specs.Refusal.{code_of}
 use Rattle.spdm_grammar.specs.declared.names.request_code.TheConstants.{GET_MEASUREMENTS}
 use Rattle.responder_core.proofs.NoExchange.{plain_takes_none}
 use Rattle.responder_core.specs.Coming.{Seen, StandsFor}
-use Rattle.responder_core.specs.Standing as standing
-use Rattle.responder_core.specs.Standing.{place_at}
+use Rattle.responder_core.specs.ClearState as standing
+use Rattle.responder_core.specs.ClearState.{place_at}
 use Rattle.responder_machine.specs.Place.{Place}
 use Rattle.responder_machine.specs.Place.Where.{InClear}
 use Rattle.responder_core.proofs.clear.requests.Requests.on_request.Goals as goal

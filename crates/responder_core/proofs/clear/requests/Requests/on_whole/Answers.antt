@@ -5,8 +5,8 @@ use Rattle.responder_core.proofs.Draws.{draws_beside, last_refused_draws, last_t
 use Rattle.responder_core.proofs.NoExchange.{last_refused_takes_none, last_taken_takes_none}
 use Rattle.responder_core.proofs.Passing.{settled_at}
 use Rattle.responder_core.specs.Coming.{Completes, Seen}
-use Rattle.responder_core.specs.Standing as standing
-use Rattle.responder_core.specs.Standing.{place_at}
+use Rattle.responder_core.specs.ClearState as standing
+use Rattle.responder_core.specs.ClearState.{place_at}
 use Rattle.responder_machine.specs.Answer.{request_at}
 use Rattle.responder_machine.specs.Handling.{acknowledged, error_bytes, request_effect, request_reply}
 use Rattle.responder_machine.specs.Place.{Place}
@@ -38,7 +38,7 @@ returns-in-Refused-clause-come c = λ r turns m f setup free completes.
     let stood = subst (λ (s : standing.Seen). standing.StandsFor s turns) (sym handled.1) done.standing in
     let response = c.as_slice.ensures.value ∙ written in
     let fits = subst (λ (a : List ℕ). length a + 6 ≤ MAX_MESSAGE_SIZE) (sym response) (error_fits r within before.whole f code) in (
-      turned_last_refused r InClear turns c.args.held m f chunk before c.take_nothing.new.self code c.write_acknowledgement.new.out done refused (λ t taken nothing. c.take_nothing.ensures turns t stood taken nothing)
+      turned_last_refused r InClear turns c.args.held m f chunk before c.take_chunk.new.self code c.write_acknowledgement.new.out done refused (λ t taken nothing. c.take_chunk.ensures turns t stood taken nothing)
           (c.write_acknowledgement.ensures fits ∙ ap (acknowledged chunk) response),
       last_refused_takes_none r p m f chunk before code done refused,
       sym (last_refused_draws r p m f chunk before code done refused),

@@ -1,4 +1,0 @@
-use Rattle.check_responder.proofs.answerer.Answerer.judges.Goals as goal
-
-pub returns : goal.returns
-returns c = λ r d round set_up answerer few tag body typed apart. c.judges_with.ensures r d round set_up answerer few tag body typed apart (c.prepare.ensures r d.responder answerer few)

@@ -1,0 +1,2 @@
+pub mod Devised
+pub mod Outcome

@@ -1,0 +1,4 @@
+pub mod Replies
+pub mod Devised
+pub mod Streams
+pub mod Standing

@@ -1,9 +1,0 @@
-use Rattle.requester_core.proofs.joined.Asking.connect_over.Goals as goal
-
-pub returns-clause-told : goal.returns-clause-told
-returns-clause-told c = λ q h over command first begun f d none stands large is.
-    c.connect.ensures q over f d (c.pass_over.ensures.told h over command first begun none stands.talk.shows large is) stands.gathers.max
-
-pub returns-clause-owed : goal.returns-clause-owed
-returns-clause-owed c = λ q bare over sent first f d took stands large is.
-    c.connect.ensures q over f d (c.pass_over.ensures.owed bare over sent first took stands.talk.shows large is) stands.gathers.max

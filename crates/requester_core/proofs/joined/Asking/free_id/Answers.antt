@@ -1,4 +1,0 @@
-use Rattle.requester_core.proofs.joined.Asking.free_id.Goals as goal
-
-pub returns-clause-value : goal.returns-clause-value
-returns-clause-value c = λ q h stands. c.free_id.ensures.value q h stands.sessions

@@ -1,4 +1,0 @@
-use Rattle.requester_core.proofs.joined.Asking.view.Goals as goal
-
-pub returns : goal.returns
-returns c = λ q h stands short. c.view.ensures q h stands.sessions short

@@ -1,8 +1,0 @@
-use Rattle.responder_core.proofs.PutAnswers.{connection_changes, gets_bytes}
-use Rattle.responder_rules.specs.LargeAnswer.{turn_with}
-use Rattle.responder_core.proofs.connected.Connection.put_pending.Goals as goal
-
-pub returns : goal.returns
-returns c = λ r h large pending measures stands.
-    let answer = c.args.answer.now in
-    connection_changes (turn_with answer) (gets_bytes answer) r h c.args.id c.args.self.now c.put_pending.new.self stands (c.put_pending.ensures r h large pending measures stands.sessions)
