@@ -1,4 +1,4 @@
-ghost use Rattle.std.specs.Prelude.{◌≡◌, ◌≤◌, ◌+◌, ◌++◌, [], List, None, length, IfSome};
+ghost use Rattle.std.specs.Prelude.{◌≡◌, ◌≤◌, ◌+◌, ◌++◌, [], List, None, length, replicate, IfSome};
 ghost use Rattle.spdm_grammar.specs.Message.{ChunkMessage, chunk_message};
 ghost use Rattle.chunking.specs.Answers.{collection_of, step_answer, whole_of};
 ghost use Rattle.std.specs.Borrow.{sem};
@@ -118,6 +118,15 @@ impl Collector {
     {
         self.unfinished = None;
         self.bytes.clear();
+    }
+
+    /// Overwrites what it received by zeros, to the whole capacity of its buffer, and drops the unfinished message. Not
+    /// to be gone on with.
+    pub fn wipe(&mut self)
+        ensures { self.new.bytes ≡ replicate MAX_MESSAGE_SIZE 0 }
+    {
+        self.unfinished = None;
+        let _ = self.bytes.replace(&[0u8; MAX_MESSAGE_SIZE as usize]);
     }
 
     /// Returns a copy. An end keeps it, so that a large message that it ignores can be taken back.

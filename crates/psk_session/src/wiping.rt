@@ -91,5 +91,6 @@ impl ReqSession {
         wipe_key(&mut self.kept.response);
         wipe_buffer(&mut self.sent);
         wipe_buffer(&mut self.brought);
+        self.gathered.wipe();
     }
 }

@@ -16,7 +16,8 @@ pub struct RequesterCore {
 }
 
 impl RequesterCore {
-    ghost use Rattle.std.specs.Prelude.{◌≡◌, ◌≤◌, ◌<◌, ◌^◌, ◌-◌, [], length};
+    ghost use Rattle.spdm_grammar.specs.declared.names.TheConstants.{MAX_MESSAGE_SIZE};
+    ghost use Rattle.std.specs.Prelude.{replicate, ◌≡◌, ◌≤◌, ◌<◌, ◌^◌, ◌-◌, [], length};
     ghost use Rattle.requester_core.specs.Joined.{StandsFor};
     ghost use Rattle.requester_core.specs.Slot.{shown_of};
     ghost use Rattle.requester_core.specs.Wiped.{IsWiped};
@@ -39,11 +40,14 @@ impl RequesterCore {
         }
     }
 
-    /// Overwrites the keys and the plaintexts of each session in place. Not to be gone on with.
+    /// Overwrites the keys and the plaintexts of each session in place, and the data that were brought last. Not to be
+    /// gone on with.
     pub fn wipe(&mut self)
-        ensures { IsWiped self.new.sessions }
+        ensures sessions { IsWiped self.new.sessions }
+        ensures brought { self.new.clear_state.brought ≡ replicate MAX_MESSAGE_SIZE 0 }
     {
         self.sessions.wipe();
+        self.clear_state.wipe();
     }
 
     /// The phase of the negotiation.

@@ -1,4 +1,5 @@
-ghost use Rattle.std.specs.Prelude.{◌≡◌, [], ℕ};
+ghost use Rattle.spdm_grammar.specs.declared.names.TheConstants.{MAX_MESSAGE_SIZE};
+ghost use Rattle.std.specs.Prelude.{replicate, ◌≡◌, [], ℕ};
 ghost use Rattle.requester_machine.specs.History.{History, connection_terms, negotiation_of, next_handle, phase_of};
 ghost use Rattle.requester_machine.specs.Setup.{ReqSetup};
 ghost use Rattle.requester_machine.specs.Shown.{last_data};
@@ -7,6 +8,7 @@ ghost use Rattle.requester_core.specs.ClearState.{Shows, StandsFor};
 
 use crate::{Negotiating, Outgoing};
 use negotiate::Common;
+use session_keys::wipe_buffer;
 use spdm_basis::Frame;
 use spdm_grammar::{Choice, Phase};
 use std::marker::Model;
@@ -43,6 +45,13 @@ impl ClearState {
             outgoing: Outgoing::new(),
             brought: Frame::new(),
         }
+    }
+
+    /// Overwrites the data that were brought last by zeros. Not to be gone on with.
+    pub fn wipe(&mut self)
+        ensures { self.new.brought ≡ replicate MAX_MESSAGE_SIZE 0 }
+    {
+        wipe_buffer(&mut self.brought);
     }
 
     /// The phase of the negotiation.
