@@ -9,4 +9,5 @@ mod run;
 mod stream;
 
 pub use run::spdm_device;
+pub use spdm_command::Outcome;
 pub use stream::device_input;

@@ -1,6 +1,5 @@
-use device_command::spdm_device;
+use device_command::{Outcome, spdm_device};
 use spdm_basis::{MemSeeds, MemSink, MemSource};
-use spdm_command::Outcome;
 use std::process::Abort;
 use std::test::Fail;
 

@@ -9,3 +9,4 @@ mod run;
 mod words;
 
 pub use run::spdm_kept;
+pub use spdm_command::Outcome;

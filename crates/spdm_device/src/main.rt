@@ -3,9 +3,8 @@
 //! Read first: `main` in `src/main.rt`, what is reported of an outcome.
 #![tactic(auto)]
 
-use device_command::spdm_device;
+use device_command::{Outcome, spdm_device};
 use spdm_basis::{FileSeeds, StdinSource, StdoutSink};
-use spdm_command::Outcome;
 use std::process::ExitCode;
 use std::rt::Env;
 use std::{env, io};

@@ -4,9 +4,8 @@
 #![tactic(auto)]
 
 use boot_keeper::FileKeeper;
-use kept_command::spdm_kept;
+use kept_command::{Outcome, spdm_kept};
 use spdm_basis::{FileSeeds, StdinSource, StdoutSink};
-use spdm_command::Outcome;
 use std::process::ExitCode;
 use std::rt::Env;
 use std::{env, io};
