@@ -64,6 +64,7 @@ enum spdm_answer {
     SPDM_BAD_ALGORITHMS = 18, /* algorithms are none of 1, 2 and 3 */
     SPDM_BAD_BOOT = 19,       /* the boot number is above 2^24 - 2 */
     SPDM_BAD_COMMAND = 20,    /* no command has this number */
+    SPDM_BAD_POLICY = 21,     /* the text of a policy has a bad line, or more than 4 MiB */
 
     /* what is wrong with a configuration */
     SPDM_TOO_MANY_REQUESTERS = 32, /* more than eight */
@@ -467,6 +468,59 @@ void spdm_requester_close(struct spdm_requester *requester);
  * power is lost. SPDM_BOOTS_SPENT: all numbers were used, and nothing is written. Any 18 bytes may be given.
  */
 uint32_t spdm_next_boot(uint8_t device[18], uint32_t *boot);
+
+/* ---- An attestor ------------------------------------------------------------------------------------------------- */
+
+/* A requester that measures its responder in a session and tells whether the record is what a policy expects. */
+struct spdm_attestor {
+    void *held;
+    uint32_t mark;
+};
+
+enum spdm_verdict_kind {
+    SPDM_VERDICT_GOING = 0,     /* nothing was decided at this packet */
+    SPDM_VERDICT_FAILED = 1,    /* no record will come */
+    SPDM_VERDICT_TRUSTED = 2,   /* the record is what the policy expects */
+    SPDM_VERDICT_MALFORMED = 3, /* number: where it is no block, in bytes from the front */
+    SPDM_VERDICT_REPEATED = 4,  /* number: the index of a block that came twice */
+    SPDM_VERDICT_UNKNOWN = 5,   /* number: the index of a block that no rule speaks of */
+    SPDM_VERDICT_DIFFERS = 6,   /* number: the index of a block that has another type or value */
+    SPDM_VERDICT_MISSING = 7    /* number: the index of a block that is expected and did not come */
+};
+
+struct spdm_verdict {
+    uint32_t kind; /* enum spdm_verdict_kind */
+    uint64_t number;
+};
+
+/*
+ * Opens an attestor: a requester of this configuration, and the text of a policy (docs/FORMATS.md, "Policies"), its lines
+ * up to `go`. Takes memory: all that it will ever have, and for a moment that of a copy of the policy.
+ *
+ * SPDM_OPEN: it is open. Then as spdm_requester_open, SPDM_MEMORY among them; then SPDM_BAD_POLICY or SPDM_MEMORY.
+ */
+uint32_t spdm_attestor_open(struct spdm_attestor *attestor, const struct spdm_requester_config *config,
+                            const uint8_t *policy, size_t policy_len);
+
+/* Has it send its first request. Called once, before the calls below. */
+uint32_t spdm_attestor_start(struct spdm_attestor *attestor);
+
+/*
+ * Gives it a packet, as spdm_requester_on_packet. `verdict` is what is decided at this packet: one alone of all packets has
+ * another kind than SPDM_VERDICT_GOING. The packets that it sends next replace those before; the session is ended with
+ * them once the record came, and none are sent after SPDM_VERDICT_FAILED.
+ */
+uint32_t spdm_attestor_on_packet(struct spdm_attestor *attestor, const uint8_t *packet, size_t packet_len,
+                                 struct spdm_verdict *verdict);
+
+/* Tells it that no answer came in time: the outstanding request, if there is one, is sent again. */
+uint32_t spdm_attestor_on_time(struct spdm_attestor *attestor);
+
+/* Writes a packet that it sends next, as spdm_responder_packet. */
+uint32_t spdm_attestor_packet(struct spdm_attestor *attestor, size_t index, uint8_t *room, size_t room_len, size_t *len);
+
+/* Closes it, and gives its memory back. One that is not open stays so. It may be opened again. */
+void spdm_attestor_close(struct spdm_attestor *attestor);
 
 /* ---- Memory ------------------------------------------------------------------------------------------------------ */
 

@@ -1,14 +1,14 @@
 ghost use Rattle.std.specs.Prelude.{◌≡◌, ◌≤◌, [], None, true, IfErr, IfOk, OnOk};
-ghost use Rattle.c_ends.specs.Opening.{HasRequesterFault, IsRequesterConfigFault, IsRequesterFault};
+ghost use Rattle.c_ends.specs.Opening.{HasRequesterFault, IsRequesterConfigFault, IsRequesterFault, code_of_requester};
 ghost use Rattle.c_ends.specs.Setting.{is_eid, is_psk, last_boot, requester_argument, requester_in, set_up_in};
 ghost use Rattle.requester.specs.SetUp.{setup_of};
 ghost use Rattle.requester.specs.Standing.{StandsFor};
 ghost use Rattle.requester_machine.specs.Requesting.{new_requesting};
 
-use crate::RequesterConfig;
 use crate::argument::ArgumentFault;
 use crate::open_requester::OpenRequester;
 use crate::responder_set_up::{eid_of, psk_of};
+use crate::{RequesterConfig, codes};
 use requester::{ReqConfig, ReqConfigFault};
 use std::alloc::Global;
 
@@ -19,6 +19,16 @@ pub enum RequesterFault {
     Argument(ArgumentFault),
     /// The configuration has this fault.
     Config(ReqConfigFault),
+}
+
+/// What a call answers where no requester is set up.
+pub fn fault_code(fault: RequesterFault) -> u32
+    ensures { result ≡ code_of_requester fault }
+{
+    match fault {
+        RequesterFault::Argument(fault) => codes::of_argument(fault),
+        RequesterFault::Config(fault) => codes::of_requester(fault),
+    }
 }
 
 // The configuration of words that were tested.
@@ -66,7 +76,7 @@ fn configured(
 }
 
 /// The requester of a caller's words, which was told and given nothing yet.
-pub(crate) fn open_requester(
+pub fn open_requester(
     alloc: Global,
     config: &RequesterConfig<'_>,
 ) -> Result<Box<OpenRequester, Global>, RequesterFault>

@@ -4,6 +4,7 @@
 //! `c_ends` that it calls; `include/spdm.h` declares them for C.
 #![tactic(auto)]
 
+mod attestor_exports;
 mod boots;
 mod requester_exports;
 mod responder_exports;
