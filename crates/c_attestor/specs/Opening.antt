@@ -2,8 +2,8 @@
 use Rattle.std.specs.Prelude.{◌≡◌, ◌<◌, ℕ, List, Option, Some, None, Err, length}
 use Rattle.c_attestor.specs.declared.attestor_set_up.AttestorFault.{AttestorFault}
 use Rattle.c_attestor.specs.declared.attestor_set_up.AttestorFault.TheVariants as fault
-use Rattle.c_attestor.specs.declared.attestor_set_up.PolicyUnread.{PolicyUnread}
-use Rattle.c_attestor.specs.declared.attestor_set_up.PolicyUnread.TheVariants as unread
+use Rattle.c_attestor.specs.declared.policy_text.PolicyUnread.{PolicyUnread}
+use Rattle.c_attestor.specs.declared.policy_text.PolicyUnread.TheVariants as unread
 use Rattle.c_attestor.specs.declared.open_attestor.OpenAttestor.{OpenAttestor}
 use Rattle.c_ends.specs.Opening.{HasRequesterFault, IsRequesterFault, code_of_requester}
 use Rattle.c_ends.specs.Setting.{requester_argument}

@@ -8,6 +8,7 @@ ghost use Rattle.c_ends.specs.declared.codes.TheConstants.{CLOSED, OK};
 
 use crate::attestor_handle::AttestorHandle;
 use crate::attestor_set_up::{attestor_code, open_attestor};
+use crate::giving_back::end_attestor;
 use crate::verdict::{Verdict, progress_told};
 use c_ends::writing::write_packet;
 use c_ends::{RequesterConfig, codes};
@@ -113,10 +114,12 @@ impl AttestorHandle {
         code
     }
 
-    /// Closes an attestor and frees its memory. A closed one stays closed.
+    /// Closes an attestor, overwrites what is secret in it, and frees its memory. A closed one stays closed.
     pub fn close(&mut self, alloc: Global)
         ensures { self.new.kept.held ≡ None }
     {
-        drop(self.take_out(alloc));
+        if let Some(end) = self.take_out(alloc) {
+            end_attestor(end);
+        }
     }
 }

@@ -7,9 +7,13 @@
 mod attestor_calls;
 mod attestor_handle;
 mod attestor_set_up;
+mod giving_back;
 mod kept_attestor;
 mod open_attestor;
+mod policy_text;
+mod sizes;
 mod verdict;
 
 pub use attestor_handle::AttestorHandle;
+pub use sizes::attestor_size;
 pub use verdict::Verdict;

@@ -1,7 +1,7 @@
 use appraise::Policy;
 use attestor::{Attestor, Progressed};
-use c_ends::open_requester::OpenRequester;
 use mctp_framing::PacketList;
+use requester::ReqConfig;
 use spdm_basis::OutOfMemory;
 use std::alloc::Global;
 
@@ -13,29 +13,35 @@ pub struct OpenAttestor {
 }
 
 impl OpenAttestor {
-    ghost use Rattle.std.specs.Prelude.{◌≡◌, IfOk, None};
+    ghost use Rattle.std.specs.Prelude.{◌≡◌, ◌≤◌, ◌*◌, ◌-◌, ◌^◌, [], None, true, IfOk};
     ghost use Rattle.attestor.specs.Attesting.{Attesting, attesting_given, attesting_over, attesting_started, attesting_timed, has_failed};
     ghost use Rattle.attestor.specs.Standing.{IsGiven, IsSent, StandsFor};
-    ghost use Rattle.requester.specs.Standing as asking;
-    ghost use Rattle.requester_machine.specs.History.{outstanding};
-    ghost use Rattle.requester_machine.specs.Requesting.{Requesting};
-    ghost use Rattle.std.specs.Prelude.{[], true};
+    ghost use Rattle.requester.specs.Config.{config_fault};
+    ghost use Rattle.requester.specs.SetUp.{end_of};
+    ghost use Rattle.requester_machine.specs.Requesting.{new_requesting};
 
-    /// An attestor over a requester that waits for no answer. It appraises under this policy.
-    pub fn over(
+    /// An attestor over a new requester of a configuration without a fault, with nothing to send. It appraises under this
+    /// policy. `boot` as for `Attestor::resume`.
+    pub fn new(
         alloc: Global,
-        end: Box<OpenRequester, Global>,
+        config: &ReqConfig<'_>,
+        seed: [u8; 32],
+        boot: u32,
         policy: Policy,
     ) -> Result<Box<OpenAttestor, Global>, OutOfMemory>
-        ensures stands { (a : Requesting) → asking.StandsFor end.value.requester a
-            → outstanding a.history ≡ None
-            → IfOk result (λ made. StandsFor made.value.attestor (attesting_over a policy)) }
-        ensures sends { IfOk result (λ made. made.value.out ≡ end.value.out) }
+        requires sound { config_fault config.now ≡ None }
+        requires boot { boot ≤ 2 ^ 24 - 2 }
+        ensures stands { IfOk result (λ end. StandsFor end.value.attestor (attesting_over
+            (new_requesting (end_of config.now seed (boot * 2 ^ 40))) policy)) }
+        ensures sends { IfOk result (λ end. end.value.out ≡ []) }
     {
-        let OpenRequester { requester, out } = Box::into_inner(end);
-        let attestor = Attestor::over(requester, policy);
+        // Before the attestor is made, so that it is moved less often on the stack.
+        let out = PacketList::new(alloc)?;
+        let Ok(attestor) = Attestor::resume(alloc, config, seed, boot, policy) else {
+            return Err(OutOfMemory);
+        };
         match Box::new(alloc, OpenAttestor { attestor, out }) {
-            Ok(made) => Ok(made),
+            Ok(end) => Ok(end),
             Err(_) => Err(OutOfMemory),
         }
     }

@@ -100,7 +100,7 @@ pub extern "C" fn spdm_attestor_packet(
     attestor.packet(alloc, index, room, len)
 }
 
-/// Closes an attestor and frees its memory. A closed one stays closed.
+/// Closes an attestor, overwrites what is secret in it, and frees its memory. A closed one stays closed.
 #[unsafe(no_mangle)]
 pub extern "C" fn spdm_attestor_close(attestor: &mut AttestorHandle, alloc: Global)
     ensures { attestor.new.kept.held ≡ None }

@@ -1,4 +1,4 @@
-//! The static library that C links, `libmekurdai.a`: an export for each call of the two ends.
+//! The static library that C links, `libmekurdai.a`: an export for each call of the two ends and of an attestor.
 //!
 //! Read first: `spdm_responder_on_packet` in `src/responder_exports.rt`. Each export states the clauses of the method of
 //! `c_ends` that it calls; `include/spdm.h` declares them for C.
@@ -8,4 +8,5 @@ mod attestor_exports;
 mod boots;
 mod requester_exports;
 mod responder_exports;
+mod responder_looks;
 mod sizes;
