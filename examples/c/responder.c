@@ -60,7 +60,7 @@ static void answer_message(const uint8_t *packet, size_t len) {
 
 /* Tells what became of the sessions with the controller. */
 static void tell_changes(uint8_t controller) {
-    static const char *const words[] = {"", "began", "is established", "is gone", "is gone, and another is in its place"};
+    static const char *const words[] = {"", "began", "is established", "is gone", "is gone, for another"};
     static struct spdm_watch watch;
     struct spdm_change changes[4];
     size_t i;
