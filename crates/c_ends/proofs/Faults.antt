@@ -1,7 +1,6 @@
 -- The fault of a configuration that was made of a caller's words is that of the words.
-use Rattle.std.proofs.Common.{◌≡◌, ◌∙◌, ap, refl, sym}
-use Rattle.std.specs.Prelude.{◌==◌, List, [], ◌∷◌, Bool, true, false, Option, Some}
-use mathlib.Core.Bool.{true≢false}
+use Rattle.std.proofs.Common.{◌≡◌}
+use Rattle.std.specs.Prelude.{◌==◌, List, [], ◌∷◌, Bool, true, false, Some}
 use Rattle.spdm_basis.specs.Tests.{first_of_tests}
 use Rattle.c_ends.specs.Opening.{IsConfigFault, IsRequesterConfigFault, IsSetBy}
 use Rattle.c_ends.specs.Setting.{set_up_in}
@@ -28,17 +27,12 @@ responder_fault c known blocks o (rsp.Inventory of_blocks) set is = record { con
 responder_fault c known blocks o rsp.OutOfMemory set is = tt
 
 -- No configuration of a requester has the fault that memory is wanting.
-is_memory : Option ReqConfigFault → Bool
-is_memory (Some req.OutOfMemory) = true
-is_memory _ = false
-
-is_not_memory : (same range : Bool) → is_memory (first_of_tests ((same, req.SameEid) ∷ (range, req.SizeRange) ∷ [])) ≡ false
-is_not_memory true range = refl
-is_not_memory false true = refl
-is_not_memory false false = refl
+never_memory : (same range : Bool) → first_of_tests ((same, req.SameEid) ∷ (range, req.SizeRange) ∷ []) ≡ Some req.OutOfMemory → ⊥
+never_memory true range is = cc
+never_memory false true is = cc
+never_memory false false is = cc
 
 pub requester_fault : (c : RequesterConfig) (o : ReqConfig) (fault : ReqConfigFault) → setup_of o ≡ set_up_in c → requester.config_fault o ≡ Some fault → IsRequesterConfigFault c fault
 requester_fault c o req.SameEid set is = record { config = o; set = set; is = is }
 requester_fault c o req.SizeRange set is = record { config = o; set = set; is = is }
-requester_fault c o req.OutOfMemory set is =
-    absurd (true≢false (sym (ap is_memory is) ∙ is_not_memory (o.eid.number == o.responder.number) (requester.is_out_of_range o)))
+requester_fault c o req.OutOfMemory set is = absurd (never_memory (o.eid.number == o.responder.number) (requester.is_out_of_range o) is)

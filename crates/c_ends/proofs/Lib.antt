@@ -1,4 +1,5 @@
 pub mod AsRequester
 pub mod AsResponder
+pub mod Changed
 pub mod Faults
 pub mod Held

@@ -1,3 +1,4 @@
+use Rattle.std.proofs.Common.{sym}
 use Rattle.c_ends.proofs.Faults.{requester_fault}
 use Rattle.c_ends.proofs.requester_set_up.sound_config.Goals as goal
 
