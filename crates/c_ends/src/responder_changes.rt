@@ -57,9 +57,9 @@ fn write_changes(
     let Some(eid) = Eid::new(eid) else {
         return codes::BAD_EID;
     };
-    if end.responder.phase(eid).is_none() {
+    let Some(_) = end.responder.phase(eid) else {
         return codes::UNKNOWN_PEER;
-    }
+    };
     let now = Watch::of(&end.responder, eid);
     *changes = watch.changes_to(&now);
     *watch = now;
