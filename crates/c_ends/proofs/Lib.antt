@@ -1,5 +1,4 @@
 pub mod AsRequester
 pub mod AsResponder
-pub mod Changed
 pub mod Faults
 pub mod Held
