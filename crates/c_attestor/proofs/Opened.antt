@@ -1,6 +1,6 @@
 -- An attestor over a new requester of a sound configuration is the one that the words and the text set up.
 use Rattle.std.proofs.Common.{◌≡◌, subst}
-use Rattle.std.specs.Prelude.{◌*◌, ◌^◌, ℕ, List, [], None, Some, Ok}
+use Rattle.std.specs.Prelude.{ℕ, List, [], None, Some, Ok}
 use Rattle.attestor.specs.Attesting.{attesting_over}
 use Rattle.attestor.specs.Standing.{StandsFor}
 use Rattle.c_attestor.specs.Holding.{HoldsOpened}

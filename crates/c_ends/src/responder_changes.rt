@@ -42,12 +42,7 @@ impl ResponderHandle {
     }
 }
 
-fn write_changes(
-    end: &OpenResponder,
-    eid: u8,
-    watch: &mut Watch,
-    changes: &mut Changes,
-) -> u32
+fn write_changes(end: &OpenResponder, eid: u8, watch: &mut Watch, changes: &mut Changes) -> u32
     ensures changes { (r : Responding) → StandsFor end.now.responder r → is_eid eid ≡ true
         → AreChanges (connection_of eid r.connections) result watch.old watch.new changes.old
         changes.new }
