@@ -1,4 +1,4 @@
-ghost use Rattle.std.specs.Prelude.{◌≡◌, ◌<◌, ◌+◌, ◌^◌, ◌++◌, ◌∷◌, [], OnOk, true, unwrap_or};
+ghost use Rattle.std.specs.Prelude.{◌≡◌, ◌<◌, ◌+◌, ◌^◌, ◌++◌, ◌∷◌, [], ℕ, List, IfOk, OnOk, true, unwrap_or};
 ghost use Rattle.std.specs.List.{list_any};
 ghost use Rattle.script_picture.specs.Rows.{fate_of, is_sent, loses, rows_of_lines, sent_row};
 ghost use Rattle.script_text.specs.Lines.{lines_of};
@@ -76,6 +76,28 @@ fn is_sent(count: u32, sent: &SentPackets, line: &[u8]) -> bool
     begins(b"packet ", line) && count < sent.count()
 }
 
+// Adds the row of a line, where so many packets were sent before it, and returns how many were sent with it.
+fn add_line(
+    alloc: Global,
+    config: &ScriptConfig,
+    events: &[Entry],
+    count: u32,
+    sent: &SentPackets,
+    line: &[u8],
+    rows: &mut Rows,
+) -> Result<u32, OutOfMemory>
+    ensures { (others : List (List ℕ)) → IfOk result (λ after. rows.new
+        ++ rows_of_lines config.now events.now after sent.now others
+        ≡ rows.old ++ rows_of_lines config.now events.now count sent.now (line.now ∷ others)) }
+{
+    if is_sent(count, sent, line) {
+        add_sent(alloc, config, events, count + 1, sent, rows)?;
+        return Ok(count + 1);
+    }
+    add_note(alloc, config, line, rows)?;
+    Ok(count)
+}
+
 /// Adds the rows of lines of a trace, where so many packets were sent before them.
 pub(crate) fn add_lines(
     alloc: Global,
@@ -92,12 +114,7 @@ pub(crate) fn add_lines(
     let mut count = before;
     let mut rest = text;
     while let Some((line, behind)) = next_line(rest) {
-        if is_sent(count, sent, line) {
-            count += 1;
-            add_sent(alloc, config, events, count, sent, rows)?;
-        } else {
-            add_note(alloc, config, line, rows)?;
-        }
+        count = add_line(alloc, config, events, count, sent, line, rows)?;
         rest = behind;
     }
     Ok(())
