@@ -9,4 +9,5 @@ carried_packets-requires g c = (script_sound c.args.text.now c.in_ok-script.scri
 pub write_text-requires : goal.write_text-requires
 write_text-requires g c =
     let sound = (script_sound c.args.text.now c.in_ok-script.script c.in_ok-script.ensures).0 in
-    few_requesters c.in_ok-script.script.config.responder.eid.number [] c.in_ok-script.script.config.requesters (omega arith) sound.requesters
+    let few = few_requesters c.in_ok-script.script.config.responder.eid.number [] c.in_ok-script.script.config.requesters (omega arith) sound.requesters in
+    omega (arith, few)
