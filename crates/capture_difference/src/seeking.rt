@@ -15,7 +15,7 @@ use trace_check::Checker;
 const CHANGES: usize = 8 + 255;
 
 // The most packets that are judged to find a byte: some seconds.
-const MOST_JUDGED: usize = 1 << 19;
+const MOST_JUDGED: usize = 1 << 18;
 
 // A change of a byte, by its number: a bit, and then each change of any bits.
 fn change_of(number: usize) -> u8 {
