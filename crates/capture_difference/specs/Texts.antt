@@ -2,6 +2,7 @@
 -- stands behind it. This project's own.
 use Rattle.std.specs.Prelude.{ℕ, List, [], ◌∷◌, ◌++◌, codes, Option, Some, None}
 use Rattle.std.specs.Fmt.{decimal}
+use Rattle.capture_difference.specs.Spots.{spot_word}
 use Rattle.capture_difference.specs.declared.difference.Difference.{Difference}
 use Rattle.capture_difference.specs.declared.difference.WrongByte.{WrongByte}
 use Rattle.message_fields.specs.Json.{with_bytes_member, with_name, with_number_member, with_string_member}
@@ -28,7 +29,7 @@ awaited why.BadRecord = codes "a record that opens under the keys of its session
 abbrev pub with_byte_line : List ℕ → Option WrongByte → List ℕ
 with_byte_line text None = text
 with_byte_line text (Some b) =
-    with_line text (codes "  byte" ∷ decimal b.place ∷ codes "came" ∷ hex_word (b.came ∷ []) ∷ codes "conforms" ∷ hex_word (b.conforms ∷ []) ∷ [])
+    with_line text (codes "  byte" ∷ decimal b.place ∷ codes "of" ∷ spot_word b.spot ∷ codes "came" ∷ hex_word (b.came ∷ []) ∷ codes "conforms" ∷ hex_word (b.conforms ∷ []) ∷ [])
 
 abbrev pub with_difference_lines : List ℕ → Difference → List ℕ
 with_difference_lines text d =
@@ -39,7 +40,7 @@ with_difference_lines text d =
 abbrev pub with_byte_members : List ℕ → Option WrongByte → List ℕ
 with_byte_members text None = text
 with_byte_members text (Some b) =
-    with_bytes_member (with_bytes_member (with_number_member text (codes "byte") b.place) (codes "came") (b.came ∷ [])) (codes "conforms") (b.conforms ∷ [])
+    with_bytes_member (with_bytes_member (with_string_member (with_number_member text (codes "byte") b.place) (codes "of") (spot_word b.spot)) (codes "came") (b.came ∷ [])) (codes "conforms") (b.conforms ∷ [])
 
 abbrev pub with_difference_object : List ℕ → Difference → List ℕ
 with_difference_object text d =

@@ -1,3 +1,4 @@
+use crate::Spot;
 use spdm_grammar::Why;
 
 /// A byte of a packet with which it does not conform, and with another one in its place it does.
@@ -9,6 +10,8 @@ pub struct WrongByte {
     pub came: u8,
     /// One with which the packet conforms.
     pub conforms: u8,
+    /// Where it stands in the packet that conforms.
+    pub spot: Spot,
 }
 
 /// The first packet of a capture that does not conform.

@@ -8,9 +8,11 @@
 mod difference;
 mod judging;
 mod seeking;
+mod spots;
 mod texts;
 mod writing;
 
 pub use difference::{Difference, WrongByte};
 pub use judging::judge;
+pub use spots::Spot;
 pub use writing::write_judged;

@@ -6,6 +6,7 @@ ghost use Rattle.script_ends.specs.Configured.{configuration_in};
 ghost use Rattle.trace_check.specs.Limits.{AreSound};
 
 use crate::WrongByte;
+use crate::spots::spot_at;
 use script_text::ScriptConfig;
 use spdm_basis::{Bytes, OutOfMemory};
 use std::alloc::Global;
@@ -57,26 +58,44 @@ fn goes_on(
     }
 }
 
-// Whether a packet conforms with this byte at a place.
-fn goes_on_with(
+// A packet with this byte at a place.
+fn with_byte(alloc: Global, packet: &[u8], place: usize, byte: u8) -> Result<Vec<u8>, OutOfMemory>
+    requires { place < length packet.now }
+    ensures { IfOk result (λ changed. changed.items ≡ slice_set packet.now place byte) }
+{
+    let Ok(mut changed) = Vec::from_slice(alloc, packet) else {
+        return Err(OutOfMemory);
+    };
+    changed[place] = byte;
+    Ok(changed)
+}
+
+// The byte of a packet at a place, where it alone is wrong by this change.
+fn seek_at(
     alloc: Global,
     config: &ScriptConfig,
     before: &[Bytes],
     packet: &[u8],
     place: usize,
-    byte: u8,
-) -> Result<bool, OutOfMemory>
+    change: u8,
+) -> Result<Option<WrongByte>, OutOfMemory>
     requires measured { inventory_fault config.now.blocks ≡ None }
     requires inside { place < length packet.now }
     ensures { AreSound (configuration_in config.now) → length before.now < 2 ^ 32 - 1
-        → IfOk result (λ goes. goes ≡ true → Conforms (configuration_in config.now)
-        (before.now ++ slice_set packet.now place byte ∷ [])) }
+        → IfOk result (IsWrongByte (configuration_in config.now) before.now packet.now) }
 {
-    let Ok(mut copy) = Vec::from_slice(alloc, packet) else {
-        return Err(OutOfMemory);
-    };
-    copy[place] = byte;
-    goes_on(alloc, config, before, copy.as_slice())
+    let came = packet[place];
+    let conforms = came ^ change;
+    let changed = with_byte(alloc, packet, place, conforms)?;
+    if !goes_on(alloc, config, before, changed.as_slice())? {
+        return Ok(None);
+    }
+    Ok(Some(WrongByte {
+        place,
+        came,
+        conforms,
+        spot: spot_at(changed.as_slice(), place),
+    }))
 }
 
 // A byte of a packet that alone is wrong by this change, if one is.
@@ -92,14 +111,9 @@ fn seek_changed(
         → IfOk result (IsWrongByte (configuration_in config.now) before.now packet.now) }
 {
     for place in 0..packet.len() {
-        let came = packet[place];
-        let conforms = came ^ change;
-        if goes_on_with(alloc, config, before, packet, place, conforms)? {
-            return Ok(Some(WrongByte {
-                place,
-                came,
-                conforms,
-            }));
+        match seek_at(alloc, config, before, packet, place, change)? {
+            Some(byte) => return Ok(Some(byte)),
+            None => {}
         }
     }
     Ok(None)

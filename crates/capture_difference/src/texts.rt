@@ -2,6 +2,7 @@ ghost use Rattle.std.specs.Prelude.{◌≡◌, ◌++◌, [], OnOk};
 ghost use Rattle.capture_difference.specs.Texts.{awaited, difference_text, with_byte_line, with_byte_members, with_difference_lines, with_difference_object};
 ghost use Rattle.trace_text.specs.OtherLines.{why_word};
 
+use crate::spots::spot_word;
 use crate::{Difference, WrongByte};
 use message_fields::{add_bytes_member, add_name, add_number_member, add_string_member};
 use packet_text::Style;
@@ -52,6 +53,8 @@ fn add_byte_line(byte: Option<WrongByte>, text: &mut Bytes) -> Result<(), OutOfM
         Some(wrong) => {
             text.extend(b"  byte")?;
             add_number(wrong.place as u64, text)?;
+            add_word(b"of", text)?;
+            add_word(spot_word(wrong.spot), text)?;
             add_word(b"came", text)?;
             add_hex(&[wrong.came], text)?;
             add_word(b"conforms", text)?;
@@ -83,6 +86,7 @@ fn add_byte_members(byte: Option<WrongByte>, text: &mut Bytes) -> Result<(), Out
         None => Ok(()),
         Some(wrong) => {
             add_number_member(b"byte", wrong.place as u64, text)?;
+            add_string_member(b"of", spot_word(wrong.spot), text)?;
             add_bytes_member(b"came", &[wrong.came], text)?;
             add_bytes_member(b"conforms", &[wrong.conforms], text)
         }
