@@ -1,0 +1,4 @@
+pub mod Spots
+pub mod Difference
+pub mod Texts
+pub mod Written
