@@ -1,4 +1,0 @@
-pub mod Spots
-pub mod Difference
-pub mod Texts
-pub mod Written
