@@ -1,5 +1,5 @@
 -- The packets that were carried at some of the events of a script.
-use Rattle.std.proofs.Common.{◌≡◌, ◌∙◌, ◌+◌, ◌<◌, ◌≤◌, ◌++◌, ◌∷◌, [], ℕ, zero, suc, List, length, take, get_or, refl, sym, ap, subst, arith, append_assoc, length-append, true, false, Option, None, Some}
+use Rattle.std.proofs.Common.{◌≡◌, ◌∙◌, ◌+◌, ◌<◌, ◌++◌, ◌∷◌, [], ℕ, zero, suc, List, length, take, get_or, refl, sym, ap, subst, arith, append_assoc, length-append, true, false, None, Some}
 use Rattle.std.proofs.lemmas.List.{append-nil}
 use Rattle.link_world.specs.Worlds.{StandsFor}
 use Rattle.link_world.specs.Written.{has_full}

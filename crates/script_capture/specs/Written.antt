@@ -1,5 +1,5 @@
 -- The capture of a script as a text, and why there is none. This project's own.
-use Rattle.std.specs.Prelude.{◌≡◌, ◌<◌, ◌≤◌, ◌++◌, ℕ, List, [], length, Bool, true, false, Option, Some, None, Result, Ok, Err}
+use Rattle.std.specs.Prelude.{◌≡◌, ◌<◌, ◌≤◌, ◌++◌, ℕ, List, [], length, Bool, true, false, Some, None, Result, Ok, Err}
 use Rattle.capture_text.specs.Written.{packet_lines}
 use Rattle.script_capture.specs.Carried.{carried_from, carried_in}
 use Rattle.script_capture.specs.declared.fault.CaptureFault.{CaptureFault}

@@ -1,5 +1,5 @@
 -- The rows of the lines that are left, behind those of the lines before.
-use Rattle.std.proofs.Common.{◌≡◌, ◌∙◌, ◌+◌, ◌++◌, ◌∷◌, [], ℕ, List, Bool, true, false, ap, cond, sym, append_assoc}
+use Rattle.std.proofs.Common.{◌≡◌, ◌+◌, ◌++◌, ◌∷◌, ℕ, List, Bool, true, false, ap, cond}
 use Rattle.script_picture.specs.Lines.{note_rows}
 use Rattle.script_picture.specs.Rows.{is_sent, rows_of_lines, sent_row}
 use Rattle.script_text.specs.declared.configuration.config.ScriptConfig.{ScriptConfig}

@@ -3,7 +3,6 @@
 use Rattle.std.specs.Prelude.{ℕ, List, [], ◌∷◌, ◌++◌, ◌+◌, ◌==◌, ◌&&◌, nat_lt, codes, length, unwrap_or, if◌then◌else◌, Bool, false, Option, Some, None}
 use Rattle.std.specs.List.{list_any}
 use Rattle.capture_picture.specs.Arrows.{arrow_of}
-use Rattle.link_world.specs.Events.{happening_of}
 use Rattle.link_world.specs.Sent.{waits_of}
 use Rattle.link_world.specs.Written.{text_of}
 use Rattle.script_laws.specs.Scripts.{entry_in, set_up}

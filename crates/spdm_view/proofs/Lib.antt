@@ -1,1 +1,2 @@
 mod FilesTold
+mod TextsTold

@@ -1,6 +1,6 @@
 use Rattle.std.proofs.Common.{◌≡◌, ◌∙◌, ◌≤◌, ◌<◌, ◌+◌, ◌-◌, ◌++◌, ◌∷◌, [], ℕ, List, Some, ap, arith, length, subst, sym, take, append_assoc}
 use Rattle.std.specs.Option.{option_map}
-use Rattle.script_capture.proofs.Behind.{all_behind, one_behind, there}
+use Rattle.script_capture.proofs.Behind.{one_behind, there}
 use Rattle.script_capture.specs.Carried.{sent_behind}
 use Rattle.world_machine.specs.World.{packet_of}
 use Rattle.script_capture.proofs.carrying.add_sent.Goals as goal

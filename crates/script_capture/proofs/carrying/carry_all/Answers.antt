@@ -1,9 +1,7 @@
-use Rattle.std.proofs.Common.{◌≡◌, ◌≤◌, ◌<◌, ◌+◌, refl, Err, ℕ, ap, arith, length, subst, take}
+use Rattle.std.proofs.Common.{◌≡◌, ◌<◌, ◌+◌, refl, Err, ap, arith, length, take}
 use Rattle.std.proofs.lemmas.Grind.{common_steps}
-use Rattle.script_capture.proofs.Going.{Went, fills, goes, no_full, too_many}
+use Rattle.script_capture.proofs.Going.{fills, goes, no_full, too_many}
 use Rattle.script_capture.specs.Written.{most_packets}
-use Rattle.world_machine.specs.World.{World}
-use Rattle.link_world.specs.Worlds.{StandsFor}
 use Rattle.script_capture.proofs.carrying.carry_all.Goals as goal
 
 pub returns-in-Err-LinkFull-clause-cause : goal.returns-in-Err-LinkFull-clause-cause

@@ -1,4 +1,4 @@
-use Rattle.std.proofs.Common.{◌≡◌, ◌∙◌, ap, length, sym}
+use Rattle.std.proofs.Common.{◌∙◌, ap, length, sym}
 use Rattle.script_picture.proofs.Stepped.{event_is, written}
 use Rattle.script_picture.proofs.events.add_event.Goals as goal
 

@@ -1,4 +1,4 @@
-use Rattle.std.proofs.Common.{◌≡◌, ◌∙◌, ◌+◌, ◌++◌, ◌∷◌, [], List, ap, append_assoc, sym}
+use Rattle.std.proofs.Common.{◌∙◌, ◌+◌, ◌++◌, ◌∷◌, [], List, ap, append_assoc, sym}
 use Rattle.script_picture.proofs.LinesLeft.{note_first, sent_first}
 use Rattle.script_picture.specs.Lines.{note_rows}
 use Rattle.script_picture.specs.Rows.{rows_of_lines, sent_row}
