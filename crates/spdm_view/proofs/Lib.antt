@@ -1,2 +1,1 @@
 mod FilesTold
-mod TextsTold
