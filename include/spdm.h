@@ -24,8 +24,8 @@
  * OWNERSHIP AND LIFETIMES. What a caller hands in stays the caller's, and no end keeps a pointer to it: open copies
  * what it needs, keys too. An open end owns blocks of memory that it took at open; close gives them back. An end that
  * is never closed keeps them. The keys and application data of a session are overwritten where it ends, and the
- * pre-shared keys, the seed, the sessions and a responder's buffers before close gives the memory back. Not overwritten
- * are the data that a requester was brought last, chunks that it collected, and copies on the stack.
+ * pre-shared keys, the seed, the sessions and the buffers before close gives the memory back. Not overwritten are copies
+ * on the stack.
  *
  * MEMORY. Only open takes memory and only open and close give it back, by three functions that the caller links; see
  * the end of this file.

@@ -22,3 +22,11 @@ pub returns-in-Err-clause-replied : goal.returns-in-Err-clause-replied
 returns-in-Err-clause-replied g c = λ d stands.
     replied_part c.args.self.now d stands c.in-Some.from c.in-Some.is c.args.bytes.now c.queue-answer.result (c.queue-answer.ensures.fault d.responder stands.responder)
     (g.K.Sink.contents c.args.sink.now) c.args.self.now (g.K.Sink.contents c.write_reply.new.sink) c.in-Err.ensures.prefix
+
+pub settle-requires : goal.settle-requires
+settle-requires g c =
+    let d = c.requires.0 in
+    let stands = c.requires.1 in (
+      record { responder = after_reply c.in-Some.from.number c.args.bytes.now d.responder; waits = d.waits },
+      record { responder = c.queue-answer.ensures.stands d.responder stands.responder; waits = stands.waits },
+    )
