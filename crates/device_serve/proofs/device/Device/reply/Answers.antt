@@ -3,13 +3,6 @@ use Rattle.device_serve.specs.Devised as devised
 use Rattle.responder_machine.specs.Independence.{after_reply}
 use Rattle.device_serve.proofs.device.Device.reply.Goals as goal
 
--- The responder behind the data that were queued, for which the same packet waits.
-pub settle-requires : goal.settle-requires
-settle-requires g c =
-    let d : devised.Device = c.requires.0 in
-    let queued : devised.Device = record { responder = after_reply c.in-Some.from.number c.args.bytes.now d.responder; waits = d.waits } in
-    (queued, record { responder = c.queue-answer.ensures.stands d.responder c.requires.1.responder; waits = c.requires.1.waits })
-
 pub returns-in-Ok-clause-replied : goal.returns-in-Ok-clause-replied
 returns-in-Ok-clause-replied g c = λ d stands.
     let from = c.in-Some.from in
