@@ -13,3 +13,4 @@ pub mod Harmless
 pub mod Brings
 pub mod Caused
 pub mod Marked
+pub mod GivenUp

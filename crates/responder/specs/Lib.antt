@@ -9,3 +9,4 @@ pub mod SessionTimes
 pub mod Changes
 pub mod ChangeLaws
 pub mod Wiped
+pub mod Resetting
