@@ -118,14 +118,20 @@ impl Device {
 
     // A requester negotiates and opens its session.
     fn opens(&mut self, rt: &impl Abort, peer: &mut Peer) -> Result<(), Fail> {
-        assert_eq!(rt; self.serves(peer, Command::Connect)?, Event::Done(Finished::Connected));
-        assert_eq!(rt; self.serves(peer, Command::Open { summary: 0 })?, Event::Done(Finished::Opened(ID)));
+        assert_eq!(rt;
+            self.serves(peer, Command::Connect)?,
+            Event::Done(Finished::Connected)
+        );
+        assert_eq!(rt;
+            self.serves(peer, Command::Open { summary: 0 })?,
+            Event::Done(Finished::Opened(ID))
+        );
         Ok(())
     }
 
-    // The number of sessions with a requester.
-    fn held(&self, peer: &Peer) -> usize {
-        self.end.sessions(peer.eid).len()
+    // Whether the session with a requester is there.
+    fn holds(&self, peer: &Peer) -> bool {
+        self.end.session(peer.eid, ID.rsp).is_some()
     }
 }
 
@@ -141,21 +147,24 @@ fn reset_of_one_requester(rt: HostRuntime) -> Result<(), Fail> {
     let mut other = Peer::new(&rt, 10, KEYS[1])?;
     device.opens(&rt, &mut gone)?;
     device.opens(&rt, &mut other)?;
-    assert_eq!(rt; device.held(&gone), 1);
+    assert!(rt; device.holds(&gone));
 
     assert_eq!(rt; device.end.reset(gone.eid, &mut device.sent), Ok(()));
     assert!(rt; device.sent.is_empty());
-    assert_eq!(rt; device.held(&gone), 0);
+    assert!(rt; !device.holds(&gone));
     assert_eq!(rt; device.end.phase(gone.eid), Some(Phase::Versioned));
-    assert_eq!(rt; device.held(&other), 1);
-    assert_eq!(rt; device.serves(&mut other, SEND)?, Event::Done(Finished::Answered(ID)));
+    assert!(rt; device.holds(&other));
+    assert_eq!(rt;
+        device.serves(&mut other, SEND)?,
+        Event::Done(Finished::Answered(ID))
+    );
 
     // Again, which changes nothing; and the requester comes back.
     assert_eq!(rt; device.end.reset(gone.eid, &mut device.sent), Ok(()));
     assert_eq!(rt; device.end.phase(gone.eid), Some(Phase::Versioned));
     device.opens(&rt, &mut gone)?;
-    assert_eq!(rt; device.held(&gone), 1);
-    assert_eq!(rt; device.held(&other), 1);
+    assert!(rt; device.holds(&gone));
+    assert!(rt; device.holds(&other));
     Ok(())
 }
 
@@ -166,6 +175,6 @@ fn reset_of_no_requester(rt: HostRuntime) -> Result<(), Fail> {
     device.opens(&rt, &mut peer)?;
     let fault = device.end.reset(eid(11)?, &mut device.sent);
     assert_eq!(rt; fault, Err(ResetFault::UnknownPeer));
-    assert_eq!(rt; device.held(&peer), 1);
+    assert!(rt; device.holds(&peer));
     Ok(())
 }

@@ -1,8 +1,8 @@
-use Rattle.std.proofs.Common.{rules, refl, ◌≡◌, ◌≤◌, ◌<◌, ◌^◌, ℕ, List, Some, None, subst, sym}
+use Rattle.std.proofs.Common.{rules, ◌≡◌, ◌≤◌, ◌<◌, ◌^◌, ℕ, List, Some, None, subst, sym}
 use Rattle.responder.proofs.Found.{hit, none_found}
 use Rattle.responder.proofs.GivenUp.{fresh_fault, reset_goes, reset_others, reset_stays, worn_fault}
 use Rattle.responder.proofs.Steps.{fresh_is, worn_now}
-use Rattle.responder.proofs.resetting.Responder.reset.Goals as goal
+use Rattle.responder.proofs.serving.Responder.reset.Goals as goal
 use Rattle.responder.specs.Standing.{has_eid}
 use Rattle.responder.specs.declared.peer.Peer.{Peer}
 use Rattle.responder.specs.declared.resetting.ResetFault.TheVariants.{UnknownPeer, Worn}
