@@ -24,8 +24,8 @@
  * OWNERSHIP AND LIFETIMES. What a caller hands in stays the caller's, and no end keeps a pointer to it: open copies
  * what it needs, keys too. An open end owns blocks of memory that it took at open; close gives them back. An end that
  * is never closed keeps them. The keys and application data of a session are overwritten where it ends, and the
- * pre-shared keys, the seed, the sessions and the buffers before close gives the memory back. Not overwritten are copies
- * on the stack.
+ * pre-shared keys, the seed, the sessions, the data that came last and a responder's buffers before close gives the
+ * memory back. Copies on the stack are not overwritten.
  *
  * MEMORY. Only open takes memory and only open and close give it back, by three functions that the caller links; see
  * the end of this file.
@@ -64,6 +64,7 @@ enum spdm_answer {
     SPDM_BAD_ALGORITHMS = 18, /* algorithms are none of 1, 2 and 3 */
     SPDM_BAD_BOOT = 19,       /* the boot number is above 2^24 - 2 */
     SPDM_BAD_COMMAND = 20,    /* no command has this number */
+    SPDM_BAD_POLICY = 21,     /* the text of a policy has a bad line, or more than 4 MiB */
 
     /* what is wrong with a configuration */
     SPDM_TOO_MANY_REQUESTERS = 32, /* more than eight */
@@ -242,6 +243,44 @@ struct spdm_session {
     uint8_t hash[48];  /* the hash of the transcript, with zeros behind it: both ends of a session show the same */
 };
 
+/* An application message that a packet would bring. */
+struct spdm_message {
+    uint32_t eid;     /* the endpoint ID of the requester that sends it */
+    uint32_t session; /* ReqSessionID in the low half, RspSessionID in the high one */
+};
+
+/* What became of a session. */
+enum spdm_change_kind {
+    SPDM_CHANGE_NONE = 0,        /* nothing */
+    SPDM_CHANGE_BEGAN = 1,       /* session: its handshake began */
+    SPDM_CHANGE_ESTABLISHED = 2, /* session: its handshake is done */
+    SPDM_CHANGE_GONE = 3,        /* session: there is none any more */
+    SPDM_CHANGE_REPLACED = 4     /* session: it is gone, and by is in its place */
+};
+
+struct spdm_change {
+    uint32_t kind; /* enum spdm_change_kind */
+    uint32_t session;
+    uint32_t by;
+};
+
+/* What an attestor decided. */
+enum spdm_verdict_kind {
+    SPDM_VERDICT_GOING = 0,     /* nothing was decided at this packet */
+    SPDM_VERDICT_FAILED = 1,    /* no record will come */
+    SPDM_VERDICT_TRUSTED = 2,   /* the record is what the policy expects */
+    SPDM_VERDICT_MALFORMED = 3, /* number: where it is no block, in bytes from the front */
+    SPDM_VERDICT_REPEATED = 4,  /* number: the index of a block that came twice */
+    SPDM_VERDICT_UNKNOWN = 5,   /* number: the index of a block that no rule speaks of */
+    SPDM_VERDICT_DIFFERS = 6,   /* number: the index of a block that has another type or value */
+    SPDM_VERDICT_MISSING = 7    /* number: the index of a block that is expected and did not come */
+};
+
+struct spdm_verdict {
+    uint32_t kind; /* enum spdm_verdict_kind */
+    uint64_t number;
+};
+
 /* ---- How an end is set up ---------------------------------------------------------------------------------------- */
 
 /* What an end announces. Of a capability, a byte other than 0 is yes. */
@@ -318,9 +357,29 @@ struct spdm_requester {
     uint32_t mark;
 };
 
+/* A requester that measures its responder in a session, and tells whether the record is what a policy expects. */
+struct spdm_attestor {
+    void *held;
+    uint32_t mark;
+};
+
+/*
+ * The sessions with one requester as a caller last asked for them (spdm_responder_changes); zeros at first. Its fields
+ * are the library's.
+ */
+struct spdm_watched {
+    uint16_t req, rsp;
+    uint32_t standing;
+};
+
+struct spdm_watch {
+    struct spdm_watched first, second, third, fourth;
+};
+
 /* The sizes of the structs above. */
 struct spdm_sizes {
-    size_t responder, requester, responder_config, requester_config, known, block, told, session;
+    size_t responder, requester, attestor, responder_config, requester_config, known, block, told, session, message,
+        watch, change, verdict;
 };
 
 /* SPDM_OK, or SPDM_HEADER if a size is not that of the library. */
@@ -330,12 +389,17 @@ static inline uint32_t spdm_header_fits(void) {
     struct spdm_sizes sizes;
     sizes.responder = sizeof(struct spdm_responder);
     sizes.requester = sizeof(struct spdm_requester);
+    sizes.attestor = sizeof(struct spdm_attestor);
     sizes.responder_config = sizeof(struct spdm_responder_config);
     sizes.requester_config = sizeof(struct spdm_requester_config);
     sizes.known = sizeof(struct spdm_known);
     sizes.block = sizeof(struct spdm_block);
     sizes.told = sizeof(struct spdm_told);
     sizes.session = sizeof(struct spdm_session);
+    sizes.message = sizeof(struct spdm_message);
+    sizes.watch = sizeof(struct spdm_watch);
+    sizes.change = sizeof(struct spdm_change);
+    sizes.verdict = sizeof(struct spdm_verdict);
     return spdm_sizes_fit(&sizes);
 }
 
@@ -377,6 +441,16 @@ uint32_t spdm_responder_packet(struct spdm_responder *responder, size_t index, u
  */
 uint32_t spdm_responder_queue(struct spdm_responder *responder, uint8_t eid, const uint8_t *bytes, size_t bytes_len);
 
+/*
+ * Tells the application message that spdm_responder_on_packet would take from this packet (SPDM_TAKEN) if it were given
+ * it now: who sends it is written to `message`, and its data, at most 1,024 bytes, to `room`, with their length.
+ * Nothing of the responder changes, so a caller can queue the answer and then give the packet, which is answered with
+ * it where nothing else waits. SPDM_NONE: it would take none, since the packet brings no message, or one that came
+ * before. SPDM_ROOM: `len` is the length that is needed, and `room` and `message` are as they were.
+ */
+uint32_t spdm_responder_peek(struct spdm_responder *responder, const uint8_t *packet, size_t packet_len,
+                             struct spdm_message *message, uint8_t *room, size_t room_len, size_t *len);
+
 /* Tells it that seconds have passed: a session in which no new record opened for twice the HeartbeatPeriod is gone. */
 uint32_t spdm_responder_tick(struct spdm_responder *responder, uint32_t seconds);
 
@@ -395,6 +469,16 @@ uint32_t spdm_responder_session(struct spdm_responder *responder, uint8_t eid, s
  * the first came. SPDM_ROOM as for a packet.
  */
 uint32_t spdm_responder_data(struct spdm_responder *responder, uint8_t *room, size_t room_len, size_t *len);
+
+/*
+ * Writes what became of the sessions with this requester since `watch` was left by the call before, by rising
+ * RspSessionID from 1 to 4, and leaves it with the sessions as they stand now; a watch of zeros has none. Called after
+ * each packet from the requester and after each tick it misses nothing but this: a handshake in whose place another one
+ * with the same two IDs began is not told apart from it. The responder keeps nothing for it: each requester has a watch
+ * of its own, and so has each part of a program that asks. SPDM_BAD_EID, SPDM_UNKNOWN_PEER.
+ */
+uint32_t spdm_responder_changes(struct spdm_responder *responder, uint8_t eid, struct spdm_watch *watch,
+                                struct spdm_change changes[4]);
 
 /* Closes it, and gives its memory back. One that is not open stays so. It may be opened again. */
 void spdm_responder_close(struct spdm_responder *responder);
@@ -455,6 +539,39 @@ uint32_t spdm_requester_data(struct spdm_requester *requester, uint8_t *room, si
 /* Closes it, and gives its memory back. One that is not open stays so. It may be opened again. */
 void spdm_requester_close(struct spdm_requester *requester);
 
+/* ---- An attestor ------------------------------------------------------------------------------------------------- */
+
+/*
+ * Opens an attestor: a requester of this configuration, and the text of a policy (docs/FORMATS.md, "Policies"), its
+ * lines up to `go`. Takes memory: all that it will ever have, and for a moment that of a copy of the policy.
+ *
+ * SPDM_OPEN: it is open. Then as spdm_requester_open, but for memory; then SPDM_BAD_POLICY. SPDM_MEMORY may come in
+ * place of SPDM_BAD_POLICY, and never of one of those before.
+ */
+uint32_t spdm_attestor_open(struct spdm_attestor *attestor, const struct spdm_requester_config *config,
+                            const uint8_t *policy, size_t policy_len);
+
+/* Has it send its first request. Called once, before the calls below. */
+uint32_t spdm_attestor_start(struct spdm_attestor *attestor);
+
+/*
+ * Gives it a packet, as spdm_requester_on_packet. `verdict` is what is decided at this packet: one alone of all packets
+ * has another kind than SPDM_VERDICT_GOING. The packets that it sends next replace those before; the session is ended
+ * with them once the record came, and none are sent after SPDM_VERDICT_FAILED.
+ */
+uint32_t spdm_attestor_on_packet(struct spdm_attestor *attestor, const uint8_t *packet, size_t packet_len,
+                                 struct spdm_verdict *verdict);
+
+/* Tells it that no answer came in time: the outstanding request, if there is one, is sent again. */
+uint32_t spdm_attestor_on_time(struct spdm_attestor *attestor);
+
+/* Writes a packet that it sends next, as spdm_responder_packet. */
+uint32_t spdm_attestor_packet(struct spdm_attestor *attestor, size_t index, uint8_t *room, size_t room_len,
+                              size_t *len);
+
+/* Closes it, and gives its memory back. One that is not open stays so. It may be opened again. */
+void spdm_attestor_close(struct spdm_attestor *attestor);
+
 /* ---- Boot numbers ------------------------------------------------------------------------------------------------ */
 
 /*
@@ -473,11 +590,14 @@ uint32_t spdm_next_boot(uint8_t device[18], uint32_t *boot);
 /*
  * The most memory that opening an end takes at any time, in bytes: of a responder with so many requesters and blocks,
  * whose hints and values have `bytes` bytes together with the opaque data; of a requester, whose hint and opaque data
- * have `bytes` bytes together. What the three functions below add to a block themselves is not in it.
+ * have `bytes` bytes together; of an attestor over such a requester, with a policy of so many rules, whose values have
+ * `values` bytes together. What the three functions below add to a block themselves is not in it.
  */
 size_t spdm_responder_size(size_t requesters, size_t blocks, size_t bytes);
 
 size_t spdm_requester_size(size_t bytes);
+
+size_t spdm_attestor_size(size_t bytes, size_t rules, size_t values);
 
 /*
  * The caller links these three functions; examples/c/heap.c has them over malloc, and over a pool of fixed size.

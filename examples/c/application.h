@@ -2,7 +2,7 @@
 #define APPLICATION_H
 /*
  * The application of the device: a fan. `fan N` sets its speed to 0 to 100 percent; every other message only asks. The
- * answer to a message has to wait before the message comes, so it tells the fan as the messages before it left it.
+ * answer to a message tells the fan as the message left it.
  */
 #include <stddef.h>
 #include <stdint.h>
@@ -12,7 +12,7 @@ enum { APPLICATION_ANSWER = 64 };
 /* Takes a message of the controller. */
 void application_take(const uint8_t *bytes, size_t len);
 
-/* Writes the answer to the next message, and gives its length. */
+/* Writes the answer to the message that was taken last, and gives its length. */
 size_t application_answer(uint8_t answer[APPLICATION_ANSWER]);
 
 #endif

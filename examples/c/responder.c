@@ -45,21 +45,33 @@ static uint32_t open_responder(uint8_t own, uint8_t controller, const uint8_t se
     return spdm_responder_open(&responder, &config, &known, 1, &block, 1);
 }
 
-/* The answer to the next message waits before the message comes. */
-static void queue_answer(uint8_t controller) {
-    uint8_t answer[APPLICATION_ANSWER];
-    size_t len = application_answer(answer);
-    spdm_responder_queue(&responder, controller, answer, len);
+/* Has the application answer the message that a packet brings, if it brings one, before the packet is given. */
+static void answer_message(const uint8_t *packet, size_t len) {
+    struct spdm_message message;
+    uint8_t room[1024];
+    size_t room_len;
+    if (spdm_responder_peek(&responder, packet, len, &message, room, sizeof room, &room_len) == SPDM_OK) {
+        uint8_t answer[APPLICATION_ANSWER];
+        common_show(name, "", room, room_len);
+        application_take(room, room_len);
+        spdm_responder_queue(&responder, (uint8_t)message.eid, answer, application_answer(answer));
+    }
 }
 
-static void take_data(uint8_t controller) {
-    uint8_t room[1024];
-    size_t len;
-    if (spdm_responder_data(&responder, room, sizeof room, &len) == SPDM_OK) {
-        common_show(name, "", room, len);
-        application_take(room, len);
+/* Tells what became of the sessions with the controller. */
+static void tell_changes(uint8_t controller) {
+    static const char *const words[] = {"", "began", "is established", "is gone", "is gone, for another"};
+    static struct spdm_watch watch;
+    struct spdm_change changes[4];
+    size_t i;
+    if (spdm_responder_changes(&responder, controller, &watch, changes) != SPDM_OK) {
+        return;
     }
-    queue_answer(controller);
+    for (i = 0; i < 4; i++) {
+        if (changes[i].kind != SPDM_CHANGE_NONE) {
+            fprintf(stderr, "%s: session %lx %s\n", name, (unsigned long)changes[i].session, words[changes[i].kind]);
+        }
+    }
 }
 
 static int send_packets(struct link *link) {
@@ -84,16 +96,16 @@ static void serve(struct link *link) {
         /* Time first: a record that comes late must not find a session that is over. */
         spdm_responder_tick(&responder, (uint32_t)(now - last));
         last = now;
+        tell_changes(link->peer);
         if (len < 0) {
             return;
         }
         if (len > 0) {
+            answer_message(packet, (size_t)len);
             spdm_responder_on_packet(&responder, packet, (size_t)len, &told);
+            tell_changes(link->peer);
             if (!send_packets(link)) {
                 return;
-            }
-            if (told.kind == SPDM_TAKEN) {
-                take_data(link->peer);
             }
         }
     }
@@ -113,7 +125,6 @@ int main(int argc, char **argv) {
         fprintf(stderr, "%s: answer %u\n", name, (unsigned)code);
         return 1;
     }
-    queue_answer(link.peer);
     serve(&link);
     spdm_responder_close(&responder);
     return 0;

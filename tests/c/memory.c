@@ -117,8 +117,63 @@ static void requesters(void) {
     CHECK(blocks == 0 && held == 0);
 }
 
+/* A policy of so many rules, each with a value of 32 bytes. */
+static size_t policy_text(char *text, unsigned rules) {
+    size_t len = 0;
+    unsigned i;
+    unsigned j;
+    for (i = 1; i <= rules; i++) {
+        len += (size_t)sprintf(text + len, "expect %u 0 ", i);
+        for (j = 0; j < 32; j++) {
+            len += (size_t)sprintf(text + len, "%02x", j);
+        }
+        text[len++] = '\n';
+    }
+    return len + (size_t)sprintf(text + len, "go\n");
+}
+
+static void attestors(unsigned rules) {
+    static char text[32768];
+    struct spdm_requester_config config = requester_config();
+    struct spdm_attestor attestor;
+    struct spdm_verdict verdict;
+    size_t len = policy_text(text, rules);
+    size_t size = spdm_attestor_size(sizeof hint, rules, 32 * rules);
+    long refusals;
+    long before;
+    uint32_t code;
+    memset(&attestor, 0, sizeof attestor);
+    for (refusals = 0;; refusals++) {
+        most = 0;
+        left = refusals;
+        code = spdm_attestor_open(&attestor, &config, (const uint8_t *)text, len);
+        if (code == SPDM_OK) {
+            break;
+        }
+        CHECK(code == SPDM_MEMORY && blocks == 0 && held == 0);
+        CHECK(spdm_attestor_on_time(&attestor) == SPDM_CLOSED);
+        CHECK(refusals < 10000);
+    }
+    left = -1;
+    CHECK(refusals > 0);
+    CHECK(most <= size);
+    printf("attestor, rules %u: bytes %u, blocks %ld, at open %u\n", rules, (unsigned)held, blocks, (unsigned)most);
+    before = calls;
+    CHECK(spdm_attestor_start(&attestor) == SPDM_OK && spdm_attestor_on_time(&attestor) == SPDM_OK);
+    CHECK(spdm_attestor_on_packet(&attestor, digest, sizeof digest, &verdict) == SPDM_OK && calls == before);
+    spdm_attestor_close(&attestor);
+    CHECK(blocks == 0 && held == 0);
+}
+
 static void still_after_open(void) {
     struct ends ends;
+    struct spdm_watch watch;
+    struct spdm_change changes[4];
+    struct spdm_message message;
+    uint8_t packet[ROOM];
+    uint8_t room[64];
+    size_t packet_len;
+    size_t len;
     long before;
     int i;
     open_ends(&ends);
@@ -131,6 +186,13 @@ static void still_after_open(void) {
         run(&ends, SPDM_UPDATE, (uint8_t)(i + 1), 1, "", SPDM_KEYS_UPDATED);
         run(&ends, SPDM_MEASURE, (uint8_t)(i + 1), 255, "", SPDM_MEASURED);
     }
+    memset(&watch, 0, sizeof watch);
+    CHECK(spdm_responder_changes(&ends.responder, REQUESTER, &watch, changes) == SPDM_OK);
+    CHECK(changes[3].kind == SPDM_CHANGE_ESTABLISHED);
+    CHECK(spdm_requester_command(&ends.requester, SPDM_SEND, 1, 0, digest, 9) == SPDM_OK);
+    CHECK(spdm_requester_packet(&ends.requester, 0, packet, sizeof packet, &packet_len) == SPDM_OK);
+    CHECK(spdm_responder_peek(&ends.responder, packet, packet_len, &message, room, sizeof room, &len) == SPDM_OK);
+    carry(&ends);
     CHECK(spdm_responder_tick(&ends.responder, 30) == SPDM_OK);
     run(&ends, SPDM_BEAT, 1, 0, "", SPDM_ALIVE);
     run(&ends, SPDM_END, 2, 0, "", SPDM_ENDED);
@@ -146,6 +208,10 @@ int main(void) {
         responders(count);
     }
     requesters();
+    attestors(0);
+    attestors(1);
+    attestors(12);
+    attestors(254);
     still_after_open();
     return 0;
 }

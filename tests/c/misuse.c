@@ -260,12 +260,17 @@ static void other_header(void) {
     size_t i;
     sizes.responder = sizeof(struct spdm_responder);
     sizes.requester = sizeof(struct spdm_requester);
+    sizes.attestor = sizeof(struct spdm_attestor);
     sizes.responder_config = sizeof(struct spdm_responder_config);
     sizes.requester_config = sizeof(struct spdm_requester_config);
     sizes.known = sizeof(struct spdm_known);
     sizes.block = sizeof(struct spdm_block);
     sizes.told = sizeof(struct spdm_told);
     sizes.session = sizeof(struct spdm_session);
+    sizes.message = sizeof(struct spdm_message);
+    sizes.watch = sizeof(struct spdm_watch);
+    sizes.change = sizeof(struct spdm_change);
+    sizes.verdict = sizeof(struct spdm_verdict);
     CHECK(spdm_sizes_fit(&sizes) == SPDM_OK);
     for (i = 0; i < sizeof sizes / sizeof *each; i++) {
         each[i]++;

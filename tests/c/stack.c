@@ -51,6 +51,14 @@ static uint32_t noted(const char *name, uint32_t code) {
 
 #define DEEP(name, arguments) (paint(), noted(#name, name arguments))
 
+/* What a packet would bring, told before it is given. */
+static uint32_t peek(struct ends *ends, const uint8_t *packet, size_t len) {
+    struct spdm_message message;
+    uint8_t room[1024];
+    size_t room_len;
+    return DEEP(spdm_responder_peek, (&ends->responder, packet, len, &message, room, sizeof room, &room_len));
+}
+
 static void session(struct ends *ends, uint32_t command, uint8_t id, uint8_t number, const uint8_t *bytes, size_t len) {
     struct spdm_told told;
     struct spdm_session shown;
@@ -70,7 +78,9 @@ static void session(struct ends *ends, uint32_t command, uint8_t id, uint8_t num
             uint8_t answer[ROOM];
             size_t answer_len;
             size_t index;
+            uint32_t brings = peek(ends, asked[i], lens[i]);
             CHECK(DEEP(spdm_responder_on_packet, (&ends->responder, asked[i], lens[i], &told)) == SPDM_OK);
+            CHECK((brings == SPDM_OK) == (told.kind == SPDM_TAKEN));
             for (index = 0;
                  DEEP(spdm_responder_packet, (&ends->responder, index, answer, ROOM, &answer_len)) == SPDM_OK;
                  index++) {
@@ -83,8 +93,47 @@ static void session(struct ends *ends, uint32_t command, uint8_t id, uint8_t num
     DEEP(spdm_requester_session, (&ends->requester, 0, &shown));
 }
 
+static void attest(struct ends *ends, const struct spdm_requester_config *config) {
+    static const char policy[] = "skip 1\nexpect 2 0 -\ngo\n";
+    static struct spdm_attestor attestor;
+    struct spdm_verdict verdict = {SPDM_VERDICT_GOING, 0};
+    uint8_t asked[256][ROOM];
+    size_t lens[256];
+    size_t n;
+    CHECK(DEEP(spdm_attestor_open, (&attestor, config, (const uint8_t *)policy, strlen(policy))) == SPDM_OK);
+    CHECK(DEEP(spdm_attestor_start, (&attestor)) == SPDM_OK);
+    CHECK(DEEP(spdm_attestor_on_time, (&attestor)) == SPDM_OK);
+    do {
+        size_t i;
+        n = 0;
+        while (DEEP(spdm_attestor_packet, (&attestor, n, asked[n], ROOM, &lens[n])) == SPDM_OK) {
+            n++;
+        }
+        for (i = 0; i < n; i++) {
+            struct spdm_told told;
+            uint8_t answer[ROOM];
+            size_t len;
+            size_t index;
+            CHECK(spdm_responder_on_packet(&ends->responder, asked[i], lens[i], &told) == SPDM_OK);
+            for (index = 0; spdm_responder_packet(&ends->responder, index, answer, ROOM, &len) == SPDM_OK; index++) {
+                struct spdm_verdict decided;
+                CHECK(DEEP(spdm_attestor_on_packet, (&attestor, answer, len, &decided)) == SPDM_OK);
+                if (decided.kind != SPDM_VERDICT_GOING) {
+                    verdict = decided;
+                }
+            }
+        }
+    } while (n > 0);
+    CHECK(verdict.kind == SPDM_VERDICT_MISSING && verdict.number == 2);
+    paint();
+    spdm_attestor_close(&attestor);
+    note("spdm_attestor_close");
+}
+
 static void *all_calls(void *nothing) {
     static struct ends ends;
+    static struct spdm_watch watch;
+    struct spdm_change changes[4];
     static uint8_t keys[8][16];
     static uint8_t data[1024];
     static uint8_t room[4096];
@@ -121,6 +170,7 @@ static void *all_calls(void *nothing) {
         session(&ends, SPDM_UPDATE, id, 1, SPDM_NOTHING, 0);
         session(&ends, SPDM_MEASURE, id, 255, SPDM_NOTHING, 0);
         CHECK(DEEP(spdm_responder_tick, (&ends.responder, 1)) == SPDM_OK);
+        CHECK(DEEP(spdm_responder_changes, (&ends.responder, REQUESTER, &watch, changes)) == SPDM_OK);
         CHECK(DEEP(spdm_responder_data, (&ends.responder, room, sizeof room, &len)) == SPDM_OK);
         CHECK(DEEP(spdm_requester_data, (&ends.requester, room, sizeof room, &len)) == SPDM_OK);
         CHECK(DEEP(spdm_responder_phase, (&ends.responder, REQUESTER, &phase)) == SPDM_OK);
@@ -128,6 +178,7 @@ static void *all_calls(void *nothing) {
     }
     session(&ends, SPDM_END, 1, 0, SPDM_NOTHING, 0);
     session(&ends, SPDM_CONNECT, 0, 0, SPDM_NOTHING, 0);
+    attest(&ends, &own);
     paint();
     spdm_responder_close(&ends.responder);
     note("spdm_responder_close");

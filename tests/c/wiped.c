@@ -1,8 +1,8 @@
 /*
- * What both ends leave in memory: wiped FOLDER. The library gets its memory from one block here that is never used
- * again, and what stands in it is written to a file of FOLDER at each stage: while a session is open, after a key update,
- * after END_SESSION, and after both ends are closed. Each message is written to standard output. tests/wiped looks for
- * keys.
+ * What both ends and an attestor leave in memory: wiped FOLDER. The library gets its memory from one block here that is
+ * never used again, and what stands in it is written to a file of FOLDER at each stage: while a session is open, after a
+ * key update, after END_SESSION, and after both ends are closed; and then while an attestor is open, and after it is
+ * closed. Each message of the session is written to standard output. tests/wiped looks for keys.
  */
 #include "ends.h"
 
@@ -75,6 +75,21 @@ static void ask(struct ends *ends, uint32_t command, uint8_t session, uint8_t nu
     CHECK(told.cause == outcome);
 }
 
+/* An attestor that has begun, and is closed. */
+static void attest(void) {
+    static const uint8_t seed[] = "the seed of one attestor, here!!";
+    static const char policy[] = "skip 1\ngo\n";
+    static struct spdm_attestor attestor;
+    struct spdm_requester_config config = requester_config();
+    CHECK(sizeof seed == 33);
+    config.seed = seed;
+    CHECK(spdm_attestor_open(&attestor, &config, (const uint8_t *)policy, strlen(policy)) == SPDM_OK);
+    CHECK(spdm_attestor_start(&attestor) == SPDM_OK);
+    stage("attestor");
+    spdm_attestor_close(&attestor);
+    stage("attestor_closed");
+}
+
 int main(int count, char **words) {
     static struct ends ends;
     struct spdm_responder_config responder = responder_config();
@@ -105,5 +120,6 @@ int main(int count, char **words) {
     stage("ended");
     close_ends(&ends);
     stage("closed");
+    attest();
     return 0;
 }

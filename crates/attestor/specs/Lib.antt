@@ -1,2 +1,3 @@
 pub mod Attesting
 pub mod Standing
+pub mod Wiped

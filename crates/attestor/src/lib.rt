@@ -8,6 +8,7 @@ mod attestor;
 mod making;
 mod progressed;
 mod telling;
+mod wiping;
 
 pub use attestor::Attestor;
 pub use progressed::Progressed;

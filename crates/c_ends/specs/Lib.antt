@@ -1,9 +1,10 @@
 pub mod Codes
 pub mod Holding
 pub mod Keeping
-pub mod Layout
 pub mod Opening
+pub mod Peeking
 pub mod Setting
 pub mod Showing
 pub mod Telling
+pub mod Watching
 pub mod Writing

@@ -49,6 +49,9 @@ pub const BAD_BOOT: u32 = 19;
 /// No command has this number.
 pub const BAD_COMMAND: u32 = 20;
 
+/// The text of a policy has a bad line, or more than 4 MiB.
+pub const BAD_POLICY: u32 = 21;
+
 /// The code of an argument.
 pub(crate) fn of_argument(fault: ArgumentFault) -> u32
     ensures { result ≡ argument_code fault }

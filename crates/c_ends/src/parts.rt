@@ -7,8 +7,8 @@ use std::marker::Model;
 
 /// The fields of a box.
 pub struct Parts<T, A: Allocator> {
-    pub(crate) ptr: *mut T,
-    pub(crate) alloc: A,
+    pub ptr: *mut T,
+    pub alloc: A,
     pub ghost value: { T },
 }
 

@@ -1,7 +1,7 @@
 ghost use Rattle.std.specs.Prelude.{◌≡◌, ◌≢◌, ℕ, List, [], None, Some, slice_get};
 ghost use Rattle.c_ends.specs.Codes.{told_of_command};
 ghost use Rattle.c_ends.specs.Holding.{HoldsRequester};
-ghost use Rattle.c_ends.specs.Opening.{HasRequesterFault, RefusesRequester, code_of_requester};
+ghost use Rattle.c_ends.specs.Opening.{HasRequesterFault, RefusesRequester};
 ghost use Rattle.c_ends.specs.Setting.{as_told, command_in, requester_argument, requester_in};
 ghost use Rattle.c_ends.specs.Telling.{event_told};
 ghost use Rattle.c_ends.specs.Writing.{IsWritten};
@@ -15,19 +15,10 @@ use crate::giving_back::end_requester;
 use crate::open_requester::OpenRequester;
 use crate::packet_outcome::{PacketOutcome, event_told};
 use crate::requester_handle::RequesterHandle;
-use crate::requester_set_up::{RequesterFault, open_requester};
+use crate::requester_set_up::{fault_code, open_requester};
 use crate::writing::write_packet;
 use crate::{RequesterConfig, codes};
 use std::alloc::Global;
-
-fn code_of(fault: RequesterFault) -> u32
-    ensures { result ≡ code_of_requester fault }
-{
-    match fault {
-        RequesterFault::Argument(fault) => codes::of_argument(fault),
-        RequesterFault::Config(fault) => codes::of_requester(fault),
-    }
-}
 
 impl RequesterHandle {
     /// Opens a requester. Takes all the memory that it will ever have. After any answer but `OK` the handle holds what
@@ -49,7 +40,7 @@ impl RequesterHandle {
                 self.put_in(end);
                 codes::OK
             }
-            Err(fault) => code_of(fault),
+            Err(fault) => fault_code(fault),
         }
     }
 

@@ -5,7 +5,7 @@ use Rattle.std.specs.Prelude.{if◌then◌else◌, nat_lt}
 use Rattle.std.specs.Option.{MatchOption, option_map}
 use Rattle.std.proofs.lemmas.List.{length-append}
 use Rattle.std.proofs.lemmas.Bool.{ltb-false, ltb-true}
-use Rattle.link_world.specs.Sent.{AreWithin, NoneWaits, packet_in, packet_limit, sent_of}
+use Rattle.link_world.specs.Sent.{AreWithin, NoneWaits, packet_in, packet_limit, sent_of, waits_at, waits_of}
 use Rattle.link_world.specs.declared.sent.Place.{Place}
 use Rattle.world_machine.specs.World.{SentPacket, first_waiting, next_number, packet_at, packet_of, stopped_at, stopped_of, waiting}
 
@@ -166,3 +166,19 @@ pub part_there : (o : Option (Bor (List ℕ))) (start end : ℕ) (bytes : List �
 part_there None start end bytes (inl h) ordered inside = absurd (omega (arith, h, ordered))
 part_there None start end bytes (inr h) ordered inside = absurd (omega (arith, h, inside))
 part_there (Some x) start end bytes h ordered inside = ap Some h.2
+
+-- ---- Whether a packet waits.
+
+pub waits_there : (bytes : List ℕ) (i : ℕ) (places : List Place) (d : Place) → i < length places → waits_at i (sent_of bytes places) ≡ (get_or places i d).waits
+waits_there bytes i [] d few = absurd (omega (arith, few))
+waits_there bytes zero (q ∷ others) d few = refl
+waits_there bytes (suc i) (q ∷ others) d few = waits_there bytes i others d (omega (arith, few))
+
+pub waits_beyond : (i : ℕ) (sent : List SentPacket) → length sent ≤ i → waits_at i sent ≡ false
+waits_beyond i [] few = refl
+waits_beyond zero (q ∷ others) few = absurd (omega (arith, few))
+waits_beyond (suc i) (q ∷ others) few = waits_beyond i others (omega (arith, few))
+
+pub waits_number : (number index : ℕ) (sent : List SentPacket) → 1 ≤ number → index ≡ number - 1 → waits_at index sent ≡ waits_of number sent
+waits_number zero index sent some is = absurd (omega (arith, some))
+waits_number (suc n) index sent some is = (let same : index ≡ n = omega (arith, is) in ap (λ (k : ℕ). waits_at k sent) same)

@@ -1,5 +1,5 @@
 -- The packets that were sent, as the program represents them: one after the other in one memory.
-use Rattle.std.specs.Prelude.{⊤, ◌≡◌, ◌≢◌, ◌≤◌, ℕ, zero, suc, List, [], ◌∷◌, map, length, slice_range, false}
+use Rattle.std.specs.Prelude.{⊤, ◌≡◌, ◌≢◌, ◌≤◌, ℕ, zero, suc, List, [], ◌∷◌, map, length, slice_range, Bool, false}
 use Rattle.link_world.specs.declared.sent.Place.{Place}
 use Rattle.link_world.specs.declared.sent.SendFault.{SendFault}
 use Rattle.link_world.specs.declared.sent.SendFault.TheVariants.{LinkFull, OutOfMemory}
@@ -31,3 +31,16 @@ NoneWaits (suc count) (p ∷ others) = (p.waits ≡ false) × NoneWaits count ot
 abbrev pub IsCause : List SentPacket → SendFault → Type 0
 IsCause sent LinkFull = length sent ≡ packet_limit
 IsCause sent OutOfMemory = length sent ≢ packet_limit
+
+-- ---- Which packets wait.
+
+-- The packet at a place, counted from 0, waits.
+abbrev pub waits_at : (place : ℕ) → List SentPacket → Bool
+waits_at place [] = false
+waits_at zero (packet ∷ others) = packet.waits
+waits_at (suc place) (packet ∷ others) = waits_at place others
+
+-- The packet of a number, counted from 1, waits.
+abbrev pub waits_of : (number : ℕ) → List SentPacket → Bool
+waits_of zero sent = false
+waits_of (suc place) sent = waits_at place sent

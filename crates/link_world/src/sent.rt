@@ -1,7 +1,7 @@
 ghost use Rattle.std.specs.Prelude.{◌≡◌, ◌≤◌, ◌<◌, ◌++◌, ◌∷◌, [], ℕ, List, length, IfErr, OnOk, OnErr};
 ghost use Rattle.std.specs.Option.{option_map};
 ghost use Rattle.world_machine.specs.World.{SentPacket, first_waiting, packet_of, stopped_of, waiting};
-ghost use Rattle.link_world.specs.Sent.{AreWithin, IsCause, NoneWaits, packet_limit, sent_of};
+ghost use Rattle.link_world.specs.Sent.{AreWithin, IsCause, NoneWaits, packet_limit, sent_of, waits_of};
 
 use std::alloc::Global;
 use std::marker::Model;
@@ -99,6 +99,19 @@ impl SentPackets {
     {
         let place = self.places.get((number as usize).checked_sub(1)?)?;
         self.bytes.get(place.start..place.end)
+    }
+
+    /// Whether the packet with this number waits for delivery. `false` if there is none.
+    pub fn is_waiting(&self, number: u32) -> bool
+        ensures { result ≡ waits_of number self.now }
+    {
+        match (number as usize).checked_sub(1) {
+            Some(index) => match self.places.get(index) {
+                Some(place) => place.waits,
+                None => false,
+            },
+            None => false,
+        }
     }
 
     /// Marks the packet with this number, if there is one, as no longer waiting.

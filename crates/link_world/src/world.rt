@@ -5,7 +5,7 @@ use crate::event_text::EventText;
 use crate::lines::push_at;
 use crate::link::Link;
 use crate::making::link_of;
-use crate::{SendFault, StepFault, Totals, WorldFault};
+use crate::{SendFault, SentPackets, StepFault, Totals, WorldFault};
 use requester::Requester;
 use responder::Responder;
 use script_text::{LinkEvent, ScriptConfig};
@@ -174,6 +174,22 @@ impl World {
             → answering.StandsFor result.now w.responder }
     {
         &self.link.ends.responder
+    }
+
+    /// The packets that were sent, and which of them wait for delivery.
+    pub fn sent(&self) -> &SentPackets
+        ensures { (w : machine.World) → StandsFor self.now w → result.now ≡ w.sent }
+    {
+        &self.link.sent
+    }
+
+    /// The number of the packet that `pump 1` would deliver, if one waits. Nothing happens.
+    pub fn next_waiting(&mut self) -> Option<u32>
+        ensures next { (w : machine.World) → StandsFor self.old w
+            → result ≡ machine.first_waiting w.sent }
+        ensures stands { (w : machine.World) → StandsFor self.old w → StandsFor self.new w }
+    {
+        self.link.sent.first_waiting()
     }
 
     /// The counters of the world. Never allocates (read, not proved).

@@ -1,19 +1,27 @@
 -- Packets in words: a block of lines for each. A text is given, and what is written of a packet stands behind it. This
 -- project's own.
-use Rattle.std.specs.Prelude.{ℕ, List, [], ◌∷◌, ◌++◌, ◌+◌, ◌==◌, ◌&&◌, nat_lt, codes, length, take, if◌then◌else◌, Bool, true, false, Option, Some, None, Result, Ok, Err}
+use Rattle.std.specs.Prelude.{ℕ, List, [], ◌∷◌, ◌++◌, ◌+◌, ◌==◌, nat_lt, codes, length, take, if◌then◌else◌, Bool, true, false, Option, Some, None, Result, Ok, Err}
 use Rattle.std.specs.Fmt.{decimal}
 use Rattle.std.specs.List.{position_from}
 use Rattle.mctp_framing.specs.Packet.{PacketFields, bit, parsed}
 use Rattle.message_fields.specs.Tables.{record_fields, request_fields, response_fields}
 use Rattle.message_fields.specs.Texts.{fields_text}
+use Rattle.capture_bodies.specs.Collecting.{Large}
+use Rattle.capture_bodies.specs.Collecting.Large.{Awaiting, NoChunk, Refused, Whole}
+use Rattle.capture_bodies.specs.Completing.{Completed}
+use Rattle.capture_bodies.specs.Completing.Completed.{Body, Dropped, More}
 use Rattle.script_text.specs.Printing.{with_line}
 use Rattle.script_text.specs.declared.configuration.config.ReqPart.{ReqPart}
 use Rattle.script_text.specs.declared.configuration.config.ScriptConfig.{ScriptConfig}
+use Rattle.spdm_basis.specs.declared.DropCause.{DropCause}
+use Rattle.spdm_basis.specs.declared.DropCause.TheVariants.{NotOurs, NoStart, WrongSequence, WrongSize, TooLong, IntegritySet}
 use Rattle.spdm_basis.specs.declared.PacketFault.{PacketFault}
 use Rattle.spdm_basis.specs.declared.PacketFault.TheVariants.{Short, WrongVersion}
 use Rattle.spdm_grammar.specs.Message.{RequestMessage, ResponseMessage}
 use Rattle.spdm_grammar.specs.Requests.{request_reading}
 use Rattle.spdm_grammar.specs.Responses.{response_reading}
+use Rattle.spdm_grammar.specs.declared.ChunkFault.{ChunkFault}
+use Rattle.spdm_grammar.specs.declared.ChunkFault.TheVariants as fault
 use Rattle.spdm_grammar.specs.declared.messages.malformed.Malformed.{Malformed}
 use Rattle.spdm_grammar.specs.declared.names.message_type.TheConstants.{SECURED, SPDM}
 use Rattle.trace_text.specs.OtherLines.{malformed_text, message_text, request_name, response_name}
@@ -106,17 +114,54 @@ with_body text owner (type ∷ message) =
     else (if type == SECURED then with_line text (type_words type (codes "secured")) ++ fields_text (record_fields (length message)) message
     else with_line text (type_words type (codes "other")) ++ fields_text [] message)
 
--- A packet that is the first and the last of its body has all of it; else it has a part.
-abbrev pub with_payload : List ℕ → PacketFields → List ℕ
-with_payload text p =
-    if p.start && p.end then with_body text p.owner p.payload
-    else with_line text (codes "  part" ∷ hex_word p.payload ∷ [])
+-- The payload of a packet that is not alone in its body.
+abbrev pub with_part : List ℕ → PacketFields → List ℕ
+with_part text p = with_line text (codes "  part" ∷ hex_word p.payload ∷ [])
 
-abbrev pub with_inside : List ℕ → List ℕ → Result PacketFields PacketFault → List ℕ
-with_inside text packet (Err fault) = text ++ fields_text [] packet
-with_inside text packet (Ok p) = with_payload (with_line text (header_words (take 4 packet) p)) p
+-- A body that it completes, behind its own part and the length of all.
+abbrev pub with_gathered : List ℕ → PacketFields → (owner : Bool) → List ℕ → List ℕ
+with_gathered text p owner body = with_body (with_line (with_part text p) (codes "  body" ∷ decimal (length body) ∷ codes "bytes" ∷ [])) owner body
 
--- ---- A block, with an empty line behind it.
+-- Why a packet is dropped.
+abbrev pub cause_word : DropCause → List ℕ
+cause_word NotOurs = codes "not-ours"
+cause_word NoStart = codes "no-start"
+cause_word WrongSequence = codes "wrong-sequence"
+cause_word WrongSize = codes "wrong-size"
+cause_word TooLong = codes "too-long"
+cause_word IntegritySet = codes "integrity-set"
 
-unfoldable pub block_of : ScriptConfig → (number : ℕ) → List ℕ → List ℕ
-block_of config number packet = with_inside (with_head [] config number packet) packet (parsed packet) ++ 10 ∷ []
+-- What it completes: a body that it has alone, or one that is gathered; a part of one; or nothing, since it is dropped.
+abbrev pub with_completed : List ℕ → PacketFields → Completed → List ℕ
+with_completed text p (Body owner body) = if p.start then with_body text owner body else with_gathered text p owner body
+with_completed text p More = with_part text p
+with_completed text p (Dropped cause) = with_line (with_part text p) (codes "  dropped" ∷ cause_word cause ∷ [])
+
+-- Why a chunk is refused.
+abbrev pub chunk_fault_word : ChunkFault → List ℕ
+chunk_fault_word fault.WrongHandle = codes "wrong-handle"
+chunk_fault_word fault.WrongNumber = codes "wrong-number"
+chunk_fault_word fault.WrongSize = codes "wrong-size"
+chunk_fault_word fault.TooLarge = codes "too-large"
+chunk_fault_word fault.EarlyLast = codes "early-last"
+chunk_fault_word fault.MissingLast = codes "missing-last"
+
+-- What its chunk does: how many bytes of the large message are there of how many; the whole message, with its length;
+-- or why the chunk is refused.
+abbrev pub with_large : List ℕ → (owner : Bool) → Large → List ℕ
+with_large text owner NoChunk = text
+with_large text owner (Awaiting held told) = with_line text (codes "  chunks" ∷ decimal held ∷ codes "of" ∷ decimal told ∷ codes "bytes" ∷ [])
+with_large text owner (Whole message) = with_clear (with_line text (codes "  large" ∷ decimal (length message) ∷ codes "bytes" ∷ [])) owner message
+with_large text owner (Refused fault) = with_line text (codes "  refused" ∷ chunk_fault_word fault ∷ [])
+
+abbrev pub with_payload : List ℕ → PacketFields → Completed → Large → List ℕ
+with_payload text p done large = with_large (with_completed text p done) p.owner large
+
+abbrev pub with_inside : List ℕ → List ℕ → Result PacketFields PacketFault → Completed → Large → List ℕ
+with_inside text packet (Err fault) done large = text ++ fields_text [] packet
+with_inside text packet (Ok p) done large = with_payload (with_line text (header_words (take 4 packet) p)) p done large
+
+-- ---- A block, with an empty line behind it, of a packet that completes this and does this to a large message.
+
+unfoldable pub block_of : ScriptConfig → (number : ℕ) → List ℕ → Completed → Large → List ℕ
+block_of config number packet done large = with_inside (with_head [] config number packet) packet (parsed packet) done large ++ 10 ∷ []

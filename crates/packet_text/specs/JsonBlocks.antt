@@ -1,6 +1,6 @@
 -- Packets as JSON: an object on a line of its own for each, with what the block of the packet has. A text is given, and
 -- what is written of a packet stands behind it. This project's own.
-use Rattle.std.specs.Prelude.{ℕ, List, [], ◌∷◌, ◌++◌, ◌+◌, ◌==◌, ◌&&◌, nat_lt, codes, length, take, if◌then◌else◌, Bool, true, false, Option, Some, None, Result, Ok, Err}
+use Rattle.std.specs.Prelude.{ℕ, List, [], ◌∷◌, ◌++◌, ◌+◌, ◌==◌, nat_lt, codes, length, take, if◌then◌else◌, Bool, true, false, Option, Some, None, Result, Ok, Err}
 use Rattle.std.specs.Fmt.{decimal}
 use Rattle.std.specs.List.{position_from}
 use Rattle.mctp_framing.specs.Packet.{PacketFields, bit, parsed}
@@ -8,7 +8,11 @@ use Rattle.message_fields.specs.Json.{with_bytes_member, with_name, with_next_na
 use Rattle.message_fields.specs.JsonFields.{with_fields}
 use Rattle.message_fields.specs.Tables.{record_fields, request_fields, response_fields}
 use Rattle.message_fields.specs.declared.field.Field.{Field}
-use Rattle.packet_text.specs.Blocks.{fault_word, has_eid}
+use Rattle.capture_bodies.specs.Collecting.{Large}
+use Rattle.capture_bodies.specs.Collecting.Large.{Awaiting, NoChunk, Refused, Whole}
+use Rattle.capture_bodies.specs.Completing.{Completed}
+use Rattle.capture_bodies.specs.Completing.Completed.{Body, Dropped, More}
+use Rattle.packet_text.specs.Blocks.{cause_word, chunk_fault_word, fault_word, has_eid}
 use Rattle.packet_text.specs.Readings.{request_hash, response_lengths}
 use Rattle.packet_text.specs.declared.readings.Lengths.{Lengths}
 use Rattle.script_text.specs.declared.configuration.config.ScriptConfig.{ScriptConfig}
@@ -105,17 +109,37 @@ abbrev pub with_json_body : List ℕ → (owner : Bool) → List ℕ → List �
 with_json_body text owner [] = text
 with_json_body text owner (type ∷ message) = with_json_typed text owner type message ++ 125 ∷ []
 
--- A packet that is the first and the last of its body has all of it; else it has a part.
-abbrev pub with_json_payload : List ℕ → PacketFields → List ℕ
-with_json_payload text p =
-    if p.start && p.end then with_json_body text p.owner p.payload
-    else with_bytes_member text (codes "part") p.payload
+-- The payload of a packet that is not alone in its body.
+abbrev pub with_json_part : List ℕ → PacketFields → List ℕ
+with_json_part text p = with_bytes_member text (codes "part") p.payload
 
-abbrev pub with_json_inside : List ℕ → List ℕ → Result PacketFields PacketFault → List ℕ
-with_json_inside text packet (Err fault) = with_fields_member text [] packet
-with_json_inside text packet (Ok p) = with_json_payload (with_json_header text (take 4 packet) p) p
+-- What it completes: a body that it has alone, or one that is gathered; a part of one; or nothing, since it is dropped.
+abbrev pub with_json_completed : List ℕ → PacketFields → Completed → List ℕ
+with_json_completed text p (Body owner body) = if p.start then with_json_body text owner body else with_json_body (with_json_part text p) owner body
+with_json_completed text p More = with_json_part text p
+with_json_completed text p (Dropped cause) = with_string_member (with_json_part text p) (codes "dropped") (cause_word cause)
 
--- ---- The object, with a line feed behind it.
+-- The begin of an object with a number as its first member.
+abbrev pub with_counted : List ℕ → (name first : List ℕ) → ℕ → List ℕ
+with_counted text name first number = with_word (with_name (with_next_name text name ++ 32 ∷ 123 ∷ []) first) (decimal number)
 
-unfoldable pub object_of : ScriptConfig → (number : ℕ) → List ℕ → List ℕ
-object_of config number packet = (with_json_inside (with_json_head [] config number packet) packet (parsed packet) ++ 125 ∷ []) ++ 10 ∷ []
+-- What its chunk does: how many bytes of the large message are there of how many; the whole message, with its length;
+-- or why the chunk is refused.
+abbrev pub with_json_large : List ℕ → (owner : Bool) → Large → List ℕ
+with_json_large text owner NoChunk = text
+with_json_large text owner (Awaiting held told) = with_number_member (with_counted text (codes "chunks") (codes "held") held) (codes "of") told ++ 125 ∷ []
+with_json_large text owner (Whole message) = with_json_clear (with_counted text (codes "large") (codes "size") (length message)) owner message ++ 125 ∷ []
+with_json_large text owner (Refused fault) = with_string_member text (codes "refused") (chunk_fault_word fault)
+
+abbrev pub with_json_payload : List ℕ → PacketFields → Completed → Large → List ℕ
+with_json_payload text p done large = with_json_large (with_json_completed text p done) p.owner large
+
+abbrev pub with_json_inside : List ℕ → List ℕ → Result PacketFields PacketFault → Completed → Large → List ℕ
+with_json_inside text packet (Err fault) done large = with_fields_member text [] packet
+with_json_inside text packet (Ok p) done large = with_json_payload (with_json_header text (take 4 packet) p) p done large
+
+-- ---- The object, with a line feed behind it, of a packet that completes this and does this to a large message.
+
+unfoldable pub object_of : ScriptConfig → (number : ℕ) → List ℕ → Completed → Large → List ℕ
+object_of config number packet done large =
+    (with_json_inside (with_json_head [] config number packet) packet (parsed packet) done large ++ 125 ∷ []) ++ 10 ∷ []

@@ -2,4 +2,5 @@ pub mod Readings
 pub mod Blocks
 pub mod JsonBlocks
 pub mod Styles
+pub mod Shown
 pub mod Told

@@ -11,12 +11,12 @@ use Rattle.packet_text.specs.declared.writing.PacketsFault.{PacketsFault}
 use Rattle.packet_text.specs.declared.writing.PacketsFault.TheVariants as told
 
 -- What is written of the packets of a capture, and nothing where a line of the text is bad.
-abbrev pub written_by : Style → Result Capture ScriptFault → List ℕ
-written_by style (Ok capture) = written_from style capture.config 1 capture.packets
-written_by style (Err fault) = []
+abbrev pub written_in : Style → Result Capture ScriptFault → List ℕ
+written_in style (Ok capture) = written_from style capture.config [] capture.packets
+written_in style (Err fault) = []
 
 unfoldable pub packets_text : Style → List ℕ → List ℕ
-packets_text style text = written_by style (capture_in text)
+packets_text style text = written_in style (capture_in text)
 
 -- The fault of a text, as it is reported.
 abbrev pub told_of : ScriptFault → PacketsFault

@@ -82,8 +82,8 @@ fn add_response(lengths: Lengths, message: &[u8], text: &mut Bytes) -> Result<()
     }
 }
 
-// Appends a message in the clear.
-fn add_clear(owner: bool, message: &[u8], text: &mut Bytes) -> Result<(), OutOfMemory>
+/// Appends a message in the clear.
+pub(crate) fn add_clear(owner: bool, message: &[u8], text: &mut Bytes) -> Result<(), OutOfMemory>
     ensures { OnOk result (text.new ≡ with_clear text.old owner message.now) }
 {
     if owner {

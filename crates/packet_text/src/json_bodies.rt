@@ -100,8 +100,12 @@ fn add_response(lengths: Lengths, message: &[u8], text: &mut Bytes) -> Result<()
     }
 }
 
-// Appends a message in the clear.
-fn add_clear(owner: bool, message: &[u8], text: &mut Bytes) -> Result<(), OutOfMemory>
+/// Appends a message in the clear.
+pub(crate) fn add_json_clear(
+    owner: bool,
+    message: &[u8],
+    text: &mut Bytes,
+) -> Result<(), OutOfMemory>
     ensures { OnOk result (text.new ≡ with_json_clear text.old owner message.now) }
 {
     if owner {
@@ -144,7 +148,7 @@ fn add_typed(
     match body_type {
         SPDM => {
             add_type(body_type, b"SPDM", text)?;
-            add_clear(owner, message, text)
+            add_json_clear(owner, message, text)
         }
         SECURED => {
             add_type(body_type, b"secured", text)?;

@@ -1,8 +1,10 @@
 ghost use Rattle.std.specs.Prelude.{◌≡◌};
 ghost use Rattle.spdm_grammar.specs.Message.{request_message, response_message};
+ghost use Rattle.packet_text.specs.Blocks.{cause_word, chunk_fault_word};
 ghost use Rattle.trace_text.specs.OtherLines.{part_word, request_name, response_name};
 
-use spdm_grammar::{Part, Request, Response};
+use spdm_basis::DropCause;
+use spdm_grammar::{ChunkFault, Part, Request, Response};
 
 /// The name of a request (DSP0274, "SPDM request codes").
 pub(crate) fn request_name(request: &Request<'_>) -> &'static [u8]
@@ -52,5 +54,33 @@ pub(crate) fn part_word(part: Part) -> &'static [u8]
         Part::Field => b"field",
         Part::Length => b"length",
         Part::Rest => b"rest",
+    }
+}
+
+/// The word for why a packet is dropped.
+pub(crate) fn cause_word(cause: DropCause) -> &'static [u8]
+    ensures { result.now ≡ cause_word cause }
+{
+    match cause {
+        DropCause::NotOurs => b"not-ours",
+        DropCause::NoStart => b"no-start",
+        DropCause::WrongSequence => b"wrong-sequence",
+        DropCause::WrongSize => b"wrong-size",
+        DropCause::TooLong => b"too-long",
+        DropCause::IntegritySet => b"integrity-set",
+    }
+}
+
+/// The word for why a chunk is refused.
+pub(crate) fn chunk_fault_word(fault: ChunkFault) -> &'static [u8]
+    ensures { result.now ≡ chunk_fault_word fault }
+{
+    match fault {
+        ChunkFault::WrongHandle => b"wrong-handle",
+        ChunkFault::WrongNumber => b"wrong-number",
+        ChunkFault::WrongSize => b"wrong-size",
+        ChunkFault::TooLarge => b"too-large",
+        ChunkFault::EarlyLast => b"early-last",
+        ChunkFault::MissingLast => b"missing-last",
     }
 }

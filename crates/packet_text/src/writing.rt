@@ -1,15 +1,15 @@
-ghost use Rattle.std.specs.Prelude.{◌≡◌, ◌≤◌, ℕ, Err, length, is_ok, true, IsErrOf, OnErr, OnOk};
-ghost use Rattle.packet_text.specs.Styles.{written_from, written_of};
+ghost use Rattle.std.specs.Prelude.{◌≡◌, ◌≤◌, ◌+◌, ◌∷◌, [], ℕ, List, Err, length, is_ok, true, IsErrOf, OnErr, OnOk};
+ghost use Rattle.capture_bodies.specs.Keeping.{Keeps};
+ghost use Rattle.packet_text.specs.Styles.{eids_of, own_of, written_from, written_of};
 ghost use Rattle.packet_text.specs.Told.{IsBad, packets_text, told_of};
 ghost use Rattle.script_text.specs.ScriptText.{capture_in};
 ghost use Rattle.script_text.specs.declared.texts.faults.LineFault.{LineFault};
 ghost use Rattle.spdm_basis.specs.Stream.{HasFault, Takes, TakesPrefix};
 
 use crate::Style;
-use crate::blocks::set_block;
-use crate::json_blocks::set_object;
+use crate::following::Following;
 use script_text::{LineFault, ScriptConfig, ScriptFault, TEXT_LIMIT, parse_capture};
-use spdm_basis::{Bytes, OutOfMemory, Sink, write_all};
+use spdm_basis::{Bytes, Sink, write_all};
 use std::alloc::Global;
 use thiserror::Error;
 
@@ -39,50 +39,42 @@ impl From<ScriptFault> for PacketsFault {
     }
 }
 
-// Overwrites a text with what is written of a packet.
-fn set_written(
-    style: Style,
-    config: &ScriptConfig,
-    number: usize,
-    packet: &[u8],
-    text: &mut Bytes,
-) -> Result<(), OutOfMemory>
-    ensures { OnOk result (text.new ≡ written_of style config.now number packet.now) }
-{
-    match style {
-        Style::Words => set_block(config, number, packet, text),
-        Style::Json => set_object(config, number, packet, text),
-    }
-}
-
-// Writes a packet.
+// Writes the next packet.
 fn write_packet<K: Sink>(
     style: Style,
     config: &ScriptConfig,
     number: usize,
     packet: &[u8],
-    text: &mut Bytes,
+    following: &mut Following,
     sink: &mut K,
 ) -> Result<(), PacketsFault>
-    ensures whole { OnOk result (Takes (K.contents sink.old)
-        (written_of style config.now number packet.now) (K.contents sink.new)) }
-    ensures prefix { OnErr result (TakesPrefix (K.contents sink.old)
-        (written_of style config.now number packet.now) (K.contents sink.new)) }
+    ensures whole { (older : List (List ℕ)) → number ≡ length older + 1
+        → Keeps following.old.gathering (own_of config.now) (eids_of config.now) older
+        → OnOk result (Takes (K.contents sink.old)
+        (written_of style config.now older packet.now) (K.contents sink.new)) }
+    ensures prefix { (older : List (List ℕ)) → number ≡ length older + 1
+        → Keeps following.old.gathering (own_of config.now) (eids_of config.now) older
+        → OnErr result (TakesPrefix (K.contents sink.old)
+        (written_of style config.now older packet.now) (K.contents sink.new)) }
+    ensures keeps { (older : List (List ℕ))
+        → Keeps following.old.gathering (own_of config.now) (eids_of config.now) older
+        → Keeps following.new.gathering (own_of config.now) (eids_of config.now)
+        (packet.now ∷ older) }
     ensures fault { IsErrOf result PacketsFault.WriteFault
         → HasFault (K.faults sink.old) (K.faults sink.new) }
     ensures no_line { (line : ℕ) (f : LineFault) → result ≡ Err (PacketsFault.Line line f) → ⊥ }
     ensures later { K.faults sink.old ≤ K.faults sink.new }
 {
-    let Ok(()) = set_written(style, config, number, packet, text) else {
+    let Ok(()) = following.follow(style, config, number, packet) else {
         return Err(PacketsFault::OutOfMemory);
     };
-    match write_all(sink, text.as_slice()) {
+    match write_all(sink, following.text.as_slice()) {
         Ok(()) => Ok(()),
         Err(_) => Err(PacketsFault::WriteFault),
     }
 }
 
-// Writes each packet, counted from 1.
+// Writes each packet.
 fn write_each<K: Sink>(
     alloc: Global,
     style: Style,
@@ -91,17 +83,26 @@ fn write_each<K: Sink>(
     sink: &mut K,
 ) -> Result<(), PacketsFault>
     ensures whole { OnOk result (Takes (K.contents sink.old)
-        (written_from style config.now 1 packets.now) (K.contents sink.new)) }
+        (written_from style config.now [] packets.now) (K.contents sink.new)) }
     ensures prefix { OnErr result (TakesPrefix (K.contents sink.old)
-        (written_from style config.now 1 packets.now) (K.contents sink.new)) }
+        (written_from style config.now [] packets.now) (K.contents sink.new)) }
     ensures fault { IsErrOf result PacketsFault.WriteFault
         → HasFault (K.faults sink.old) (K.faults sink.new) }
     ensures no_line { (line : ℕ) (f : LineFault) → result ≡ Err (PacketsFault.Line line f) → ⊥ }
     ensures later { K.faults sink.old ≤ K.faults sink.new }
 {
-    let mut text = Bytes::new(alloc);
+    let Ok(mut following) = Following::new(alloc, config) else {
+        return Err(PacketsFault::OutOfMemory);
+    };
     for (index, packet) in packets.iter().enumerate() {
-        match write_packet(style, config, index + 1, packet.as_slice(), &mut text, sink) {
+        match write_packet(
+            style,
+            config,
+            index + 1,
+            packet.as_slice(),
+            &mut following,
+            sink,
+        ) {
             Ok(()) => {}
             Err(fault) => return Err(fault),
         }

@@ -1,7 +1,9 @@
-use Rattle.std.proofs.Common.{◌≡◌, ◌∙◌, ◌++◌, ◌+◌, arith, ℕ, List, ap, sym, subst, take, drop, get_or}
-use Rattle.packet_text.proofs.Numbered.{more_written, written_through}
+use Rattle.std.proofs.Common.{◌≡◌, ◌∙◌, ◌++◌, ◌+◌, ◌∷◌, [], arith, ℕ, List, length, ap, sym, subst, take, drop, get_or}
+use Rattle.std.proofs.lemmas.List.{length-take-le}
+use Rattle.capture_bodies.specs.Keeping.{Keeps}
+use Rattle.packet_text.proofs.Numbered.{behind, behind_more, length_behind, more_written, written_through}
 use Rattle.packet_text.proofs.Taken.{prefix_of_first, takes_both, takes_then_prefix}
-use Rattle.packet_text.specs.Styles.{written_from, written_of}
+use Rattle.packet_text.specs.Styles.{eids_of, own_of, written_from, written_of}
 use Rattle.spdm_basis.specs.Stream.{Takes, TakesPrefix}
 use Rattle.packet_text.proofs.writing.write_each.Goals as goal
 
@@ -15,13 +17,16 @@ returns-in-Err-clause-prefix g c =
     let old = g.K.Sink.contents c.args.sink.now in
     let mid = g.K.Sink.contents c.loop-index.sink in
     let new = g.K.Sink.contents c.write_packet.new.sink in
-    let front = written_from style w 1 (take i packets) in
-    let own = written_of style w (1 + i) (get_or packets i packet) in
-    let back = written_from style w (1 + (i + 1)) (drop (i + 1) packets) in
-    let next : i + 1 ≡ 1 + i = omega arith in
-    let bytes_are : written_of style w (i + 1) c.as_slice.result.now ≡ own = ap (λ (n : ℕ). written_of style w n c.as_slice.result.now) next ∙ ap (written_of style w (1 + i)) (c.as_slice.ensures ∙ c.index-packets-index.is) in
-    let part = subst (λ (t : List ℕ). TakesPrefix mid t new) bytes_are c.in-Err.ensures.prefix in
-    subst (λ (t : List ℕ). TakesPrefix old t new) (sym (written_through style w 1 packets i packet c.loop-index-test.true))
+    let older = behind [] (take i packets) in
+    let front = written_from style w [] (take i packets) in
+    let own = written_of style w older (get_or packets i packet) in
+    let back = written_from style w (behind [] (take (i + 1) packets)) (drop (i + 1) packets) in
+    let counted = length_behind [] (take i packets) in
+    let taken = length-take-le i packets (omega (arith, c.loop-index-test.true)) in
+    let number : i + 1 ≡ length older + 1 = omega (arith, counted, taken) in
+    let bytes_are : written_of style w older c.as_slice.result.now ≡ own = ap (written_of style w older) (c.as_slice.ensures ∙ c.index-packets-index.is) in
+    let part = subst (λ (t : List ℕ). TakesPrefix mid t new) bytes_are (c.in-Err.ensures.prefix older number c.loop-index.invariant.keeps) in
+    subst (λ (t : List ℕ). TakesPrefix old t new) (sym (written_through style w [] packets i packet c.loop-index-test.true))
     (takes_then_prefix old mid new front (own ++ back) c.loop-index.invariant.written (prefix_of_first mid new own back part))
 
 pub loop-index-preserved : goal.loop-index-preserved
@@ -34,12 +39,18 @@ loop-index-preserved g c =
     let old = g.K.Sink.contents c.args.sink.now in
     let mid = g.K.Sink.contents c.loop-index.sink in
     let new = g.K.Sink.contents c.write_packet.new.sink in
-    let front = written_from style w 1 (take i packets) in
-    let own = written_of style w (1 + i) (get_or packets i packet) in
-    let next : i + 1 ≡ 1 + i = omega arith in
-    let bytes_are : written_of style w (i + 1) c.as_slice.result.now ≡ own = ap (λ (n : ℕ). written_of style w n c.as_slice.result.now) next ∙ ap (written_of style w (1 + i)) (c.as_slice.ensures ∙ c.index-packets-index.is) in
+    let older = behind [] (take i packets) in
+    let front = written_from style w [] (take i packets) in
+    let own = written_of style w older (get_or packets i packet) in
+    let counted = length_behind [] (take i packets) in
+    let taken = length-take-le i packets (omega (arith, c.loop-index-test.true)) in
+    let number : i + 1 ≡ length older + 1 = omega (arith, counted, taken) in
+    let same : c.as_slice.result.now ≡ get_or packets i packet = c.as_slice.ensures ∙ c.index-packets-index.is in
+    let bytes_are : written_of style w older c.as_slice.result.now ≡ own = ap (written_of style w older) same in
+    let kept = c.write_packet.ensures.keeps older c.loop-index.invariant.keeps in
     record {
-      written = subst (λ (l : List ℕ). Takes old l new) (sym (more_written style w 1 packets i packet c.loop-index-test.true))
-          (takes_both old mid new front own c.loop-index.invariant.written (subst (λ (t : List ℕ). Takes mid t new) bytes_are c.in-Ok.ensures.whole));
+      written = subst (λ (l : List ℕ). Takes old l new) (sym (more_written style w [] packets i packet c.loop-index-test.true))
+          (takes_both old mid new front own c.loop-index.invariant.written (subst (λ (t : List ℕ). Takes mid t new) bytes_are (c.in-Ok-write_packet.ensures.whole older number c.loop-index.invariant.keeps)));
+      keeps = subst (λ (l : List (List ℕ)). Keeps c.write_packet.new.following.gathering (own_of w) (eids_of w) l) (ap (λ (p : List ℕ). p ∷ older) same ∙ sym (behind_more [] packets i packet c.loop-index-test.true)) kept;
       later = omega (arith, c.loop-index.invariant.later, c.write_packet.ensures.later);
     }

@@ -1,0 +1,21 @@
+-- What is kept and its parts own what a box at the same types owns.
+use mir.Syntax.{impl, tnil, dnil}
+use mathlib.Core.List.{[]}
+use denote.Signature.{Slot, plain}
+use Rattle.std_alloc.proofs.BoxSteps.Form.{Bx}
+use Rattle.std_heap.specs.contracts.Global as Heap
+use Rattle.std_heap.specs.contracts.GlobalAllocator.TheImpl.{ghosts, dict}
+use Rattle.std_heap.proofs.Global.TheLaws as heap
+use Rattle.c_attestor.specs.contracts.open_attestor.OpenAttestor as Kind
+use Rattle.c_attestor.proofs.open_attestor.OpenAttestor.TheLaws as kind
+use Rattle.c_ends.specs.contracts.parts.Parts as Parts
+use Rattle.c_attestor.specs.contracts.kept_attestor.KeptAttestor as Kept
+
+abbrev pub E : Bx
+E = record { row = Kind.the_row; laws = kind.the_row_laws; al = record { row = Heap.the_row; laws = heap.the_row_laws; g = ghosts; d = dict; drops = impl [] tnil dnil } }
+
+abbrev pub FromParts : Slot 0
+FromParts = plain (λ _. Parts.the_row Kind.the_row Heap.the_row ghosts)
+
+abbrev pub FromKept : Slot 0
+FromKept = plain (λ _. Kept.the_row)

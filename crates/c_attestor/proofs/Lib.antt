@@ -1,0 +1,2 @@
+pub mod AsAttestor
+pub mod Opened

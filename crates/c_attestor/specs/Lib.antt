@@ -1,0 +1,4 @@
+pub mod Holding
+pub mod Keeping
+pub mod Opening
+pub mod Telling

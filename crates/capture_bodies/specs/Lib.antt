@@ -1,0 +1,4 @@
+pub mod Completing
+pub mod Collecting
+pub mod Answers
+pub mod Keeping

@@ -1,0 +1,115 @@
+ghost use Rattle.std.specs.Prelude.{◌≡◌, [], map, IfOk, OnOk};
+ghost use Rattle.capture_bodies.specs.Keeping.{Keeps, number_of};
+ghost use Rattle.packet_text.specs.Shown.{done_in, large_shown};
+ghost use Rattle.packet_text.specs.Styles.{eids_of, own_of, written_by};
+
+use crate::blocks::set_block;
+use crate::json_blocks::set_object;
+use crate::{Shown, Style};
+use capture_bodies::{BodyBuffer, Gathering};
+use script_text::ScriptConfig;
+use spdm_basis::{Bytes, Eid, Frame, OutOfMemory};
+use std::alloc::Global;
+
+/// What goes between the ends of a capture, and the last packet as it is written.
+#[derive(Drop)]
+pub(crate) struct Following {
+    pub(crate) gathering: Gathering,
+    // The last body that was whole, and the last large message.
+    body: BodyBuffer,
+    whole: Frame,
+    pub(crate) text: Bytes,
+}
+
+// The endpoints of the requesters.
+fn eids_of(alloc: Global, config: &ScriptConfig) -> Result<Vec<Eid>, OutOfMemory>
+    ensures { IfOk result (λ eids. map number_of eids.items ≡ eids_of config.now) }
+{
+    let requesters = config.requesters.as_slice();
+    let Ok(mut eids) = Vec::with_capacity(alloc, requesters.len()) else {
+        return Err(OutOfMemory);
+    };
+    for q in requesters {
+        let Ok(()) = eids.push(q.eid) else {
+            return Err(OutOfMemory);
+        };
+    }
+    Ok(eids)
+}
+
+// The ends of a configuration, between which no packet came yet.
+fn gathering_of(alloc: Global, config: &ScriptConfig) -> Result<Gathering, OutOfMemory>
+    ensures { IfOk result (λ seen. Keeps seen (own_of config.now) (eids_of config.now) []) }
+{
+    let eids = eids_of(alloc, config)?;
+    Gathering::new(alloc, config.responder.eid, eids.as_slice())
+}
+
+// Overwrites a text with what is written of a packet.
+fn set_written(
+    style: Style,
+    config: &ScriptConfig,
+    number: usize,
+    packet: &[u8],
+    shown: &Shown<'_>,
+    text: &mut Bytes,
+) -> Result<(), OutOfMemory>
+    ensures { OnOk result (text.new ≡ written_by style config.now number packet.now
+        (done_in shown.now) (large_shown shown.now)) }
+{
+    match style {
+        Style::Words => set_block(config, number, packet, shown, text),
+        Style::Json => set_object(config, number, packet, shown, text),
+    }
+}
+
+impl Following {
+    ghost use Rattle.std.specs.Prelude.{◌≡◌, ◌∷◌, [], ℕ, List, IfOk, OnOk};
+    ghost use Rattle.capture_bodies.specs.Collecting.{large_in};
+    ghost use Rattle.capture_bodies.specs.Completing.{completed_in};
+    ghost use Rattle.capture_bodies.specs.Keeping.{Keeps};
+    ghost use Rattle.mctp_framing.specs.Packet.{parsed};
+    ghost use Rattle.packet_text.specs.Styles.{eids_of, own_of, written_by};
+
+    /// Where no packet came yet.
+    pub(crate) fn new(alloc: Global, config: &ScriptConfig) -> Result<Following, OutOfMemory>
+        ensures { IfOk result
+            (λ seen. Keeps seen.gathering (own_of config.now) (eids_of config.now) []) }
+    {
+        Ok(Following {
+            gathering: gathering_of(alloc, config)?,
+            body: BodyBuffer::new(),
+            whole: Frame::new(),
+            text: Bytes::new(alloc),
+        })
+    }
+
+    /// Overwrites the text with what is written of the next packet.
+    pub(crate) fn follow(
+        &mut self,
+        style: Style,
+        config: &ScriptConfig,
+        number: usize,
+        packet: &[u8],
+    ) -> Result<(), OutOfMemory>
+        ensures text { (own : ℕ) (eids : List ℕ) (older : List (List ℕ))
+            → Keeps self.old.gathering own eids older
+            → OnOk result (self.new.text ≡ written_by style config.now number packet.now
+            (completed_in own eids older (parsed packet.now))
+            (large_in own eids older (parsed packet.now))) }
+        ensures keeps { (own : ℕ) (eids : List ℕ) (older : List (List ℕ))
+            → Keeps self.old.gathering own eids older
+            → Keeps self.new.gathering own eids (packet.now ∷ older) }
+    {
+        let (came, part) = self
+            .gathering
+            .follow(packet, &mut self.body, &mut self.whole);
+        let shown = Shown {
+            came,
+            body: self.body.as_slice(),
+            part,
+            whole: self.whole.as_slice(),
+        };
+        set_written(style, config, number, packet, &shown, &mut self.text)
+    }
+}
