@@ -38,7 +38,9 @@ changes_are changes was now eid before after is first then =
 -- ---- One requester behind others.
 
 one_more_from : (n : ℕ) (qs : List ReqPart) (q : ReqPart) (r s : Responding) → changes_from n (qs ++ q ∷ []) r s ≡ changes_from n qs r s ++ told_changes (n + length qs) (changes_at q.eid.number r s)
-one_more_from n [] q r s = append-nil (told_changes n (changes_at q.eid.number r s))
+one_more_from n [] q r s =
+    let m : n ≡ n + 0 = omega arith in
+    append-nil (told_changes n (changes_at q.eid.number r s)) ∙ ap (λ (k : ℕ). told_changes k (changes_at q.eid.number r s)) m
 one_more_from n (p ∷ qs) q r s =
     let own = told_changes n (changes_at p.eid.number r s) in
     let m : (n + 1) + length qs ≡ n + (length qs + 1) = omega arith in
