@@ -1,6 +1,6 @@
 -- The lines of what became of sessions, behind what a frame led to.
-use Rattle.std.proofs.Common.{◌≡◌, ◌∙◌, ◌++◌, ◌+◌, ◌≤◌, ℕ, List, [], ◌∷◌, Option, Some, None, Result, Ok, Err, arith, length, refl, ap, sym, subst, append_assoc, append-nil}
-use Rattle.std.proofs.lemmas.Grind.{flat_map-append}
+use Rattle.std.proofs.Common.{◌≡◌, ◌∙◌, ◌++◌, ◌+◌, ◌-◌, ◌≤◌, ℕ, get_or, take, drop, List, [], ◌∷◌, Option, Some, None, Result, Ok, Err, arith, length, refl, ap, sym, subst, append_assoc, append-nil}
+use Rattle.std.proofs.lemmas.Grind.{common_steps, flat_map-append}
 use Rattle.device_serve.specs.Devised as devised
 use Rattle.device_serve.specs.Devised.{Writing, changes_at, changes_from, devised_by, frame_of, frames_of, shown_with, told_changes}
 use Rattle.device_serve.specs.Devised.Writing.{Changes}
@@ -26,6 +26,20 @@ pub first_told : (n : ℕ) (first : Option SessionChange) (others : List (Option
 first_told n None others = refl
 first_told n (Some change) others = sym (append_assoc (frame_of (Changes n change)) [] (frames_of (told_changes n others)))
 
+-- A list is its first and its others.
+abbrev pub first_changes : List (Option SessionChange) → List (Option SessionChange)
+first_changes l = get_or l 0 None ∷ []
+
+abbrev pub other_changes : List (Option SessionChange) → List (Option SessionChange)
+other_changes l = take (length l - 1) (drop 1 l)
+
+parts_of : (l : List (Option SessionChange)) → 1 ≤ length l → l ≡ get_or l 0 None ∷ other_changes l
+parts_of [] some = absurd (omega (arith, some))
+parts_of (first ∷ others) some = grind (arith, common_steps)
+
+pub front_told : (n : ℕ) (l : List (Option SessionChange)) → 1 ≤ length l → frames_of (told_changes n l) ≡ frames_of (told_changes n (first_changes l)) ++ frames_of (told_changes n (other_changes l))
+front_told n l some = ap (λ (m : List (Option SessionChange)). frames_of (told_changes n m)) (parts_of l some) ∙ first_told n (get_or l 0 None) (other_changes l)
+
 -- ---- What was watched.
 
 pub changes_are : (changes : List (Option SessionChange)) (was now : List (Option SessionMark)) (eid : ℕ) (before after : Responding) → changes ≡ changes_between was now
@@ -43,9 +57,9 @@ one_more_from n [] q r s =
     append-nil (told_changes n (changes_at q.eid.number r s)) ∙ ap (λ (k : ℕ). told_changes k (changes_at q.eid.number r s)) m
 one_more_from n (p ∷ qs) q r s =
     let own = told_changes n (changes_at p.eid.number r s) in
-    let m : (n + 1) + length qs ≡ n + (length qs + 1) = omega arith in
+    let m : (n + 1) + length qs ≡ n + length (p ∷ qs) = omega arith in
     ap (λ (l : List Writing). own ++ l) (one_more_from (n + 1) qs q r s ∙ ap (λ (k : ℕ). changes_from (n + 1) qs r s ++ told_changes k (changes_at q.eid.number r s)) m)
-    ∙ sym (append_assoc own (changes_from (n + 1) qs r s) (told_changes (n + (length qs + 1)) (changes_at q.eid.number r s)))
+    ∙ sym (append_assoc own (changes_from (n + 1) qs r s) (told_changes (n + length (p ∷ qs)) (changes_at q.eid.number r s)))
 
 module _ (c : ScriptConfig) (qs : List ReqPart) (q : ReqPart) (d : devised.Device) (frame : GivenFrame) where
   abbrev pub own_changes : List Writing
