@@ -61,6 +61,13 @@ one_more_from n (p ∷ qs) q r s =
     ap (λ (l : List Writing). own ++ l) (one_more_from (n + 1) qs q r s ∙ ap (λ (k : ℕ). changes_from (n + 1) qs r s ++ told_changes k (changes_at q.eid.number r s)) m)
     ∙ sym (append_assoc own (changes_from (n + 1) qs r s) (told_changes (n + length (p ∷ qs)) (changes_at q.eid.number r s)))
 
+-- Requesters are all but the last, and the last.
+abbrev pub others_of : List ReqPart → List ReqPart
+others_of l = take (length l - 1) (drop 0 l)
+
+pub last_apart : (l : List ReqPart) (last : ReqPart) → 1 ≤ length l → last ≡ get_or l (length l - 1) last → l ≡ others_of l ++ last ∷ []
+last_apart l last some is = grind (arith, common_steps)
+
 module _ (c : ScriptConfig) (qs : List ReqPart) (q : ReqPart) (d : devised.Device) (frame : GivenFrame) where
   abbrev pub own_changes : List Writing
   own_changes = told_changes (length qs + 1) (changes_at q.eid.number d.responder (devised_by c d frame).after.responder)
