@@ -9,7 +9,7 @@ ghost use Rattle.session_keys.specs.Terms.{AreTermsOf};
 ghost use Rattle.psk_session.specs.Opening.{StandsFor, accepted, open_fault};
 ghost use Rattle.psk_session.specs.Finishing as finishing;
 ghost use Rattle.session_keys.specs.Handshake.{IsHandshakeOf};
-ghost use Rattle.psk_session.specs.Opened.{IsTaken};
+ghost use Rattle.psk_session.specs.Opened.{IsAnswered, IsTaken};
 ghost use Rattle.psk_session.specs.Wiped.{IsWipedOpening};
 ghost use Rattle.spdm_grammar.specs.declared.names.TheConstants.{MAX_PADDING};
 
@@ -128,29 +128,38 @@ impl Opening {
             → StandsFor self psk n exchange
             → IsTaken self psk n exchange answer.now pad.now result }
     {
+        match self.answered(answer, pad) {
+            Ok(state) => Ok(state),
+            Err(fault) => Err((self, fault)),
+        }
+    }
+
+    /// Same as `take_response_with`, for a state that stays where it is: nothing large moves.
+    pub fn answered(&self, answer: &[u8], pad: &[u8]) -> Result<Finishing, OpenFault>
+        requires { length pad.now ≤ MAX_PADDING }
+        ensures { (psk : List ℕ) (n : Negotiation) (exchange : List ℕ)
+            → StandsFor self.now psk n exchange
+            → IsAnswered psk n exchange answer.now pad.now result }
+    {
         let handshake = self.handshake_with(answer);
         match self.fault(answer, &handshake) {
-            Some(fault) => Err((self, fault)),
+            Some(fault) => Err(fault),
             None => Ok(self.accept(answer, handshake, pad)),
         }
     }
 
     // The session with its sound answer, whose handshake this is.
-    fn accept(self, answer: &[u8], handshake: Handshake, pad: &[u8]) -> Finishing
-        requires hash { handshake.keys.hash ≡ self.terms.choice.hash }
+    fn accept(&self, answer: &[u8], handshake: Handshake, pad: &[u8]) -> Finishing
+        requires hash { handshake.keys.hash ≡ self.now.terms.choice.hash }
         requires pad { length pad.now ≤ MAX_PADDING }
         ensures { (psk : List ℕ) (n : Negotiation) (exchange : List ℕ)
-            → StandsFor self psk n exchange
+            → StandsFor self.now psk n exchange
             → IsHandshakeOf handshake (terms_of n).choice psk
             (t1_of (accepted n exchange answer.now))
             → finishing.StandsFor result psk n exchange answer.now pad.now }
     {
-        let Opening {
-            mut lane,
-            psk: _,
-            terms,
-        } = self;
+        let mut lane = self.lane.clone().unwrap();
         lane.push(answer);
-        Finishing::new(lane, handshake, terms, told_id(answer), pad)
+        Finishing::new(lane, handshake, self.terms, told_id(answer), pad)
     }
 }
