@@ -20,7 +20,7 @@ ghost use Rattle.requester_machine.specs.Shown.{view_of};
 ghost use Rattle.spdm_grammar.specs.declared.names.TheConstants.{MAX_PADDING};
 ghost use Rattle.secured_record.specs.declared.TheConstants.{MAX_RECORD_SIZE};
 
-use crate::finish_record::{seal_finish, verify_of_finish};
+use crate::finish_record::{lane_with, seal_finish, verify_of_finish};
 use crate::inner::{Inner, read_inner};
 use crate::kept::Kept;
 use crate::req_session::ReqSession;
@@ -201,9 +201,7 @@ impl Finishing {
             → open_state.StandsFor result psk
             (finished_by psk (finishing psk n exchange answer pad) sealed) }
     {
-        let mut lane = self.lane.clone().unwrap();
-        lane.push(behind_type(inner));
-        let th2 = lane.finish();
+        let th2 = lane_with(&self.lane, behind_type(inner)).finish();
         let keys = self.handshake.app_keys(&th2);
         let kept = Kept {
             request: RecordKey::new(keys.request),

@@ -14,6 +14,7 @@ ghost use Rattle.psk_session.specs.Wiped.{IsWipedOpening};
 ghost use Rattle.spdm_grammar.specs.declared.names.TheConstants.{MAX_PADDING};
 
 use crate::answers::{read_exchange_rsp, told_id};
+use crate::finish_record::lane_with;
 use crate::{Finishing, OpenFault, SessionTerms, wipe_psk};
 use byte_compare::same_bytes;
 use session_keys::{Handshake, without_verify};
@@ -72,9 +73,7 @@ impl Opening {
             (given ++ without_verify (hash_of self.now.terms.choice.hash) answer.now) }
         ensures size { length result ≡ hash_size self.now.terms.choice.hash }
     {
-        let mut lane = self.lane.clone().unwrap();
-        lane.push(without_verify(self.terms.choice.hash, answer));
-        lane.finish()
+        lane_with(&self.lane, without_verify(self.terms.choice.hash, answer)).finish()
     }
 
     // The handshake that an answer fixes.
@@ -158,8 +157,7 @@ impl Opening {
             (t1_of (accepted n exchange answer.now))
             → finishing.StandsFor result psk n exchange answer.now pad.now }
     {
-        let mut lane = self.lane.clone().unwrap();
-        lane.push(answer);
+        let lane = lane_with(&self.lane, answer);
         Finishing::new(lane, handshake, self.terms, told_id(answer), pad)
     }
 }
