@@ -114,12 +114,14 @@ impl Slot {
             → IsAcceptedBy psk n exchange answer.now pad.now self.new result }
     {
         match self {
-            Slot::Opening(state) => {
-                let state = state.answered(answer, pad)?;
-                self.wipe();
-                *self = Slot::Finishing(state);
-                Ok(())
-            }
+            Slot::Opening(state) => match state.answered(answer, pad) {
+                Ok(state) => {
+                    self.wipe();
+                    *self = Slot::Finishing(state);
+                    Ok(())
+                }
+                Err(fault) => Err(fault),
+            },
             _ => Err(OpenFault::Malformed(1)),
         }
     }
