@@ -1,4 +1,6 @@
-use Rattle.std.proofs.Common.{◌∙◌, sym, refl, List, ℕ}
+use Rattle.std.proofs.Common.{◌≡◌, ◌∙◌, sym, subst, refl, List, ℕ}
+use Rattle.responder_machine.specs.Heard.{heard_of}
+use Rattle.responder_machine.specs.Responder.{on_clear}
 use Rattle.responder_core.proofs.Followed.{all_stay}
 use Rattle.spdm_grammar.specs.ErrorNumber.{error_number}
 use Rattle.spdm_grammar.specs.declared.told.heard.Heard.TheVariants as hearing
@@ -17,7 +19,7 @@ returns-in-Same-clause-done c = λ r h f d setup free allowed stands.
       body = told.0.body;
       stands = record {
         clear = told.0.stands;
-        sessions = all_stay r h tag m f d c.args.self.sessions hearing.Same told.0.told refl told.1 stands.sessions;
+        sessions = all_stay r h tag m f d c.args.self.now.sessions hearing.Same told.0.told refl told.1 stands.sessions;
         queue = stands.queue ∙ sym (queue_after_clear r h tag m f d);
         sizes = sizes_after r h tag m f d setup.ordered setup.most stands.sizes;
       };
@@ -38,11 +40,11 @@ returns-in-Refused-clause-done c = λ r h f d setup free allowed stands.
     let tag : ℕ = c.args.tag in
     let told = c.in-Refused.ensures.told r h f d setup free stands.clear (c.held-held.ensures.value r h stands.sessions) in
     record {
-      told = told.0.told;
+      told = subst (λ (n : ℕ). hearing.Refused n ≡ heard_of (on_clear r h tag m f d)) (sym c.number.ensures) told.0.told;
       body = told.0.body;
       stands = record {
         clear = told.0.stands;
-        sessions = all_stay r h tag m f d c.args.self.sessions (hearing.Refused (error_number c.in-Refused.code)) told.0.told refl told.1 stands.sessions;
+        sessions = all_stay r h tag m f d c.args.self.now.sessions (hearing.Refused (error_number c.in-Refused.code)) told.0.told refl told.1 stands.sessions;
         queue = stands.queue ∙ sym (queue_after_clear r h tag m f d);
         sizes = sizes_after r h tag m f d setup.ordered setup.most stands.sizes;
       };
@@ -55,7 +57,7 @@ returns-in-Refused-clause-drawn c = λ r h f d setup free allowed stands.
 pub returns-in-Refused-clause-harmless : goal.returns-in-Refused-clause-harmless
 returns-in-Refused-clause-harmless c = λ r h f d setup free allowed stands.
     let done = returns-in-Refused-clause-done c r h f d setup free allowed stands in
-    clear_harmless r h c.args.tag c.args.message.now f d (hearing.Refused (error_number c.in-Refused.code)) c.on_clear.new.out done.told done.body
+    clear_harmless r h c.args.tag c.args.message.now f d (hearing.Refused c.number.result) c.on_clear.new.out done.told done.body
 
 pub returns-in-Answered-clause-done : goal.returns-in-Answered-clause-done
 returns-in-Answered-clause-done c = λ r h f d setup free allowed stands.
