@@ -6,20 +6,23 @@ use Rattle.capture_pcap.specs.declared.into_file.ToPcapFault.{ToPcapFault}
 use Rattle.capture_pcap.specs.declared.into_file.ToPcapFault.TheVariants as to_pcap
 use Rattle.capture_pcap.specs.declared.out_of_file.FromPcapFault.{FromPcapFault}
 use Rattle.capture_pcap.specs.declared.out_of_file.FromPcapFault.TheVariants as from_pcap
-use Rattle.capture_picture.specs.Told as pictures
-use Rattle.capture_picture.specs.declared.writing.DrawFault.{DrawFault}
-use Rattle.capture_picture.specs.declared.writing.DrawFault.TheVariants as to_picture
 use Rattle.frame_stream.specs.Text.{text_of}
 use Rattle.packet_text.specs.Told as packets
 use Rattle.packet_text.specs.declared.writing.PacketsFault.{PacketsFault}
 use Rattle.packet_text.specs.declared.writing.PacketsFault.TheVariants as to_words
-use Rattle.script_text.specs.ScriptText.{capture_in}
+use Rattle.script_capture.specs.Written as scripts
+use Rattle.script_capture.specs.declared.fault.CaptureFault.{CaptureFault}
+use Rattle.script_capture.specs.declared.fault.CaptureFault.TheVariants as to_capture
+use Rattle.script_picture.specs.Drawn as pictures
+use Rattle.script_picture.specs.declared.fault.DrawFault.{DrawFault}
+use Rattle.script_picture.specs.declared.fault.DrawFault.TheVariants as to_picture
+use Rattle.script_text.specs.ScriptText.{capture_in, script_in}
 use Rattle.script_text.specs.declared.texts.faults.LineFault.{LineFault}
 use Rattle.spdm_view.specs.declared.outcome.Outcome.{Outcome}
-use Rattle.spdm_view.specs.declared.outcome.Outcome.TheVariants.{Done, Usage, BadText, BadFile, ReadFault, WriteFault, OutOfMemory, TooLong}
+use Rattle.spdm_view.specs.declared.outcome.Outcome.TheVariants.{Done, Usage, BadText, LinkFull, TooMany, BadFile, ReadFault, WriteFault, OutOfMemory, TooLong}
 use Rattle.spdm_view.specs.declared.words.Word.{Word}
 use Rattle.spdm_view.specs.declared.words.TextWord.{TextWord}
-use Rattle.spdm_view.specs.declared.words.TextWord.TheVariants.{Packets, Pcap, Picture}
+use Rattle.spdm_view.specs.declared.words.TextWord.TheVariants.{Capture, Packets, Pcap, Picture}
 use Rattle.spdm_view.specs.declared.words.Word.TheVariants.{FromPcap, OfText}
 
 -- The longest text: 4 MiB.
@@ -30,7 +33,8 @@ text_limit = 4194304
 abbrev pub output_of_text : TextWord → List ℕ → List ℕ
 output_of_text (Packets style) text = packets.packets_text style text
 output_of_text Pcap text = files.pcap_of text
-output_of_text (Picture form) text = pictures.capture_picture form text
+output_of_text Capture text = scripts.capture_text text
+output_of_text (Picture form) text = pictures.drawn_text form text
 
 abbrev pub output_of : Word → List ℕ → List ℕ
 output_of (OfText word) input = output_of_text word input
@@ -44,9 +48,19 @@ pcap_outcome (Err (to_pcap.Line line f)) = BadText line f
 pcap_outcome (Err to_pcap.WriteFault) = WriteFault
 pcap_outcome (Err to_pcap.OutOfMemory) = OutOfMemory
 
+abbrev pub capture_outcome : Result (Unit {0}) CaptureFault → Outcome
+capture_outcome (Ok done) = Done
+capture_outcome (Err (to_capture.Line line f)) = BadText line f
+capture_outcome (Err (to_capture.LinkFull line)) = LinkFull line
+capture_outcome (Err (to_capture.TooManyPackets line)) = TooMany line
+capture_outcome (Err to_capture.WriteFault) = WriteFault
+capture_outcome (Err to_capture.OutOfMemory) = OutOfMemory
+
 abbrev pub picture_outcome : Result (Unit {0}) DrawFault → Outcome
 picture_outcome (Ok done) = Done
 picture_outcome (Err (to_picture.Line line f)) = BadText line f
+picture_outcome (Err (to_picture.LinkFull line)) = LinkFull line
+picture_outcome (Err (to_picture.TooManyRows line)) = TooMany line
 picture_outcome (Err to_picture.WriteFault) = WriteFault
 picture_outcome (Err to_picture.OutOfMemory) = OutOfMemory
 
@@ -71,6 +85,8 @@ abbrev pub writes_nothing : Outcome → Bool
 writes_nothing Done = false
 writes_nothing Usage = true
 writes_nothing (BadText line f) = true
+writes_nothing (LinkFull line) = true
+writes_nothing (TooMany line) = true
 writes_nothing (BadFile f) = true
 writes_nothing ReadFault = true
 writes_nothing WriteFault = false
@@ -80,23 +96,38 @@ writes_nothing TooLong = true
 -- ---- What an outcome tells of the input. Of reading, writing and memory the input tells nothing.
 
 -- A text is what the word reads.
-abbrev pub is_good : TextWord → List ℕ → Bool
-is_good (Packets style) text = is_ok (capture_in text)
-is_good Pcap text = is_ok (capture_in text)
-is_good (Picture form) text = is_ok (capture_in text)
+abbrev pub IsGood : TextWord → List ℕ → Type 0
+IsGood (Packets style) text = is_ok (capture_in text) ≡ true
+IsGood Pcap text = is_ok (capture_in text) ≡ true
+IsGood Capture text = scripts.IsGood (script_in text)
+IsGood (Picture form) text = pictures.IsGood (capture_in text) (script_in text)
 
 -- It has this first bad line, with this first fault.
 abbrev pub IsBadLine : TextWord → List ℕ → (line : ℕ) → LineFault → Type 0
 IsBadLine (Packets style) text line f = packets.IsBad (capture_in text) (to_words.Line line f)
 IsBadLine Pcap text line f = files.IsBad (capture_in text) (to_pcap.Line line f)
-IsBadLine (Picture form) text line f = pictures.IsBad (capture_in text) (to_picture.Line line f)
+IsBadLine Capture text line f = scripts.IsCause (script_in text) (to_capture.Line line f)
+IsBadLine (Picture form) text line f = pictures.IsCause (capture_in text) (script_in text) (to_picture.Line line f)
+
+-- With the event on this line of the script that it is the link is full, or there is more than the word writes.
+abbrev pub IsFullAt : TextWord → List ℕ → (line : ℕ) → Type 0
+IsFullAt Capture text line = scripts.IsCause (script_in text) (to_capture.LinkFull line)
+IsFullAt (Picture form) text line = pictures.IsCause (capture_in text) (script_in text) (to_picture.LinkFull line)
+IsFullAt word text line = ⊥
+
+abbrev pub IsTooMuchAt : TextWord → List ℕ → (line : ℕ) → Type 0
+IsTooMuchAt Capture text line = scripts.IsCause (script_in text) (to_capture.TooManyPackets line)
+IsTooMuchAt (Picture form) text line = pictures.IsCause (capture_in text) (script_in text) (to_picture.TooManyRows line)
+IsTooMuchAt word text line = ⊥
 
 abbrev pub IsToldOfText : TextWord → List ℕ → Outcome → Type 0
-IsToldOfText word text Done = is_good word text ≡ true
+IsToldOfText word text Done = IsGood word text
 IsToldOfText word text (BadText line f) = IsBadLine word text line f
+IsToldOfText word text (LinkFull line) = IsFullAt word text line
+IsToldOfText word text (TooMany line) = IsTooMuchAt word text line
 IsToldOfText word text TooLong = text_limit < length text
 IsToldOfText word text ReadFault = Unit {0}
-IsToldOfText word text WriteFault = is_good word text ≡ true
+IsToldOfText word text WriteFault = IsGood word text
 IsToldOfText word text OutOfMemory = Unit {0}
 IsToldOfText word text Usage = ⊥
 IsToldOfText word text (BadFile f) = ⊥
@@ -110,6 +141,8 @@ IsToldOfFile input ReadFault = Unit {0}
 IsToldOfFile input WriteFault = Unit {0}
 IsToldOfFile input OutOfMemory = Unit {0}
 IsToldOfFile input Usage = ⊥
+IsToldOfFile input (LinkFull line) = ⊥
+IsToldOfFile input (TooMany line) = ⊥
 
 abbrev pub IsTold : Word → List ℕ → Outcome → Type 0
 IsTold (OfText word) input outcome = IsToldOfText word input outcome

@@ -2,7 +2,7 @@
 use Rattle.std.specs.Prelude.{ℕ, List, [], ◌∷◌, codes, bytes_eq, ◌&&◌, if◌then◌else◌, Option, Some, None}
 use Rattle.packet_text.specs.declared.style.Style.TheVariants as style
 use Rattle.sequence_picture.specs.declared.form.Form.TheVariants as form
-use Rattle.spdm_view.specs.declared.words.TextWord.TheVariants.{Packets, Pcap, Picture}
+use Rattle.spdm_view.specs.declared.words.TextWord.TheVariants.{Capture, Packets, Pcap, Picture}
 use Rattle.spdm_view.specs.declared.words.Word.{Word}
 use Rattle.spdm_view.specs.declared.words.Word.TheVariants.{FromPcap, OfText}
 
@@ -10,9 +10,10 @@ unfoldable pub word_named : List ℕ → Option Word
 word_named word =
     if bytes_eq word (codes "packets") then Some (OfText (Packets style.Words))
     else (if bytes_eq word (codes "pcap") then Some (OfText Pcap)
+    else (if bytes_eq word (codes "capture") then Some (OfText Capture)
     else (if bytes_eq word (codes "picture") then Some (OfText (Picture form.Svg))
     else (if bytes_eq word (codes "from-pcap") then Some FromPcap
-    else None)))
+    else None))))
 
 -- `packets` with the option `--json`, and `picture` with `--mermaid`.
 unfoldable pub styled_word : (word option : List ℕ) → Option Word

@@ -1,5 +1,5 @@
-//! The program `spdm_view`: it writes the packets of a capture in words or as JSON, a capture as a pcap file or as a
-//! picture, and a pcap file as a capture.
+//! The program `spdm_view`: it writes the packets of a capture in words or as JSON, the capture of a script, a capture
+//! or a script as a picture, a capture as a pcap file, and a pcap file as a capture.
 //!
 //! Read first: `output_of` in `specs/Answer.antt`, what is written of an input. The call is `run`.
 #![tactic(auto)]
@@ -45,9 +45,15 @@ fn tell(rt: &HostRuntime, outcome: Outcome) {
     let _ = match outcome {
         Outcome::Done => Ok(()),
         Outcome::Usage => eprintln!(rt;
-            "one of the words: packets pcap picture from-pcap, or packets --json, or picture --mermaid"
+            "one of the words: packets pcap capture picture from-pcap, or packets --json, or picture --mermaid"
         ),
         Outcome::BadText { line, fault } => eprintln!(rt; "line {line}: {fault:?}\n{fault}"),
+        Outcome::LinkFull { line } => {
+            eprintln!(rt; "line {line}: the link has no room for another packet: 65536 were sent")
+        }
+        Outcome::TooMany { line } => {
+            eprintln!(rt; "line {line}: more than 100000 packets of a capture, or 1000000 rows of a picture")
+        }
         Outcome::BadFile { fault } => eprintln!(rt; "the file: {fault}"),
         Outcome::ReadFault => eprintln!(rt; "reading failed"),
         Outcome::WriteFault => eprintln!(rt; "writing failed"),

@@ -10,6 +10,11 @@ pub enum Outcome {
     Usage,
     /// The first bad line of the text, counted from 1, and its first fault. Nothing was written.
     BadText { line: u32, fault: LineFault },
+    /// The event on this line of the script sends a packet for which the link has no room. Nothing was written.
+    LinkFull { line: u32 },
+    /// With the event on this line of the script a capture has more than 100,000 packets, or a picture more than
+    /// 1,000,000 rows. Nothing was written.
+    TooMany { line: u32 },
     /// The first fault of the pcap file. Nothing was written.
     BadFile { fault: PcapFault },
     /// Reading failed. Nothing was written.
@@ -38,7 +43,9 @@ impl Outcome {
             Outcome::WriteFault => 5,
             Outcome::OutOfMemory => 6,
             Outcome::TooLong => 8,
+            Outcome::LinkFull { .. } => 9,
             Outcome::BadFile { .. } => 10,
+            Outcome::TooMany { .. } => 15,
         }
     }
 }

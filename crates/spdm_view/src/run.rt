@@ -1,6 +1,6 @@
 ghost use Rattle.std.specs.Prelude.{◌≡◌, ◌≤◌, ◌<◌, ◌↔◌, ◌⊎◌, ℕ, List, [], Some, None, true, map, length, string_bytes};
 ghost use Rattle.spdm_basis.specs.Stream.{HasFault, Takes, TakesPrefix};
-ghost use Rattle.spdm_view.specs.Answer.{IsTold, IsToldOfFile, IsToldOfText, from_pcap_outcome, output_of, output_of_text, packets_outcome, pcap_outcome, picture_outcome, writes_nothing};
+ghost use Rattle.spdm_view.specs.Answer.{IsTold, IsToldOfFile, IsToldOfText, capture_outcome, from_pcap_outcome, output_of, output_of_text, packets_outcome, pcap_outcome, picture_outcome, writes_nothing};
 ghost use Rattle.spdm_view.specs.Words.{word_of};
 ghost use Rattle.spdm_view.specs.declared.words.Word.{Word};
 ghost use Rattle.spdm_view.specs.declared.words.Word.TheVariants.{FromPcap};
@@ -8,8 +8,9 @@ ghost use Rattle.spdm_view.specs.declared.words.Word.TheVariants.{FromPcap};
 use crate::outcome::Outcome;
 use crate::words::{TextWord, Word, word_of};
 use capture_pcap::{FromPcapFault, ToPcapFault, from_pcap, to_pcap};
-use capture_picture::{DrawFault, draw_capture};
 use packet_text::{PacketsFault, write_packets};
+use script_capture::{CaptureFault, write_capture};
+use script_picture::{DrawFault, draw_text};
 use script_text::TEXT_LIMIT;
 use spdm_basis::{InFault, Sink, Source, read_all};
 use std::alloc::Global;
@@ -42,13 +43,29 @@ fn from_pcap_outcome(answer: Result<(), FromPcapFault>) -> Outcome
     }
 }
 
-// The outcome of a capture that was drawn.
+// The outcome of a script whose capture was written.
+fn capture_outcome(answer: Result<(), CaptureFault>) -> Outcome
+    ensures { result ≡ capture_outcome answer }
+{
+    match answer {
+        Ok(()) => Outcome::Done,
+        Err(CaptureFault::Line(line, fault)) => Outcome::BadText { line, fault },
+        Err(CaptureFault::LinkFull(line)) => Outcome::LinkFull { line },
+        Err(CaptureFault::TooManyPackets(line)) => Outcome::TooMany { line },
+        Err(CaptureFault::WriteFault) => Outcome::WriteFault,
+        Err(CaptureFault::OutOfMemory) => Outcome::OutOfMemory,
+    }
+}
+
+// The outcome of a capture or a script that was drawn.
 fn picture_outcome(answer: Result<(), DrawFault>) -> Outcome
     ensures { result ≡ picture_outcome answer }
 {
     match answer {
         Ok(()) => Outcome::Done,
         Err(DrawFault::Line(line, fault)) => Outcome::BadText { line, fault },
+        Err(DrawFault::LinkFull(line)) => Outcome::LinkFull { line },
+        Err(DrawFault::TooManyRows(line)) => Outcome::TooMany { line },
         Err(DrawFault::WriteFault) => Outcome::WriteFault,
         Err(DrawFault::OutOfMemory) => Outcome::OutOfMemory,
     }
@@ -84,7 +101,8 @@ fn write_text<K: Sink>(alloc: Global, word: TextWord, text: &[u8], sink: &mut K)
     match word {
         TextWord::Packets(style) => packets_outcome(write_packets(alloc, style, text, sink)),
         TextWord::Pcap => pcap_outcome(to_pcap(alloc, text, sink)),
-        TextWord::Picture(form) => picture_outcome(draw_capture(alloc, form, text, sink)),
+        TextWord::Capture => capture_outcome(write_capture(alloc, text, sink)),
+        TextWord::Picture(form) => picture_outcome(draw_text(alloc, form, text, sink)),
     }
 }
 
@@ -121,7 +139,7 @@ fn answer_text<S: Source, K: Sink>(
 }
 
 // Reads a configuration and a file, and writes the capture.
-fn write_capture<S: Source, K: Sink>(alloc: Global, source: &mut S, sink: &mut K) -> Outcome
+fn write_file<S: Source, K: Sink>(alloc: Global, source: &mut S, sink: &mut K) -> Outcome
     ensures done { result ≡ Outcome.Done → (input : List ℕ) → S.remaining source.old ≡ Some input
         → Takes (K.contents sink.old) (output_of FromPcap input) (K.contents sink.new) }
     ensures part { (result ≡ Outcome.WriteFault) ⊎ (result ≡ Outcome.OutOfMemory) → (input : List ℕ)
@@ -169,7 +187,7 @@ pub fn run<S: Source, K: Sink>(
 {
     match word_of(words) {
         Some(Word::OfText(word)) => answer_text(alloc, word, source, sink),
-        Some(Word::FromPcap) => write_capture(alloc, source, sink),
+        Some(Word::FromPcap) => write_file(alloc, source, sink),
         None => Outcome::Usage,
     }
 }

@@ -11,7 +11,9 @@ pub enum TextWord {
     Packets(Style),
     /// The pcap file of a capture.
     Pcap,
-    /// The picture of a capture.
+    /// The capture of a script.
+    Capture,
+    /// The picture of a capture or a script.
     Picture(Form),
 }
 
@@ -31,6 +33,8 @@ fn named(word: &str) -> Option<Word>
         Some(Word::OfText(TextWord::Packets(Style::Words)))
     } else if word == "pcap" {
         Some(Word::OfText(TextWord::Pcap))
+    } else if word == "capture" {
+        Some(Word::OfText(TextWord::Capture))
     } else if word == "picture" {
         Some(Word::OfText(TextWord::Picture(Form::Svg)))
     } else if word == "from-pcap" {

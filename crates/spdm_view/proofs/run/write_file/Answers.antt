@@ -1,7 +1,7 @@
 use Rattle.std.proofs.Common.{subst, sym}
 use Rattle.spdm_view.proofs.FilesTold.{told_of_file}
 use Rattle.spdm_view.specs.Answer.{IsToldOfFile}
-use Rattle.spdm_view.proofs.run.write_capture.Goals as goal
+use Rattle.spdm_view.proofs.run.write_file.Goals as goal
 
 pub returns-clause-told : goal.returns-clause-told
 returns-clause-told g c = λ input left.

@@ -1,0 +1,5 @@
+mod FirstLine
+mod LinesLeft
+mod Stepped
+mod Going
+mod OfText
