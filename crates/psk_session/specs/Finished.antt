@@ -18,6 +18,8 @@ use Rattle.psk_session.specs.Finishing as finishing
 use Rattle.psk_session.specs.Inner.{Contents}
 use Rattle.psk_session.specs.Inner.Contents.{Spoken, AppData}
 use Rattle.psk_session.specs.ReqOpen as open_state
+use Rattle.psk_session.specs.declared.finish_answer.FinishAnswer.{FinishAnswer}
+use Rattle.psk_session.specs.declared.finish_answer.FinishAnswer.TheVariants as answered
 use Rattle.psk_session.specs.declared.finish_took.FinishTook.{FinishTook}
 use Rattle.psk_session.specs.declared.finish_took.FinishTook.TheVariants as took
 
@@ -55,8 +57,14 @@ finished_by psk s sealed =
     with_taken psk s AskFinish sealed
     (Grants AskFinish (drop 1 (answer_inner psk s AskFinish sealed)))
 
--- The outcome of a record: the session is open; it is lost; or the record did not open, with its fault, and the state
--- is the same.
+-- The outcome of a record: the session is open; it is lost; or the record did not open, with its fault.
+abbrev pub IsFinishAnswer : (psk : List ℕ) → Steps → (sealed : List ℕ) → FinishAnswer → Type 0
+IsFinishAnswer psk s sealed (answered.Open state) =
+    IsJudged psk s sealed None × open_state.StandsFor state psk (finished_by psk s sealed)
+IsFinishAnswer psk s sealed (answered.Bad fault) = IsJudged psk s sealed (Some fault)
+IsFinishAnswer psk s sealed (answered.Stay fault) = answer_fault psk s AskFinish sealed ≡ Some fault
+
+-- The same, where a record that does not open leaves the same state.
 abbrev pub IsFinishTook : finishing.Seen → (psk : List ℕ) → Steps → (sealed : List ℕ) → FinishTook
     → Type 0
 IsFinishTook old psk s sealed (took.Open state) =

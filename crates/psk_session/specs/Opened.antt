@@ -7,7 +7,14 @@ use Rattle.psk_session.specs.declared.finishing.Finishing.{Finishing}
 use Rattle.psk_session.specs.declared.open_fault.OpenFault.{OpenFault}
 use Rattle.psk_session.specs.declared.opening.Opening.{Opening}
 
--- A state of the accepted session, whose PSK_FINISH has this padding; or the same state, with the fault of the answer.
+-- A state of the accepted session, whose PSK_FINISH has this padding; or the fault of the answer.
+abbrev pub IsAnswered : (psk : List ℕ) → Negotiation → (exchange answer pad : List ℕ)
+    → Result Finishing OpenFault → Type 0
+IsAnswered psk n exchange answer pad (Ok state) =
+    (open_fault psk n exchange answer ≡ None) × StandsFor state psk n exchange answer pad
+IsAnswered psk n exchange answer pad (Err fault) = open_fault psk n exchange answer ≡ Some fault
+
+-- The same, with the same state beside the fault.
 abbrev pub IsTaken : Seen → (psk : List ℕ) → Negotiation → (exchange answer pad : List ℕ)
     → Result Finishing (Opening × OpenFault) → Type 0
 IsTaken old psk n exchange answer pad (Ok state) =

@@ -44,6 +44,17 @@ fn seal_short(key: &RecordKey, id: SessionId, number: u16, message: &[u8], pad: 
     short
 }
 
+// A lane that was given what this lane was, and more.
+pub fn lane_with(lane: &Lane, more: &[u8]) -> Lane
+    ensures hash { lane_hash result ≡ lane_hash lane.now }
+    ensures pushed { (given : List ℕ) → lanes.StandsFor lane.now given
+        → lanes.StandsFor result (given ++ more.now) }
+{
+    let mut lane = lane.clone().unwrap();
+    lane.push(more);
+    lane
+}
+
 // A lane that was given what this lane was, and PSK_FINISH without its verify data.
 fn lane_with_finish(lane: &Lane) -> Lane
     ensures hash { lane_hash result ≡ lane_hash lane.now }
@@ -52,9 +63,7 @@ fn lane_with_finish(lane: &Lane) -> Lane
 {
     let mut header = Frame::new();
     write_finish(&[], &mut header);
-    let mut lane = lane.clone().unwrap();
-    lane.push(header.as_slice());
-    lane
+    lane_with(lane, header.as_slice())
 }
 
 // The verify data of PSK_FINISH in a handshake, over the transcript up to PSK_EXCHANGE_RSP, which the lane was given.

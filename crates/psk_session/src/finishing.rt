@@ -3,7 +3,7 @@ ghost use Rattle.requester_machine.specs.Message.Ask.{AskFinish};
 ghost use Rattle.requester_machine.specs.Records.{answer_fault, answer_inner};
 ghost use Rattle.requester_machine.specs.Setup.{ReqSetup};
 ghost use Rattle.spdm_basis.specs.Sizes.{hash_size};
-ghost use Rattle.psk_session.specs.Finished.{IsFinishTook, finish_fault, finished_by};
+ghost use Rattle.psk_session.specs.Finished.{IsFinishAnswer, IsFinishTook, finish_fault, finished_by};
 ghost use Rattle.psk_session.specs.Inner.{contents_of};
 ghost use Rattle.spdm_machine.specs.Sessions.{id_in_exchange};
 ghost use Rattle.transcript.specs.Lane as lanes;
@@ -20,12 +20,12 @@ ghost use Rattle.requester_machine.specs.Shown.{view_of};
 ghost use Rattle.spdm_grammar.specs.declared.names.TheConstants.{MAX_PADDING};
 ghost use Rattle.secured_record.specs.declared.TheConstants.{MAX_RECORD_SIZE};
 
-use crate::finish_record::{seal_finish, verify_of_finish};
+use crate::finish_record::{lane_with, seal_finish, verify_of_finish};
 use crate::inner::{Inner, read_inner};
 use crate::kept::Kept;
 use crate::req_session::ReqSession;
 use crate::requests::write_finish;
-use crate::{Closed, FinishTook, ReqOpen, SessionTerms};
+use crate::{Closed, FinishAnswer, FinishTook, ReqOpen, SessionTerms};
 use secured_record::{RecordFault, RecordKey};
 use session_keys::{Handshake, behind_type, open_record};
 use spdm_basis::{Buffer, Frame, RecordFrame, SessionId};
@@ -137,13 +137,27 @@ impl Finishing {
             → StandsFor self psk n exchange answer pad
             → IsFinishTook self psk (finishing psk n exchange answer pad) sealed.now result }
     {
+        match self.answered(sealed) {
+            FinishAnswer::Open(open) => FinishTook::Open(open),
+            FinishAnswer::Bad(fault) => FinishTook::Bad(Closed, fault),
+            FinishAnswer::Stay(fault) => FinishTook::Stay(self, fault),
+        }
+    }
+
+    /// Same as `take`, for a state that stays where it is. If it opened the session, or lost it, it is not to be gone
+    /// on with.
+    pub fn answered(&self, sealed: &[u8]) -> FinishAnswer
+        ensures { (psk : List ℕ) (n : Negotiation) (exchange answer pad : List ℕ)
+            → StandsFor self.now psk n exchange answer pad
+            → IsFinishAnswer psk (finishing psk n exchange answer pad) sealed.now result }
+    {
         let mut inner = RecordFrame::new();
         if let Err(fault) = self.open_answer(sealed, &mut inner) {
-            return FinishTook::Stay(self, fault);
+            return FinishAnswer::Stay(fault);
         }
         match self.fault(inner.as_slice()) {
-            Some(fault) => FinishTook::Bad(Closed, fault),
-            None => FinishTook::Open(self.finish(inner.as_slice())),
+            Some(fault) => FinishAnswer::Bad(fault),
+            None => FinishAnswer::Open(self.finish(inner.as_slice())),
         }
     }
 
@@ -180,24 +194,15 @@ impl Finishing {
     }
 
     // The open session, with the inner message that holds PSK_FINISH_RSP.
-    fn finish(self, inner: &[u8]) -> ReqOpen
+    fn finish(&self, inner: &[u8]) -> ReqOpen
         ensures { (psk : List ℕ) (n : Negotiation) (exchange answer pad sealed : List ℕ)
-            → StandsFor self psk n exchange answer pad
+            → StandsFor self.now psk n exchange answer pad
             → inner.now ≡ answer_inner psk (finishing psk n exchange answer pad) AskFinish sealed
             → open_state.StandsFor result psk
             (finished_by psk (finishing psk n exchange answer pad) sealed) }
     {
-        let Finishing {
-            mut lane,
-            handshake,
-            response: _,
-            id,
-            sent: _,
-            terms,
-        } = self;
-        lane.push(behind_type(inner));
-        let th2 = lane.finish();
-        let keys = handshake.app_keys(&th2);
+        let th2 = lane_with(&self.lane, behind_type(inner)).finish();
+        let keys = self.handshake.app_keys(&th2);
         let kept = Kept {
             request: RecordKey::new(keys.request),
             response: RecordKey::new(keys.response),
@@ -205,8 +210,8 @@ impl Finishing {
             response_next: 0,
             taken: 0,
             th2,
-            id,
-            terms,
+            id: self.id,
+            terms: self.terms,
         };
         ReqOpen {
             session: ReqSession::new(kept),

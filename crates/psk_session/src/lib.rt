@@ -9,6 +9,7 @@ mod answering;
 mod answers;
 mod ask_fault;
 mod closed;
+mod finish_answer;
 mod finish_record;
 mod finish_took;
 mod finishing;
@@ -35,6 +36,7 @@ mod wiping;
 
 pub use ask_fault::AskFault;
 pub use closed::Closed;
+pub use finish_answer::FinishAnswer;
 pub use finish_took::FinishTook;
 pub use finishing::Finishing;
 pub use inner_pair::InnerPair;

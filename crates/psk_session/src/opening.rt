@@ -9,11 +9,12 @@ ghost use Rattle.session_keys.specs.Terms.{AreTermsOf};
 ghost use Rattle.psk_session.specs.Opening.{StandsFor, accepted, open_fault};
 ghost use Rattle.psk_session.specs.Finishing as finishing;
 ghost use Rattle.session_keys.specs.Handshake.{IsHandshakeOf};
-ghost use Rattle.psk_session.specs.Opened.{IsTaken};
+ghost use Rattle.psk_session.specs.Opened.{IsAnswered, IsTaken};
 ghost use Rattle.psk_session.specs.Wiped.{IsWipedOpening};
 ghost use Rattle.spdm_grammar.specs.declared.names.TheConstants.{MAX_PADDING};
 
 use crate::answers::{read_exchange_rsp, told_id};
+use crate::finish_record::lane_with;
 use crate::{Finishing, OpenFault, SessionTerms, wipe_psk};
 use byte_compare::same_bytes;
 use session_keys::{Handshake, without_verify};
@@ -72,9 +73,7 @@ impl Opening {
             (given ++ without_verify (hash_of self.now.terms.choice.hash) answer.now) }
         ensures size { length result ≡ hash_size self.now.terms.choice.hash }
     {
-        let mut lane = self.lane.clone().unwrap();
-        lane.push(without_verify(self.terms.choice.hash, answer));
-        lane.finish()
+        lane_with(&self.lane, without_verify(self.terms.choice.hash, answer)).finish()
     }
 
     // The handshake that an answer fixes.
@@ -128,29 +127,37 @@ impl Opening {
             → StandsFor self psk n exchange
             → IsTaken self psk n exchange answer.now pad.now result }
     {
+        match self.answered(answer, pad) {
+            Ok(state) => Ok(state),
+            Err(fault) => Err((self, fault)),
+        }
+    }
+
+    /// Same as `take_response_with`, for a state that stays where it is: nothing large moves.
+    pub fn answered(&self, answer: &[u8], pad: &[u8]) -> Result<Finishing, OpenFault>
+        requires { length pad.now ≤ MAX_PADDING }
+        ensures { (psk : List ℕ) (n : Negotiation) (exchange : List ℕ)
+            → StandsFor self.now psk n exchange
+            → IsAnswered psk n exchange answer.now pad.now result }
+    {
         let handshake = self.handshake_with(answer);
         match self.fault(answer, &handshake) {
-            Some(fault) => Err((self, fault)),
+            Some(fault) => Err(fault),
             None => Ok(self.accept(answer, handshake, pad)),
         }
     }
 
     // The session with its sound answer, whose handshake this is.
-    fn accept(self, answer: &[u8], handshake: Handshake, pad: &[u8]) -> Finishing
-        requires hash { handshake.keys.hash ≡ self.terms.choice.hash }
+    fn accept(&self, answer: &[u8], handshake: Handshake, pad: &[u8]) -> Finishing
+        requires hash { handshake.keys.hash ≡ self.now.terms.choice.hash }
         requires pad { length pad.now ≤ MAX_PADDING }
         ensures { (psk : List ℕ) (n : Negotiation) (exchange : List ℕ)
-            → StandsFor self psk n exchange
+            → StandsFor self.now psk n exchange
             → IsHandshakeOf handshake (terms_of n).choice psk
             (t1_of (accepted n exchange answer.now))
             → finishing.StandsFor result psk n exchange answer.now pad.now }
     {
-        let Opening {
-            mut lane,
-            psk: _,
-            terms,
-        } = self;
-        lane.push(answer);
-        Finishing::new(lane, handshake, terms, told_id(answer), pad)
+        let lane = lane_with(&self.lane, answer);
+        Finishing::new(lane, handshake, self.terms, told_id(answer), pad)
     }
 }

@@ -14,7 +14,9 @@ use Rattle.responder_machine.specs.Responder.{Outcome, after, body_of, is_repeat
 use Rattle.responder_machine.specs.Responder.Outcome.{Adds}
 use Rattle.responder_machine.specs.Setup.{RspSetup}
 use Rattle.responder_machine.specs.Turn.{takes, takes_draw}
+use Rattle.spdm_grammar.specs.ErrorNumber.{error_number}
 use Rattle.spdm_grammar.specs.declared.told.heard.Heard.{Heard}
+use Rattle.spdm_grammar.specs.declared.told.heard.Heard.TheVariants as heard
 use Rattle.spdm_grammar.specs.declared.names.request_code.TheConstants.{PSK_EXCHANGE}
 use Rattle.spdm_machine.specs.Bodies.{clear_body}
 use Rattle.spdm_machine.specs.Keys.{Draw}
@@ -55,7 +57,9 @@ BeginsNone _ = Unit {0}
 
 -- The one or the other: what is answered begins no session.
 abbrev pub IsTold : RspSetup → History → (tag : ℕ) → List ℕ → Free → Draw → ClearOutcome → (new : Seen) → (out : List ℕ) → Type 0
-IsTold r h tag m f d (told.Heard heard drawn) new out = IsAnswered r h tag m f d heard new out × BeginsNone (on_clear r h tag m f d) × (drawn ≡ is_drawn (on_clear r h tag m f d))
+IsTold r h tag m f d told.Same new out = IsAnswered r h tag m f d heard.Same new out × BeginsNone (on_clear r h tag m f d) × (false ≡ is_drawn (on_clear r h tag m f d))
+IsTold r h tag m f d (told.Refused code) new out = IsAnswered r h tag m f d (heard.Refused (error_number code)) new out × BeginsNone (on_clear r h tag m f d) × (false ≡ is_drawn (on_clear r h tag m f d))
+IsTold r h tag m f d (told.Answered code drawn) new out = IsAnswered r h tag m f d (heard.Answered code) new out × BeginsNone (on_clear r h tag m f d) × (drawn ≡ is_drawn (on_clear r h tag m f d))
 IsTold r h tag m f d (told.Begins begun) new out = IsBeginning r h tag m f begun new
 
 -- Where a session begins the negotiation and the large response stay.

@@ -111,10 +111,18 @@ impl Connection {
     {
         let held = self.sessions.held();
         match self.clear.on_clear(setup, held, tag, message, free, out) {
-            ClearOutcome::Heard { heard, drawn } => {
-                self.sessions.follow(heard);
+            ClearOutcome::Same => {
+                self.drawn = false;
+                Heard::Same
+            }
+            ClearOutcome::Refused(code) => {
+                self.drawn = false;
+                Heard::Refused(code.number())
+            }
+            ClearOutcome::Answered { code, drawn } => {
+                self.sessions.answered(code);
                 self.drawn = drawn;
-                heard
+                Heard::Answered(code)
             }
             ClearOutcome::Begins(begun) => self.begin(begun, setup, tag, message, free, out),
         }

@@ -1,25 +1,23 @@
 ghost use Rattle.std.specs.Prelude.{◌≡◌, ◌≤◌, ◌<◌, ◌-◌, ◌^◌, ℕ, List, length};
 ghost use Rattle.requester_core.specs.RecordOutcome.{IsStepped, settled, told_led};
-ghost use Rattle.requester_core.specs.Slot.{IsFinishing, IsResting};
+ghost use Rattle.requester_core.specs.Slot.{IsResting};
 ghost use Rattle.requester_core.specs.SlotSteps.{IsAskedOf};
 ghost use Rattle.requester_core.specs.declared.in_sessions.slot.Slot.TheVariants as slot;
 ghost use Rattle.psk_session.specs.AskLaws.{command_fault_of};
 ghost use Rattle.psk_session.specs.Course as course;
 ghost use Rattle.psk_session.specs.ReqSession.{IsAwaiting};
 ghost use Rattle.requester_machine.specs.Message as message;
-ghost use Rattle.requester_machine.specs.Message.Ask.{AskFinish};
 ghost use Rattle.requester_machine.specs.Session.{Steps, request_epoch, response_epoch, taken_of};
 ghost use Rattle.spdm_grammar.specs.declared.names.TheConstants.{MAX_PADDING};
 ghost use Rattle.secured_record.specs.declared.TheConstants.{MAX_RECORD_SIZE};
 
 use crate::RecordOutcome;
 use psk_session::{
-    AskFault, FinishTook, Finishing, OpenFault, Opening, Reply, ReqSession, ResponseOutcome,
+    AskFault, FinishAnswer, Finishing, OpenFault, Opening, Reply, ReqSession, ResponseOutcome,
     SessionRequest,
 };
 use spdm_basis::{RecordFault, SessionId};
 use spdm_grammar::{CommandFault, Event, Finished, SessionView};
-use std::mem;
 
 /// The session of one ReqSessionID, as far as it has come.
 #[derive(Drop)]
@@ -85,26 +83,6 @@ fn step(session: &mut ReqSession, sealed: &[u8], pad: &[u8]) -> RecordOutcome
     led_as(id, session.take_with(sealed, pad))
 }
 
-// A record for a session that awaits PSK_FINISH_RSP.
-fn take_finish(state: Finishing, sealed: &[u8]) -> (Slot, RecordOutcome)
-    ensures { (psk : List ℕ) (s : Steps) (pad : List ℕ) → IsFinishing state psk s
-        → IsStepped psk s AskFinish sealed.now pad (settled result.1 result.0) result.1 }
-{
-    let id = state.view().id;
-    match state.take(sealed) {
-        FinishTook::Open(open) => (
-            Slot::Live(open.into_session()),
-            RecordOutcome::Rests(Event::Done(Finished::Opened(id))),
-        ),
-        // The session is gone: one of zeros is put over it, before its slot is emptied.
-        FinishTook::Bad(_, fault) => (
-            Slot::Live(ReqSession::wiped()),
-            RecordOutcome::Ends(Event::Lost(id, fault)),
-        ),
-        FinishTook::Stay(state, fault) => (Slot::Finishing(state), RecordOutcome::Ignored(fault)),
-    }
-}
-
 impl Slot {
     ghost use Rattle.std.specs.Prelude.{◌≡◌, ◌≤◌, ◌<◌, ◌-◌, ◌^◌, [], ℕ, List, None, Some, length};
     ghost use Rattle.requester_core.specs.RecordOutcome.{IsStepped, settled};
@@ -135,21 +113,16 @@ impl Slot {
             → IsSlotOf self.old psk (started n exchange)
             → IsAcceptedBy psk n exchange answer.now pad.now self.new result }
     {
-        match mem::replace(self, Slot::Empty) {
-            Slot::Opening(state) => match state.take_response_with(answer, pad) {
+        match self {
+            Slot::Opening(state) => match state.answered(answer, pad) {
                 Ok(state) => {
+                    self.wipe();
                     *self = Slot::Finishing(state);
                     Ok(())
                 }
-                Err((state, fault)) => {
-                    *self = Slot::Opening(state);
-                    Err(fault)
-                }
+                Err(fault) => Err(fault),
             },
-            other => {
-                *self = other;
-                Err(OpenFault::Malformed(1))
-            }
+            _ => Err(OpenFault::Malformed(1)),
         }
     }
 
@@ -229,16 +202,19 @@ impl Slot {
             → IsFinishingSlot self.old psk s → waiting_ask s ≡ Some a
             → IsStepped psk s a sealed.now pad (settled result self.new) result }
     {
-        match mem::replace(self, Slot::Empty) {
+        match self {
             Slot::Finishing(state) => {
-                let (slot, led) = take_finish(state, sealed);
-                *self = slot;
-                led
+                let id = state.view().id;
+                match state.answered(sealed) {
+                    FinishAnswer::Open(open) => {
+                        *self = Slot::Live(open.into_session());
+                        RecordOutcome::Rests(Event::Done(Finished::Opened(id)))
+                    }
+                    FinishAnswer::Bad(fault) => RecordOutcome::Ends(Event::Lost(id, fault)),
+                    FinishAnswer::Stay(fault) => RecordOutcome::Ignored(fault),
+                }
             }
-            other => {
-                *self = other;
-                RecordOutcome::Ignored(RecordFault::KeySpent)
-            }
+            _ => RecordOutcome::Ignored(RecordFault::KeySpent),
         }
     }
 

@@ -16,7 +16,6 @@ ghost use Rattle.responder_core.specs.Setup.{IsSetUp};
 use crate::clear::handling::replace;
 use crate::{ClearOutcome, ExchangeOrigin, FreeValues, KeptReply, RequestOutcome, Requests, Setup};
 use spdm_basis::Frame;
-use spdm_grammar::Heard;
 use std::marker::Model;
 
 /// The clear part of a responder's connection with one requester: the state of its requests, and the stored response.
@@ -102,22 +101,14 @@ impl ClearPart {
     {
         if self.kept.is_repeat(tag, message) {
             replace(out, self.kept.reply());
-            return ClearOutcome::Heard {
-                heard: Heard::Same,
-                drawn: false,
-            };
+            return ClearOutcome::Same;
         }
         match self.requests.on_request(setup, held, message, free, out) {
-            RequestOutcome::Refused(code) => ClearOutcome::Heard {
-                heard: Heard::Refused(code.number()),
-                drawn: false,
-            },
+            RequestOutcome::Refused(code) => ClearOutcome::Refused(code),
             RequestOutcome::Answered { drawn } => {
                 self.kept.keep(tag, message, out.as_slice());
-                ClearOutcome::Heard {
-                    heard: Heard::Answered(code_at(message)),
-                    drawn,
-                }
+                let code = code_at(message);
+                ClearOutcome::Answered { code, drawn }
             }
             RequestOutcome::Begins(begun) => ClearOutcome::Begins(begun),
         }

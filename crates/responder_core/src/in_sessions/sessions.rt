@@ -1,5 +1,4 @@
 ghost use Rattle.std.specs.Prelude.{◌≡◌, ◌≤◌};
-ghost use Rattle.responder_core.specs.Sessions.{tells_version};
 ghost use Rattle.responder_session.specs.Laws.{told_as};
 ghost use Rattle.spdm_machine.specs.Sessions.{one_if};
 ghost use Rattle.spdm_grammar.specs.declared.names.TheConstants.{MAX_APP_DATA_LEN, MAX_OPAQUE_LEN, MAX_PADDING, MAX_SESSIONS};
@@ -33,16 +32,6 @@ fn heard_as(id: SessionId, act: RspAct) -> Heard
     }
 }
 
-// Whether an answer tells GET_VERSION.
-fn tells_version(heard: Heard) -> bool
-    ensures { result ≡ tells_version heard }
-{
-    match heard {
-        Heard::Answered(code) => code == GET_VERSION,
-        _ => false,
-    }
-}
-
 // 1 where a test holds, and 0 where it does not.
 fn one_if(holds: bool) -> u8
     ensures value { result ≡ one_if holds }
@@ -70,6 +59,7 @@ impl Sessions {
     ghost use Rattle.responder_session.specs.RequestEffects.{AreFree};
     ghost use Rattle.responder_session.specs.Updates.{HasEpochs};
     ghost use Rattle.spdm_grammar.specs.declared.names.request_code.TheConstants.{GET_VERSION};
+    ghost use Rattle.spdm_grammar.specs.declared.told.heard.Heard.TheVariants as hearing;
     ghost use Rattle.spdm_machine.specs.Keys.{Draw};
     ghost use Rattle.responder_core.specs.LiveSession.{IsSlotOf, IsTakenIn};
     ghost use Rattle.responder_core.specs.Sessions.{IsAnswered, IsDelivered, IsViewOf, StandsFor, is_held_in, slot_of};
@@ -304,15 +294,15 @@ impl Sessions {
         self.empty(4);
     }
 
-    /// Applies the outcome of a clear message that begins no session: GET_VERSION removes all sessions, and nothing
-    /// else changes one.
-    pub fn follow(&mut self, heard: Heard)
+    /// The clear request with this code was answered, and begins no session: GET_VERSION removes all sessions, and
+    /// nothing else changes one.
+    pub fn answered(&mut self, code: u8)
         ensures { (r : RspSetup) (h : History) (tag : ℕ) (m : List ℕ) (f : Free) (d : Draw)
-            → heard ≡ heard_of (on_clear r h tag m f d) → BeginsNone (on_clear r h tag m f d)
-            → StandsFor self.old r h
+            → hearing.Answered code ≡ heard_of (on_clear r h tag m f d)
+            → BeginsNone (on_clear r h tag m f d) → StandsFor self.old r h
             → StandsFor self.new r (after h (on_clear r h tag m f d)) }
     {
-        if tells_version(heard) {
+        if code == GET_VERSION {
             self.clear();
         }
     }

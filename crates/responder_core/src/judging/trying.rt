@@ -33,7 +33,9 @@ impl ClearPart {
             → held_of h ≡ held → IsAnswered r h tag message.now f d result self.new out.new }
     {
         match self.on_clear(setup, held, tag, message, free, out) {
-            ClearOutcome::Heard { heard, drawn: _ } => heard,
+            ClearOutcome::Same => Heard::Same,
+            ClearOutcome::Refused(code) => Heard::Refused(code.number()),
+            ClearOutcome::Answered { code, drawn: _ } => Heard::Answered(code),
             ClearOutcome::Begins(begun) => {
                 let mut answer = Frame::new();
                 let _session = self.start(begun, setup, message, free, &mut answer);

@@ -24,8 +24,8 @@ returns c = λ psk n exchange answer pad sealed stands held.
     let t2 = t2_of (finished_by psk (finishing psk n exchange answer pad) sealed) in
     let before = vca_of n ++ exchange ++ answer ++ finish_message psk n exchange answer in
     let th2 : c.finish-th2.result ≡ (hash_of (terms_of n).choice.hash).digest t2 =
-    c.finish-th2.ensures.value (before ++ c.behind_type.result.now) (c.push.ensures.pushed before inside.pushed)
-    ∙ ap (λ (h : HashAlg). (hash_of h).digest (before ++ c.behind_type.result.now)) (c.push.ensures.hash ∙ c.self.invariant.0 ∙ ap (λ (x : Choice). x.hash) inside.terms.choice)
+    c.finish-th2.ensures.value (before ++ c.behind_type.result.now) (c.lane_with.ensures.pushed before inside.pushed)
+    ∙ ap (λ (h : HashAlg). (hash_of h).digest (before ++ c.behind_type.result.now)) (c.lane_with.ensures.hash ∙ c.self.invariant.0 ∙ ap (λ (x : Choice). x.hash) inside.terms.choice)
     ∙ ap (λ (m : List ℕ). (hash_of (terms_of n).choice.hash).digest (before ++ m)) (c.behind_type.ensures ∙ ap (λ (m : List ℕ). drop 1 m) held) in
     record {
       stage = refl;

@@ -1,11 +1,19 @@
 -- A message is answered, whether it begins a session or not.
 use Rattle.std.proofs.Common.{◌∙◌, sym, subst, ap, List, ℕ}
+use Rattle.responder_core.specs.ClearPart.{IsAnswered}
 use Rattle.responder_core.specs.Starting.{IsStartedAt}
 use Rattle.responder_core.proofs.clear.clear_part.ClearPart.answer.Goals as goal
 use Rattle.spdm_grammar.specs.declared.told.heard.Heard.TheVariants as heard
 
-pub returns-in-Heard : goal.returns-in-Heard
-returns-in-Heard c = λ r h f d setup free allowed stands held. (c.in-Heard.ensures.told r h f d setup free stands held).0
+pub returns-in-Same : goal.returns-in-Same
+returns-in-Same c = λ r h f d setup free allowed stands held. (c.in-Same.ensures.told r h f d setup free stands held).0
+
+pub returns-in-Refused : goal.returns-in-Refused
+returns-in-Refused c = λ r h f d setup free allowed stands held.
+    subst (λ (n : ℕ). IsAnswered r h c.args.tag c.args.message.now f d (heard.Refused n) c.on_clear.new.self c.on_clear.new.out) (sym c.number.ensures) (c.in-Refused.ensures.told r h f d setup free stands held).0
+
+pub returns-in-Answered : goal.returns-in-Answered
+returns-in-Answered c = λ r h f d setup free allowed stands held. (c.in-Answered.ensures.told r h f d setup free stands held).0
 
 pub returns-in-Begins : goal.returns-in-Begins
 returns-in-Begins c = λ r h f d setup free allowed stands held.

@@ -34,7 +34,7 @@ returns-in-Refused-clause-told c = λ r h f d setup free stands held.
     let anew : is_repeat (kept_of h) tag m ≡ false = ap (λ (k : Option Kept). is_repeat k tag m) (sym stood.kept) ∙ sym c.if-is_repeat.ensures in
     let now : Seen = record { requests = c.on_request.new.self; kept = c.self.inside.kept } in
     let come = subst (λ (n : ℕ). IsCome r (place_at InClear (clear_turns h) n) m f (came.Refused c.in-Refused.code) c.on_request.new.self c.on_request.new.out) (sym held) (c.in-Refused.ensures.come r (clear_turns h) f setup free stood.requests) in (
-      subst (λ (n : ℕ). IsAnswered r h tag m f d (hearing.Refused n) now c.on_request.new.out) (sym c.number.ensures) (refused_answered r h tag m f d c.in-Refused.code now c.on_request.new.out anew come.0 come.1 stood.kept),
+      refused_answered r h tag m f d c.in-Refused.code now c.on_request.new.out anew come.0 come.1 stood.kept,
       refused_begins_none r h tag m f d c.in-Refused.code anew come.0,
       sym (drawn_refused r h tag m f d c.in-Refused.code anew come.0),
     )
@@ -51,7 +51,7 @@ returns-in-Answered-clause-told c = λ r h f d setup free stands held.
     let come = subst (λ (n : ℕ). IsCome r (place_at InClear (clear_turns h) n) m f (came.Answered c.in-Answered.drawn) c.on_request.new.self c.on_request.new.out) (sym held) (c.in-Answered.ensures.come r (clear_turns h) f setup free stood.requests) in
     let short = turn_short r h m f setup.ordered setup.most come.0.0 in
     let kept = c.keep.ensures short (subst (λ (a : List ℕ). length a ≤ MAX_MESSAGE_SIZE) (sym c.as_slice.ensures.value) c.as_slice.ensures.fits) ∙ ap (λ (reply : List ℕ). Some (record { tag = tag; message = m; reply = reply })) c.as_slice.ensures.value in (
-      subst (λ (n : ℕ). IsAnswered r h tag m f d (hearing.Answered n) now c.on_request.new.out) (sym c.code_at.ensures) (taken_answered r h tag m f d now c.on_request.new.out anew come.0.0 come.0.1 kept),
+      subst (λ (n : ℕ). IsAnswered r h tag m f d (hearing.Answered n) now c.on_request.new.out) (sym c.code_at-code.ensures) (taken_answered r h tag m f d now c.on_request.new.out anew come.0.0 come.0.1 kept),
       begins_none r h tag m f d anew come.1,
       come.2 ∙ sym (drawn_anew r h tag m f d anew),
     )

@@ -3,13 +3,13 @@ use Rattle.negotiate.specs.declared.shared.Common.{Common}
 use Rattle.spdm_grammar.specs.declared.messages.choice.Choice.{Choice}
 use Rattle.psk_session.specs.Opening.{finishing}
 use Rattle.psk_session.proofs.Judged.{judged}
-use Rattle.psk_session.proofs.finishing.Finishing.take.Goals as goal
+use Rattle.psk_session.proofs.finishing.Finishing.answered.Goals as goal
 
 pub returns-in-Some : goal.returns-in-Some
 returns-in-Some c = λ psk n exchange answer pad stands. (
   c.in_default.ensures.fault psk n exchange answer pad stands,
   λ q h f id same.
-      judged psk (finishing psk n exchange answer pad) c.args.sealed.now c.as_slice.result.now c.args.self.terms.choice.hash _ q h f id
+      judged psk (finishing psk n exchange answer pad) c.args.sealed.now c.as_slice.result.now c.args.self.now.terms.choice.hash _ q h f id
       (c.as_slice.ensures.value ∙ c.in_default.ensures.inner psk n exchange answer pad stands) (ap (λ (x : Choice). x.hash) stands.terms.choice)
       (c.in-Some.ensures q (same ∙ ap (λ (x : Common). x.to_requester.transfer) (sym stands.terms.common))),
 )
@@ -19,7 +19,7 @@ returns-in-None c = λ psk n exchange answer pad stands. (
   (
     c.in_default.ensures.fault psk n exchange answer pad stands,
     λ q h f id same.
-        judged psk (finishing psk n exchange answer pad) c.args.sealed.now c.as_slice.result.now c.args.self.terms.choice.hash _ q h f id
+        judged psk (finishing psk n exchange answer pad) c.args.sealed.now c.as_slice.result.now c.args.self.now.terms.choice.hash _ q h f id
         (c.as_slice.ensures.value ∙ c.in_default.ensures.inner psk n exchange answer pad stands) (ap (λ (x : Choice). x.hash) stands.terms.choice)
         (c.in-None.ensures q (same ∙ ap (λ (x : Common). x.to_requester.transfer) (sym stands.terms.common))),
   ),
