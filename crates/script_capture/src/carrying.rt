@@ -115,11 +115,7 @@ fn carry(
 }
 
 // Runs events, and adds the packets that the link carries at them.
-fn carry_all(
-    alloc: Global,
-    world: &mut World,
-    events: &[Entry],
-) -> Result<Packets, CaptureFault>
+fn carry_all(alloc: Global, world: &mut World, events: &[Entry]) -> Result<Packets, CaptureFault>
     ensures packets { (w : machine.World) → StandsFor world.old w
         → IfOk result (λ packets. packets ≡ carried_from w (entries_in events.now)) }
     ensures few { IfOk result (λ packets. length packets ≤ most_packets) }

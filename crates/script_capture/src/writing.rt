@@ -8,7 +8,9 @@ ghost use Rattle.spdm_basis.specs.Stream.{HasFault, Takes, TakesPrefix};
 use crate::CaptureFault;
 use crate::carrying::carried_packets;
 use capture_text::{WriteError, write_packet_lines};
-use script_text::{LineFault, Packets, ScriptConfig, ScriptFault, TEXT_LIMIT, parse_script, print_config};
+use script_text::{
+    LineFault, Packets, ScriptConfig, ScriptFault, TEXT_LIMIT, parse_script, print_config,
+};
 use spdm_basis::{Sink, write_all};
 use std::alloc::Global;
 

@@ -94,10 +94,7 @@ fn draw_script<K: Sink>(
 }
 
 // What a text is as a capture.
-fn read_capture(
-    alloc: Global,
-    text: &[u8],
-) -> Result<Result<Capture, ScriptFault>, OutOfMemory>
+fn read_capture(alloc: Global, text: &[u8]) -> Result<Result<Capture, ScriptFault>, OutOfMemory>
     requires { length text.now ≤ TEXT_LIMIT }
     ensures { IfOk result (λ said. said ≡ capture_in text.now) }
 {
@@ -110,10 +107,7 @@ fn read_capture(
 }
 
 // What a text is as a script.
-fn read_script(
-    alloc: Global,
-    text: &[u8],
-) -> Result<Result<Script, ScriptFault>, OutOfMemory>
+fn read_script(alloc: Global, text: &[u8]) -> Result<Result<Script, ScriptFault>, OutOfMemory>
     requires { length text.now ≤ TEXT_LIMIT }
     ensures { IfOk result (λ said. said ≡ script_in text.now) }
 {

@@ -64,7 +64,13 @@ fn add_sent(
         ≡ rows.old ++ sent_row config.now events.now number sent.now ∷ []) }
 {
     let fate = fate_of(number, events);
-    let arrow = arrow_of(alloc, config, number as usize, fate, packet_at(number, sent))?;
+    let arrow = arrow_of(
+        alloc,
+        config,
+        number as usize,
+        fate,
+        packet_at(number, sent),
+    )?;
     rows.push(Row::Packet(arrow))
 }
 

@@ -52,7 +52,9 @@ fn tell(rt: &HostRuntime, outcome: Outcome) {
             eprintln!(rt; "line {line}: the link has no room for another packet: 65536 were sent")
         }
         Outcome::TooMany { line } => {
-            eprintln!(rt; "line {line}: more than 100000 packets of a capture, or 1000000 rows of a picture")
+            eprintln!(rt;
+                "line {line}: more than 100000 packets of a capture, or 1000000 rows of a picture"
+            )
         }
         Outcome::BadFile { fault } => eprintln!(rt; "the file: {fault}"),
         Outcome::ReadFault => eprintln!(rt; "reading failed"),
