@@ -536,6 +536,20 @@ uint32_t spdm_requester_session(struct spdm_requester *requester, size_t index, 
  */
 uint32_t spdm_requester_data(struct spdm_requester *requester, uint8_t *room, size_t room_len, size_t *len);
 
+/*
+ * Writes what PSK_EXCHANGE_RSP told of the session with this ReqSessionID (the low half of `id` of struct spdm_session),
+ * from the answer on as long as there is a session: the HeartbeatPeriod in seconds, 0 for no heartbeat; the measurement
+ * summary, 32 or 48 bytes where SPDM_OPEN asked for one and else none; the opaque data of the responder, at most 1,024
+ * bytes. SPDM_NONE: no session with this id was accepted. SPDM_ROOM as for a packet.
+ */
+uint32_t spdm_requester_period(struct spdm_requester *requester, uint16_t req_id, uint32_t *period);
+
+uint32_t spdm_requester_summary(struct spdm_requester *requester, uint16_t req_id, uint8_t *room, size_t room_len,
+                                size_t *len);
+
+uint32_t spdm_requester_opaque(struct spdm_requester *requester, uint16_t req_id, uint8_t *room, size_t room_len,
+                               size_t *len);
+
 /* Closes it, and gives its memory back. One that is not open stays so. It may be opened again. */
 void spdm_requester_close(struct spdm_requester *requester);
 

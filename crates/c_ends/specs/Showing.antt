@@ -1,8 +1,9 @@
 -- What C is shown of a connection and of a session.
-use Rattle.std.specs.Prelude.{ℕ, Bool, true, false, length, replicate}
+use Rattle.std.specs.Prelude.{List, ℕ, Bool, true, false, length, replicate}
 use Rattle.c_ends.specs.Telling.{session_number}
 use Rattle.c_ends.specs.Writing.{over}
 use Rattle.c_ends.specs.declared.session.Session.{Session}
+use Rattle.psk_session.specs.declared.session_told.SessionTold.{SessionTold}
 use Rattle.spdm_basis.specs.declared.values.aead_alg.AeadAlg.{AeadAlg}
 use Rattle.spdm_basis.specs.declared.values.aead_alg.AeadAlg.TheVariants.{Aes128Gcm, Aes256Gcm}
 use Rattle.spdm_basis.specs.declared.values.hash_alg.HashAlg.{HashAlg}
@@ -53,3 +54,13 @@ shown v = record {
   hash_len = length v.hash;
   hash = over v.hash (replicate 48 0);
 }
+
+-- What PSK_EXCHANGE_RSP told of a session, field by field.
+abbrev pub told_period : SessionTold → ℕ
+told_period told = told.period
+
+abbrev pub told_summary : SessionTold → List ℕ
+told_summary told = told.summary
+
+abbrev pub told_opaque : SessionTold → List ℕ
+told_opaque told = told.opaque

@@ -20,6 +20,7 @@ pub mod parts;
 mod requester_calls;
 mod requester_handle;
 pub mod requester_set_up;
+mod requester_told;
 mod requester_views;
 mod responder_calls;
 mod responder_changes;

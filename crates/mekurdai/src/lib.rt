@@ -7,6 +7,7 @@
 mod attestor_exports;
 mod boots;
 mod requester_exports;
+mod requester_told;
 mod responder_exports;
 mod responder_looks;
 mod sizes;

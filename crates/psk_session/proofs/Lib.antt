@@ -11,3 +11,4 @@ pub mod Taking
 pub mod Entries
 pub mod Standings
 pub mod OwnSealed
+pub mod ToldAnswers

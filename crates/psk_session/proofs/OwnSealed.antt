@@ -109,6 +109,7 @@ keeps_repadded w before inner old new kept psk s epoch k =
       response_next = k.response_next;
       taken = k.taken;
       th2 = k.th2 ∙ ap (λ (t : List ℕ). (session_hash s).digest t) same;
+      told = k.told;
     }
 
 -- ---- How long the record of PSK_FINISH is.

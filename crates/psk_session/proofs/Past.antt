@@ -80,6 +80,7 @@ keeps_asked a w before inner sealed kept new psk s epoch asks is few k =
       response_next = k.response_next;
       taken = k.taken;
       th2 = k.th2 ∙ ap (λ (t : List ℕ). (session_hash s).digest t) (sym e);
+      told = k.told;
     })
 
 -- ---- Records taken.
@@ -116,6 +117,7 @@ keeps_taken had sealed inner effect kept new psk s epoch is k opens updated brin
           ∙ sym (ap (λ (b : Bool). if b then 0 else (if updates_all effect then 1 else response_next s + 1)) opens ∙ ap (λ (b : Bool). if b then 1 else response_next s + 1) (no_update_all effect updated));
       taken = λ small. ap (λ (b : Bool). if b then min (kept.taken + 1) (2 ^ 64 - 1) else kept.taken) brings ∙ more_data (is_data effect) kept.taken (taken_of s) k.taken small;
       th2 = k.th2 ∙ ap (λ (t : List ℕ). (session_hash s).digest t) (sym e);
+      told = k.told;
     })
 
 updated_next : (all : Bool) (kept of next : ℕ) → kept ≡ of → of ≤ 65535 → next ≡ (if all then 1 else min (kept + 1) (2 ^ 32 - 1)) → next ≡ (if all then 1 else of + 1)
@@ -142,6 +144,7 @@ keeps_updated all sealed inner answer kept new psk s is next_key next k few =
       response_next = updated_next all kept.response_next (response_next s) new.response_next k.response_next few next;
       taken = k.taken;
       th2 = k.th2;
+      told = k.told;
     })
 
 epoch_ahead : (b : Bool) (n : ℕ) → b ≡ true → n + 1 ≡ (if b then n + 1 else n)
@@ -164,6 +167,7 @@ keeps_ahead a kept new psk s all is next_key k =
       response_next = k.response_next;
       taken = k.taken;
       th2 = k.th2;
+      told = k.told;
     }))
 
 -- ---- The answer.

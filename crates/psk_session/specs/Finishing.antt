@@ -1,6 +1,6 @@
 -- A session at the requester while PSK_FINISH_RSP is awaited (DSP0274, "PSK_FINISH",
 -- "PSK_FINISH_RSP").
-use Rattle.std.specs.Prelude.{◌≡◌, ℕ, List, ◌++◌}
+use Rattle.std.specs.Prelude.{◌≡◌, ℕ, List, Some, ◌++◌}
 use Rattle.key_schedule.specs.Keys.{DirectionSecret}
 use Rattle.key_schedule.specs.Purpose.{handshake_record}
 use Rattle.key_schedule.specs.declared.direction.Direction.TheVariants.{Response}
@@ -19,9 +19,11 @@ use Rattle.session_keys.specs.Terms.{AreTermsOf}
 use Rattle.session_keys.specs.declared.handshake.Handshake.{Handshake}
 use Rattle.session_keys.specs.declared.terms.SessionTerms.{SessionTerms}
 use Rattle.psk_session.specs.Opening.{accepted, finish_record}
+use Rattle.psk_session.specs.Told.{told_of}
+use Rattle.psk_session.specs.declared.session_told.SessionTold.{SessionTold}
 
 -- The state as contracts see it: the running hash of the transcript so far, what the handshake fixed, the key of the
--- responder's records, the id, the record of PSK_FINISH and the terms.
+-- responder's records, the id, the record of PSK_FINISH, the terms, and what PSK_EXCHANGE_RSP told.
 pub record Seen : Type 0 where
   pub lane : Lane
   pub handshake : Handshake
@@ -29,6 +31,7 @@ pub record Seen : Type 0 where
   pub id : SessionId
   pub sent : List ℕ
   pub terms : SessionTerms
+  pub told : SessionTold
 
 -- PSK_FINISH.
 abbrev pub finish_message : (psk : List ℕ) → Negotiation → (exchange answer : List ℕ) → List ℕ
@@ -48,3 +51,4 @@ pub record StandsFor (seen : Seen) (psk : List ℕ) (n : Negotiation)
       (handshake_record psk (t1_of (accepted n exchange answer)) Response)
   pub id : seen.id ≡ session_id (accepted n exchange answer)
   pub sent : seen.sent ≡ finish_record psk (accepted n exchange answer) pad
+  pub told : told_of (accepted n exchange answer) ≡ Some seen.told

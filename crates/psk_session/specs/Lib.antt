@@ -1,4 +1,5 @@
 pub mod Opening
+pub mod Told
 pub mod Finishing
 pub mod Opened
 pub mod Inner

@@ -2,10 +2,19 @@
 use Rattle.std.specs.Prelude.{◌≡◌, ℕ, List, Some, None, Result, Ok, Err}
 use Rattle.transcript.specs.Transcripts.{Negotiation}
 use Rattle.psk_session.specs.Finishing.{StandsFor}
-use Rattle.psk_session.specs.Opening.{Seen, open_fault}
+use Rattle.psk_session.specs.Opening.{Seen, accepted, open_fault}
 use Rattle.psk_session.specs.declared.finishing.Finishing.{Finishing}
 use Rattle.psk_session.specs.declared.open_fault.OpenFault.{OpenFault}
 use Rattle.psk_session.specs.declared.opening.Opening.{Opening}
+use Rattle.psk_session.specs.declared.session_told.SessionTold.{SessionTold}
+use Rattle.psk_session.specs.Told.{told_of}
+
+-- What the answer told of the session; or its fault.
+abbrev pub IsToldBy : (psk : List ℕ) → Negotiation → (exchange answer : List ℕ)
+    → Result SessionTold OpenFault → Type 0
+IsToldBy psk n exchange answer (Ok told) =
+    (open_fault psk n exchange answer ≡ None) × (told_of (accepted n exchange answer) ≡ Some told)
+IsToldBy psk n exchange answer (Err fault) = open_fault psk n exchange answer ≡ Some fault
 
 -- A state of the accepted session, whose PSK_FINISH has this padding; or the fault of the answer.
 abbrev pub IsAnswered : (psk : List ℕ) → Negotiation → (exchange answer pad : List ℕ)

@@ -10,6 +10,7 @@ ghost use Rattle.transcript.specs.Lane as lanes;
 ghost use Rattle.transcript.specs.Lane.{lane_hash};
 ghost use Rattle.transcript.specs.Transcripts.{Negotiation, vca_of};
 ghost use Rattle.psk_session.specs.Finishing.{StandsFor};
+ghost use Rattle.psk_session.specs.Told.{told_of};
 ghost use Rattle.psk_session.specs.ReqOpen as open_state;
 ghost use Rattle.session_keys.specs.Handshake.{IsHandshakeOf};
 ghost use Rattle.session_keys.specs.Terms.{AreTermsOf};
@@ -25,7 +26,7 @@ use crate::inner::{Inner, read_inner};
 use crate::kept::Kept;
 use crate::req_session::ReqSession;
 use crate::requests::write_finish;
-use crate::{Closed, FinishAnswer, FinishTook, ReqOpen, SessionTerms};
+use crate::{Closed, FinishAnswer, FinishTook, ReqOpen, SessionTerms, SessionTold};
 use secured_record::{RecordFault, RecordKey};
 use session_keys::{Handshake, behind_type, open_record};
 use spdm_basis::{Buffer, Frame, RecordFrame, SessionId};
@@ -42,6 +43,7 @@ pub struct Finishing {
     pub(crate) id: SessionId,
     pub(crate) sent: Buffer<96>,
     pub(crate) terms: SessionTerms,
+    pub(crate) told: SessionTold,
 }
 
 impl Model for Finishing {
@@ -58,6 +60,7 @@ impl Model for Finishing {
       id = f.id;
       sent = f.sent;
       terms = f.terms;
+      told = f.told;
     } };
 
     ghost invariant = { λ f. (lane_hash f.lane ≡ f.terms.choice.hash)
@@ -65,13 +68,14 @@ impl Model for Finishing {
 }
 
 impl Finishing {
-    // The session whose PSK_EXCHANGE_RSP told this RspSessionID, with this padding for PSK_FINISH.
+    // The session whose PSK_EXCHANGE_RSP told this RspSessionID and this, with this padding for PSK_FINISH.
     // The lane was given the transcript up to PSK_EXCHANGE_RSP.
     pub(crate) fn new(
         mut lane: Lane,
         handshake: Handshake,
         terms: SessionTerms,
         rsp_id: u16,
+        told: SessionTold,
         pad: &[u8],
     ) -> Finishing
         requires lane { lane_hash lane ≡ terms.choice.hash }
@@ -82,7 +86,8 @@ impl Finishing {
             → IsHandshakeOf handshake (terms_of n).choice psk
             (t1_of (accepted n exchange answer))
             → lanes.StandsFor lane (vca_of n ++ exchange ++ answer)
-            → rsp_id ≡ id_in_exchange answer → StandsFor result psk n exchange answer pad.now }
+            → rsp_id ≡ id_in_exchange answer → told_of (accepted n exchange answer) ≡ Some told
+            → StandsFor result psk n exchange answer pad.now }
     {
         let id = SessionId {
             req: terms.req_id,
@@ -100,6 +105,7 @@ impl Finishing {
             id,
             sent,
             terms,
+            told,
         }
     }
 
@@ -121,6 +127,13 @@ impl Finishing {
             hash: self.handshake.th1.clone().unwrap(),
             choice: self.terms.choice,
         }
+    }
+
+    /// What PSK_EXCHANGE_RSP told of the session.
+    pub fn told(&self) -> &SessionTold
+        ensures { result.now ≡ self.now.told }
+    {
+        &self.told
     }
 
     /// The record of PSK_FINISH, to be sent again.
@@ -212,6 +225,7 @@ impl Finishing {
             th2,
             id: self.id,
             terms: self.terms,
+            told: self.told.clone().unwrap(),
         };
         ReqOpen {
             session: ReqSession::new(kept),

@@ -6,6 +6,7 @@ use crate::inner::{Inner, read_inner};
 use crate::outcome::{Outcome, store_data};
 use crate::requests::{operation_of, write_inner_data, write_inner_request};
 use crate::session_request::{Awaited, SessionRequest};
+use crate::session_told::SessionTold;
 use crate::updates::update;
 use crate::verdict::{Meaning, Verdict, whole_verdict};
 use chunking::{Collected, Collector};
@@ -18,7 +19,7 @@ use spdm_grammar::{BadReply, ChunkView, Request, SessionView, Stage};
 const MOST_MEASURED: u32 = 65_300;
 
 // What a session keeps once it is open: the keys with the numbers of their next records, how many application messages
-// were taken, the hash of T2, the id and the terms. While the answer to an update of all keys is awaited, the key of
+// were taken, the hash of T2, the id, the terms, and what PSK_EXCHANGE_RSP told. While the answer to an update of all keys is awaited, the key of
 // responses is the next one.
 #[derive(Drop)]
 pub struct Kept {
@@ -30,6 +31,7 @@ pub struct Kept {
     pub th2: HashBytes,
     pub id: SessionId,
     pub terms: SessionTerms,
+    pub told: SessionTold,
 }
 
 // The number of a record, which has two bytes.

@@ -1,4 +1,4 @@
-ghost use Rattle.std.specs.Prelude.{◌≡◌, ◌≤◌, ◌++◌, [], ℕ, List, length};
+ghost use Rattle.std.specs.Prelude.{◌≡◌, ◌≤◌, ◌++◌, [], ℕ, List, Some, length};
 ghost use Rattle.running_hash.specs.Hash.{hash_of};
 ghost use Rattle.spdm_basis.specs.Sizes.{hash_size};
 ghost use Rattle.transcript.specs.Transcripts.{Negotiation, vca_of, without_verify};
@@ -6,16 +6,17 @@ ghost use Rattle.requester_machine.specs.Session.{t1_of};
 ghost use Rattle.spdm_machine.specs.Terms.{terms_of};
 ghost use Rattle.transcript.specs.Lane as lane;
 ghost use Rattle.session_keys.specs.Terms.{AreTermsOf};
-ghost use Rattle.psk_session.specs.Opening.{StandsFor, accepted, open_fault};
+ghost use Rattle.psk_session.specs.Opening.{StandsFor, accepted};
 ghost use Rattle.psk_session.specs.Finishing as finishing;
 ghost use Rattle.session_keys.specs.Handshake.{IsHandshakeOf};
-ghost use Rattle.psk_session.specs.Opened.{IsAnswered, IsTaken};
+ghost use Rattle.psk_session.specs.Opened.{IsAnswered, IsTaken, IsToldBy};
+ghost use Rattle.psk_session.specs.Told.{told_of};
 ghost use Rattle.psk_session.specs.Wiped.{IsWipedOpening};
 ghost use Rattle.spdm_grammar.specs.declared.names.TheConstants.{MAX_PADDING};
 
 use crate::answers::{read_exchange_rsp, told_id};
 use crate::finish_record::lane_with;
-use crate::{Finishing, OpenFault, SessionTerms, wipe_psk};
+use crate::{Finishing, OpenFault, SessionTerms, SessionTold, wipe_psk};
 use byte_compare::same_bytes;
 use session_keys::{Handshake, without_verify};
 use spdm_basis::{HashBytes, Psk};
@@ -87,21 +88,21 @@ impl Opening {
         Handshake::new(choice.hash, choice.aead, &self.psk, self.hash_with(answer))
     }
 
-    // The fault of an answer, whose handshake this is.
-    fn fault(&self, answer: &[u8], handshake: &Handshake) -> Option<OpenFault>
+    // What an answer tells, whose handshake this is, or its fault.
+    fn told(&self, answer: &[u8], handshake: &Handshake) -> Result<SessionTold, OpenFault>
         ensures { (psk : List ℕ) (n : Negotiation) (exchange : List ℕ)
             → StandsFor self.now psk n exchange
             → IsHandshakeOf handshake.now (terms_of n).choice psk
             (t1_of (accepted n exchange answer.now))
-            → result ≡ open_fault psk n exchange answer.now }
+            → IsToldBy psk n exchange answer.now result }
     {
         match read_exchange_rsp(answer, self.terms.choice.hash.size(), self.terms.summary) {
-            Err(at) => Some(OpenFault::Malformed(at)),
+            Err(at) => Err(OpenFault::Malformed(at)),
             Ok(rsp) => {
                 if same_bytes(rsp.verify, handshake.responder_verify().as_slice()) {
-                    None
+                    Ok(SessionTold::of(&rsp))
                 } else {
-                    Some(OpenFault::BadVerify)
+                    Err(OpenFault::BadVerify)
                 }
             }
         }
@@ -141,23 +142,30 @@ impl Opening {
             → IsAnswered psk n exchange answer.now pad.now result }
     {
         let handshake = self.handshake_with(answer);
-        match self.fault(answer, &handshake) {
-            Some(fault) => Err(fault),
-            None => Ok(self.accept(answer, handshake, pad)),
+        match self.told(answer, &handshake) {
+            Err(fault) => Err(fault),
+            Ok(told) => Ok(self.accept(answer, told, handshake, pad)),
         }
     }
 
-    // The session with its sound answer, whose handshake this is.
-    fn accept(&self, answer: &[u8], handshake: Handshake, pad: &[u8]) -> Finishing
+    // The session with its sound answer, which told this, and whose handshake this is.
+    fn accept(
+        &self,
+        answer: &[u8],
+        told: SessionTold,
+        handshake: Handshake,
+        pad: &[u8],
+    ) -> Finishing
         requires hash { handshake.keys.hash ≡ self.now.terms.choice.hash }
         requires pad { length pad.now ≤ MAX_PADDING }
         ensures { (psk : List ℕ) (n : Negotiation) (exchange : List ℕ)
             → StandsFor self.now psk n exchange
             → IsHandshakeOf handshake (terms_of n).choice psk
             (t1_of (accepted n exchange answer.now))
+            → told_of (accepted n exchange answer.now) ≡ Some told
             → finishing.StandsFor result psk n exchange answer.now pad.now }
     {
         let lane = lane_with(&self.lane, answer);
-        Finishing::new(lane, handshake, self.terms, told_id(answer), pad)
+        Finishing::new(lane, handshake, self.terms, told_id(answer), told, pad)
     }
 }

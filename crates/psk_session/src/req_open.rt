@@ -7,7 +7,7 @@ ghost use Rattle.psk_session.specs.ReqSession.{IsOpen};
 ghost use Rattle.spdm_grammar.specs.declared.names.TheConstants.{MAX_PADDING};
 
 use crate::req_session::ReqSession;
-use crate::{AskFault, SessionRequest, Waiting};
+use crate::{AskFault, SessionRequest, SessionTold, Waiting};
 use spdm_grammar::SessionView;
 use std::marker::Model;
 
@@ -37,6 +37,13 @@ impl ReqOpen {
         ensures response_epoch { result.response_epoch ≡ self.now.kept.response.epoch }
     {
         self.session.view()
+    }
+
+    /// What PSK_EXCHANGE_RSP told of the session.
+    pub fn told(&self) -> &SessionTold
+        ensures { result.now ≡ self.now.kept.told }
+    {
+        self.session.told()
     }
 
     /// The application data or the measurement record of the last answer; empty where it had none.

@@ -23,6 +23,7 @@ use crate::outcome::store_data;
 use crate::response_outcome::ResponseOutcome;
 use crate::session_request::{Awaited, SessionRequest};
 use crate::session_state::SessionState;
+use crate::session_told::SessionTold;
 use crate::verdict::Meaning;
 use chunking::Collector;
 use secured_record::RecordFault;
@@ -113,6 +114,13 @@ impl ReqSession {
         } else {
             epoch
         }
+    }
+
+    /// What PSK_EXCHANGE_RSP told of the session.
+    pub fn told(&self) -> &SessionTold
+        ensures { result.now ≡ self.now.kept.told }
+    {
+        &self.kept.told
     }
 
     /// The record last sealed, to be sent again; empty unless a response is awaited.

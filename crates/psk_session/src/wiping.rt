@@ -1,7 +1,7 @@
 ghost use Rattle.std.specs.Prelude.{◌≡◌, replicate};
 
 use crate::kept::Kept;
-use crate::{Finishing, ReqSession, SessionTerms};
+use crate::{Finishing, ReqSession, SessionTerms, SessionTold};
 use negotiate::{Common, Sizes};
 use secured_record::RecordKey;
 use session_keys::{wipe_buffer, wipe_key, zero_hash};
@@ -45,6 +45,7 @@ fn kept_of_none() -> Kept {
         th2: zero_hash(choice.hash),
         id: SessionId { req: 0, rsp: 0 },
         terms: NO_TERMS,
+        told: SessionTold::none(),
     }
 }
 

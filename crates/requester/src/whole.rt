@@ -2,7 +2,7 @@ use crate::part::Part;
 use crate::{ReqConfig, ReqConfigFault};
 use hmac_hkdf::DrawStream;
 use mctp_framing::Assembler;
-use requester_core::{Body, RequesterCore};
+use requester_core::{Body, RequesterCore, SessionTold};
 use spdm_grammar::names::MAX_BODY_SIZE;
 use spdm_grammar::{Phase, SessionList};
 use std::alloc::Global;
@@ -25,13 +25,15 @@ pub struct Requester {
 }
 
 impl Requester {
-    ghost use Rattle.std.specs.Prelude.{◌≡◌, ◌≤◌, ◌*◌, ◌-◌, ◌^◌, None, IfErr, IfOk, OnOk};
+    ghost use Rattle.std.specs.Prelude.{◌≡◌, ◌≤◌, ◌*◌, ◌-◌, ◌^◌, None, Some, IfErr, IfOk, MatchOption, OnOk};
     ghost use Rattle.requester.specs.Config.{IsCause, config_fault};
     ghost use Rattle.requester.specs.SetUp.{end_of};
     ghost use Rattle.requester.specs.Standing.{StandsFor};
     ghost use Rattle.requester_machine.specs.History.{phase_of};
     ghost use Rattle.requester_machine.specs.Requesting.{Requesting, new_requesting};
+    ghost use Rattle.requester_machine.specs.Session.{session_of};
     ghost use Rattle.requester_machine.specs.Shown.{last_data, views_of};
+    ghost use Rattle.psk_session.specs.Told.{told_of};
 
     /// A requester in its initial state. `ReqConfigFault` lists the faults in the order of the checks.
     pub fn new(
@@ -90,6 +92,17 @@ impl Requester {
         ensures { (a : Requesting) → StandsFor self.now a → result ≡ views_of a.history }
     {
         self.asking.sessions()
+    }
+
+    /// What PSK_EXCHANGE_RSP told of the session with this ReqSessionID (DSP0274, "PSK_EXCHANGE_RSP response message
+    /// format"): HeartbeatPeriod, measurement summary and opaque data. None before it was accepted, and where there is
+    /// no session.
+    pub fn told(&self, id: u16) -> Option<&SessionTold>
+        ensures { (a : Requesting) → StandsFor self.now a → MatchOption result
+            (told_of (session_of id a.history) ≡ None)
+            (λ told. told_of (session_of id a.history) ≡ Some told.now) }
+    {
+        self.asking.told(id)
     }
 
     /// The application data or measurement record received last; empty before the first.

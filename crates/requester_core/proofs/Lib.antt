@@ -29,3 +29,4 @@ pub mod OwedClear
 pub mod TakenBack
 pub mod BrokenOff
 pub mod NextPieces
+pub mod SlotTold

@@ -1,5 +1,6 @@
 use crate::{ClearState, Sessions};
 use chunking::Collector;
+use psk_session::SessionTold;
 use negotiate::Common;
 use spdm_basis::Frame;
 use spdm_grammar::{Choice, Phase, SessionList, SessionView};
@@ -17,10 +18,11 @@ pub struct RequesterCore {
 
 impl RequesterCore {
     ghost use Rattle.spdm_grammar.specs.declared.names.TheConstants.{MAX_MESSAGE_SIZE};
-    ghost use Rattle.std.specs.Prelude.{replicate, ◌≡◌, ◌≤◌, ◌<◌, ◌^◌, ◌-◌, [], length};
+    ghost use Rattle.std.specs.Prelude.{replicate, ◌≡◌, ◌≤◌, ◌<◌, ◌^◌, ◌-◌, [], MatchOption, None, Some, length};
     ghost use Rattle.requester_core.specs.Joined.{StandsFor};
     ghost use Rattle.requester_core.specs.Slot.{shown_of};
     ghost use Rattle.requester_core.specs.Wiped.{IsWiped};
+    ghost use Rattle.psk_session.specs.Told.{told_of};
     ghost use Rattle.requester_machine.specs.Commands.{live_count};
     ghost use Rattle.requester_machine.specs.Does.{free_id};
     ghost use Rattle.requester_machine.specs.History.{History, connection_terms, next_handle, phase_of};
@@ -96,6 +98,16 @@ impl RequesterCore {
             → result ≡ shown_of (session_of id h) }
     {
         self.sessions.view(id)
+    }
+
+    /// What PSK_EXCHANGE_RSP told of the session with this ReqSessionID; none before it came, and where there is no
+    /// session.
+    pub fn told(&self, id: u16) -> Option<&SessionTold>
+        ensures { (q : ReqSetup) (h : History) → StandsFor self.now q h → MatchOption result
+            (told_of (session_of id h) ≡ None)
+            (λ told. told_of (session_of id h) ≡ Some told.now) }
+    {
+        self.sessions.told(id)
     }
 
     /// Views of the sessions, by rising ReqSessionID.

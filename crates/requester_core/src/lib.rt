@@ -34,6 +34,6 @@ pub use in_sessions::session_laws::{clear_passes, measure_passes};
 pub use in_sessions::sessions::Sessions;
 pub use in_sessions::slot::Slot;
 pub use joined::RequesterCore;
-pub use psk_session::wipe_psk;
+pub use psk_session::{SessionTold, wipe_psk};
 pub use reaction::Reaction;
 pub use setup::Setup;

@@ -4,7 +4,7 @@ ghost use Rattle.spdm_grammar.specs.declared.names.TheConstants.{MAX_PADDING, MA
 ghost use Rattle.secured_record.specs.declared.TheConstants.{MAX_RECORD_SIZE};
 
 use crate::{ClearState, RecordOutcome, Slot};
-use psk_session::{OpenFault, Opening, SessionRequest, SessionTerms};
+use psk_session::{OpenFault, Opening, SessionRequest, SessionTerms, SessionTold};
 use spdm_basis::{Psk, RecordFault};
 use spdm_grammar::names::{MAX_SESSIONS, SESSION_PLACES};
 use spdm_grammar::{CommandFault, ReqIgnored, SessionView};
@@ -52,7 +52,7 @@ fn least_free(first: bool, second: bool, third: bool) -> u16
 }
 
 impl Sessions {
-    ghost use Rattle.std.specs.Prelude.{◌≡◌, ◌≢◌, ◌≤◌, ◌<◌, ◌^◌, ◌-◌, ◌∷◌, [], None, Some, Bool, false, true, ℕ, List, drop, length};
+    ghost use Rattle.std.specs.Prelude.{◌≡◌, ◌≢◌, ◌≤◌, ◌<◌, ◌^◌, ◌-◌, ◌∷◌, [], MatchOption, None, Some, Bool, false, true, ℕ, List, drop, length};
     ghost use Rattle.requester_core.specs.RecordOutcome.{IsStepped};
     ghost use Rattle.requester_core.specs.SessionSteps.{BringsExchange, IsBegunBy, IsRecordOf, IsRecorded, IsToldTo};
     ghost use Rattle.requester_core.specs.Sessions.{IsNamed, StandsFor, session_for, slot_of};
@@ -64,6 +64,7 @@ impl Sessions {
     ghost use Rattle.psk_session.specs.AskLaws.{command_at};
     ghost use Rattle.psk_session.specs.Data.{data_of};
     ghost use Rattle.psk_session.specs.Opening.{started};
+    ghost use Rattle.psk_session.specs.Told.{told_of};
     ghost use Rattle.psk_session.specs.Waiting.{IsNewest};
     ghost use Rattle.requester_machine.specs.Asking.{asks};
     ghost use Rattle.requester_machine.specs.Asking.Outcome.{Adds};
@@ -292,6 +293,26 @@ impl Sessions {
             return None;
         }
         self.slots[usize::from(id) - 1].view()
+    }
+
+    /// What PSK_EXCHANGE_RSP told of the session with this ReqSessionID.
+    pub fn told(&self, id: u16) -> Option<&SessionTold>
+        ensures { (q : ReqSetup) (h : History) → StandsFor self.now q h → MatchOption result
+            (told_of (session_of id h) ≡ None)
+            (λ told. told_of (session_of id h) ≡ Some told.now) }
+    {
+        self.told_at(id)
+    }
+
+    // What the session with this ReqSessionID was told.
+    fn told_at(&self, id: u16) -> Option<&SessionTold>
+        ensures { (psk : List ℕ) (s : Steps) → IsSlotOf (slot_of self.now id) psk s
+            → MatchOption result (told_of s ≡ None) (λ told. told_of s ≡ Some told.now) }
+    {
+        if id == 0 || id > MAX_SESSIONS as u16 {
+            return None;
+        }
+        self.slots[usize::from(id) - 1].told()
     }
 
     // Puts a session into the slot with this ReqSessionID.

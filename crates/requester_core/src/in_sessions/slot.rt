@@ -14,7 +14,7 @@ ghost use Rattle.secured_record.specs.declared.TheConstants.{MAX_RECORD_SIZE};
 use crate::RecordOutcome;
 use psk_session::{
     AskFault, FinishAnswer, Finishing, OpenFault, Opening, Reply, ReqSession, ResponseOutcome,
-    SessionRequest,
+    SessionRequest, SessionTold,
 };
 use spdm_basis::{RecordFault, SessionId};
 use spdm_grammar::{CommandFault, Event, Finished, SessionView};
@@ -84,7 +84,7 @@ fn step(session: &mut ReqSession, sealed: &[u8], pad: &[u8]) -> RecordOutcome
 }
 
 impl Slot {
-    ghost use Rattle.std.specs.Prelude.{◌≡◌, ◌≤◌, ◌<◌, ◌-◌, ◌^◌, [], ℕ, List, None, Some, length};
+    ghost use Rattle.std.specs.Prelude.{◌≡◌, ◌≤◌, ◌<◌, ◌-◌, ◌^◌, [], ℕ, List, MatchOption, None, Some, length};
     ghost use Rattle.requester_core.specs.RecordOutcome.{IsStepped, settled};
     ghost use Rattle.requester_core.specs.Slot.{IsFinishingSlot, IsSlotOf, shown_of};
     ghost use Rattle.requester_core.specs.SlotSteps.{IsAcceptedBy, IsAskedOf};
@@ -92,6 +92,7 @@ impl Slot {
     ghost use Rattle.requester_core.specs.declared.in_sessions.slot.Slot.TheVariants as slot;
     ghost use Rattle.psk_session.specs.Data.{data_of};
     ghost use Rattle.psk_session.specs.Opening.{started};
+    ghost use Rattle.psk_session.specs.Told.{told_of};
     ghost use Rattle.psk_session.specs.Waiting.{IsNewest};
     ghost use Rattle.requester_machine.specs.Message as message;
     ghost use Rattle.requester_machine.specs.Order.{FitsWaits, IsOrdered, Waits, waiting_ask};
@@ -244,6 +245,18 @@ impl Slot {
         match self {
             Slot::Empty | Slot::Opening(_) | Slot::Finishing(_) => &[],
             Slot::Live(session) => session.data(),
+        }
+    }
+
+    /// What PSK_EXCHANGE_RSP told of the session, from then on.
+    pub fn told(&self) -> Option<&SessionTold>
+        ensures { (psk : List ℕ) (s : Steps) → IsSlotOf self.now psk s
+            → MatchOption result (told_of s ≡ None) (λ told. told_of s ≡ Some told.now) }
+    {
+        match self {
+            Slot::Empty | Slot::Opening(_) => None,
+            Slot::Finishing(state) => Some(state.told()),
+            Slot::Live(session) => Some(session.told()),
         }
     }
 

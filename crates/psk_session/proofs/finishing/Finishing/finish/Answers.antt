@@ -42,6 +42,7 @@ returns c = λ psk n exchange answer pad sealed stands held.
         response_next = refl;
         taken = λ _. refl;
         th2 = th2;
+        told = inside.told;
       });
       few = (omega arith, omega arith);
       brought = c.new-3.ensures.brought;

@@ -10,11 +10,11 @@ use Rattle.psk_session.specs.Opening.{accepted}
 use Rattle.psk_session.proofs.finishing.Finishing.new.Goals as goal
 
 pub returns : goal.returns
-returns c = λ psk n exchange answer terms handshake pushed told.
+returns c = λ psk n exchange answer terms handshake pushed id_told told.
     let message : c.write_finish.new.out ≡ finish_message psk n exchange answer =
     c.write_finish.ensures.value
     ∙ ap (λ (v : List ℕ). canonical_request (PskFinish v)) (c.as_slice.ensures.value ∙ c.verify_of_finish.ensures.value psk n exchange answer handshake pushed) in
-    let id : record { req = c.args.terms.req_id; rsp = c.args.rsp_id } ≡ session_id (accepted n exchange answer) = λ i. record { req = terms.req_id i; rsp = told i } in
+    let id : record { req = c.args.terms.req_id; rsp = c.args.rsp_id } ≡ session_id (accepted n exchange answer) = λ i. record { req = terms.req_id i; rsp = id_told i } in
     record {
       terms = terms;
       handshake = handshake;
@@ -23,4 +23,5 @@ returns c = λ psk n exchange answer terms handshake pushed told.
       response = c.response_key-response.ensures (terms_of n).choice psk (t1_of (accepted n exchange answer)) handshake;
       id = id;
       sent = c.seal_finish-sent.ensures psk n exchange answer handshake id (c.as_slice-3.ensures.value ∙ message);
+      told = told;
     }

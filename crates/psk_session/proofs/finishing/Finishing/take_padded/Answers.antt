@@ -23,5 +23,6 @@ returns-clause-repadded c = λ psk n exchange answer pad stands.
         response = inside.response;
         id = inside.id;
         sent = written ∙ padded.2;
+        told = inside.told;
       },
     )
