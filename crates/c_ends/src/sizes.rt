@@ -1,8 +1,8 @@
 use crate::open_requester::OpenRequester;
 use crate::open_responder::OpenResponder;
 use mctp_framing::Assembler;
-use responder::Known;
-use responder_core::Connection;
+use responder::{Known, responder_blocks};
+use responder_core::{Connection, connection_blocks};
 use spdm_grammar::BlockSpec;
 use spdm_grammar::names::MAX_BODY_SIZE;
 
@@ -14,7 +14,9 @@ const FIRST_BLOCKS: usize = 4;
 
 // The size of what a responder keeps of a requester.
 fn requester_share() -> usize {
-    size_of::<(Known, Connection, Assembler)>() + MAX_BODY_SIZE
+    connection_blocks()
+        .saturating_add(size_of::<(Known, Connection, Assembler)>())
+        .saturating_add(MAX_BODY_SIZE)
 }
 
 /// The most memory that opening a responder has taken at any time, in bytes, with so many requesters and blocks, whose
@@ -23,6 +25,7 @@ pub fn responder_size(requesters: usize, blocks: usize, bytes: usize) -> usize {
     let each = requester_share().saturating_add(size_of::<Known>());
     let listed = FIRST_BLOCKS.saturating_add(blocks.saturating_mul(4));
     size_of::<OpenResponder>()
+        .saturating_add(responder_blocks())
         .saturating_add(PACKETS)
         .saturating_add(requesters.saturating_mul(each))
         .saturating_add(listed.saturating_mul(size_of::<BlockSpec>()))

@@ -15,13 +15,13 @@ pub record IsWipedRoom (room : Room) : Type 0 where
   pub message : room.message ≡ replicate MAX_MESSAGE_SIZE 0
   pub sealed : room.«record» ≡ replicate MAX_RECORD_SIZE 0
   pub reply : room.reply ≡ replicate MAX_APP_DATA_LEN 0
-  pub work : IsWipedWork room.work
+  pub work : IsWipedWork room.work.value
 
 -- The seed of the draws, the application data received last and the buffers are zeros.
 pub record IsWipedShared (shared : Shared) : Type 0 where
   pub seed : shared.draws ≡ record { seed = replicate 32 0; number = 0 }
   pub last : shared.last ≡ replicate MAX_APP_DATA_LEN 0
-  pub room : IsWipedRoom shared.room
+  pub room : IsWipedRoom shared.room.value
 
 -- The pre-shared key is zeros, as many as a key has at most; there is no session: each slot is overwritten; and the
 -- application data that waited are zeros, in as many places as there are.

@@ -3,26 +3,27 @@ ghost use Rattle.responder_core.specs.Connected.{queue_left, tells_measured};
 ghost use Rattle.spdm_grammar.specs.declared.names.TheConstants.{MAX_APP_DATA_LEN, MAX_OPAQUE_LEN, MAX_PADDING, MAX_SESSIONS};
 
 use crate::clear::clear_part::code_at;
-use crate::wiping::wipe_queue;
-use crate::{ClearOutcome, ClearPart, ExchangeOrigin, FreeValues, Sessions, Setup};
-use responder_session::{AppQueue, QueueFault, ResponseValues, Work};
-use spdm_basis::{Frame, RecordFrame};
+use crate::{ClearOutcome, ClearPlace, ExchangeOrigin, FreeValues, ReplyQueue, Sessions, Setup};
+use responder_session::{QueueFault, ResponseValues, Work};
+use spdm_basis::{Frame, OutOfMemory, RecordFrame};
 use spdm_grammar::Heard;
 use spdm_grammar::names::request_code::GET_MEASUREMENTS;
+use std::alloc::Global;
 
 /// A responder's connection with one requester (DSP0274, section 10), with every free value handed in: the clear part,
-/// the sessions by RspSessionID, and the queue of application data to send in reply. Fixed size; never allocates.
+/// the sessions by RspSessionID, and the queue of application data to send in reply. Allocates only when constructed
+/// (read, not proved).
 #[derive(Drop)]
 pub struct Connection {
-    pub(crate) clear: ClearPart,
+    pub(crate) clear: ClearPlace,
     pub(crate) sessions: Sessions,
-    pub(crate) queue: AppQueue,
+    pub(crate) queue: ReplyQueue,
     // Whether the last body used a draw.
     pub(crate) drawn: bool,
 }
 
 // Application data that was received takes the first reply off the queue.
-fn use_up(queue: &mut AppQueue, heard: Heard)
+fn use_up(queue: &mut ReplyQueue, heard: Heard)
     ensures { queue.new ≡ queue_left heard queue.old }
 {
     if let Heard::Taken(_) = heard {
@@ -41,7 +42,7 @@ fn tells_measured(heard: Heard) -> bool
 }
 
 impl Connection {
-    ghost use Rattle.std.specs.Prelude.{◌≡◌, ◌≤◌, ◌<◌, ◌^◌, ◌-◌, ◌∷◌, [], ℕ, List, None, Some, MatchResult, length, replicate};
+    ghost use Rattle.std.specs.Prelude.{◌≡◌, ◌≤◌, ◌<◌, ◌^◌, ◌-◌, ◌∷◌, [], ℕ, List, None, Some, IfOk, MatchResult, length, replicate};
     ghost use Rattle.responder_machine.specs.Answer.{Free};
     ghost use Rattle.responder_machine.specs.BoundLaws.{messages_of};
     ghost use Rattle.responder_machine.specs.History.{History, queue_of};
@@ -63,15 +64,19 @@ impl Connection {
     ghost use Rattle.responder_core.specs.NoSessions.{HasNoSessions};
 
     /// The initial state, before any message.
-    pub fn new(setup: &Setup<'_>) -> Connection
-        ensures { (r : RspSetup) → IsSetUp setup.now r → StandsFor result r [] }
+    pub fn new(alloc: Global, setup: &Setup<'_>) -> Result<Connection, OutOfMemory>
+        ensures { (r : RspSetup) → IsSetUp setup.now r
+            → IfOk result (λ connection. StandsFor connection r []) }
     {
-        Connection {
-            clear: ClearPart::new(setup),
-            sessions: Sessions::new(),
-            queue: AppQueue::new(),
+        let clear = ClearPlace::new(alloc, setup)?;
+        let sessions = Sessions::new(alloc)?;
+        let queue = ReplyQueue::new(alloc)?;
+        Ok(Connection {
+            clear,
+            sessions,
+            queue,
             drawn: false,
-        }
+        })
     }
 
     /// Overwrites each session and the application data that wait, before the memory of the responder is given back. Not
@@ -81,7 +86,7 @@ impl Connection {
         ensures queue { self.new.queue ≡ replicate 16 (replicate MAX_APP_DATA_LEN 0) }
     {
         self.sessions.wipe();
-        wipe_queue(&mut self.queue);
+        self.queue.wipe();
     }
 
     /// Handles a clear message with its tag; `free` are the values that its response may use. The response overwrites

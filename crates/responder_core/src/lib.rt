@@ -6,6 +6,7 @@
 //! `Connection::on_clear` and `Connection::on_record`.
 #![tactic(auto)]
 
+mod blocks;
 mod clear;
 mod connected;
 mod free_values;
@@ -13,13 +14,16 @@ mod in_sessions;
 mod judging;
 mod laws;
 mod new_data;
+mod reply_queue;
 mod setup;
 mod silence;
 mod views;
 mod wiping;
 
+pub use blocks::connection_blocks;
 pub use clear::clear_outcome::ClearOutcome;
 pub use clear::clear_part::ClearPart;
+pub use clear::clear_place::ClearPlace;
 pub use clear::clear_state::ClearState;
 pub use clear::handled_request::HandledRequest;
 pub use clear::kept::KeptReply;
@@ -30,11 +34,13 @@ pub use clear::requests::Requests;
 pub use connected::Connection;
 pub use free_values::FreeValues;
 pub use in_sessions::ended::EndedRecord;
+pub use in_sessions::ended_place::EndedPlace;
 pub use in_sessions::live_session::LiveSession;
 pub use in_sessions::records::record_id;
 pub use in_sessions::session_slot::SessionSlot;
 pub use in_sessions::sessions::Sessions;
 pub use judging::dry_run::DryRun;
 pub use laws::others_keep_the_clear_part;
+pub use reply_queue::ReplyQueue;
 pub use setup::Setup;
 pub use silence::Silence;
