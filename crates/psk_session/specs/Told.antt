@@ -7,6 +7,7 @@ use Rattle.session_keys.specs.Terms.{asks_summary}
 use Rattle.spdm_grammar.specs.Message.{ExchangeRspMessage, ResponseMessage}
 use Rattle.spdm_grammar.specs.Message.ResponseMessage.{PskExchangeRsp}
 use Rattle.spdm_grammar.specs.Responses.{response_reading}
+use Rattle.spdm_grammar.specs.declared.names.TheConstants.{MAX_OPAQUE_LEN}
 use Rattle.spdm_grammar.specs.declared.messages.malformed.Malformed.{Malformed}
 use Rattle.spdm_machine.specs.Terms.{hash_len}
 
@@ -16,7 +17,7 @@ told_by rsp = record { period = rsp.heartbeat; summary = rsp.summary; opaque = r
 
 -- No longer than these fields are in any answer that has an encoding.
 abbrev pub FitsTold : ExchangeRspMessage → Type 0
-FitsTold rsp = (length rsp.summary ≤ 48) × (length rsp.opaque ≤ 1024)
+FitsTold rsp = (length rsp.summary ≤ 48) × (length rsp.opaque ≤ MAX_OPAQUE_LEN)
 
 -- What a message told that was read as an answer.
 abbrev pub told_in : Result ResponseMessage Malformed → Option SessionTold

@@ -4,6 +4,7 @@ ghost use Rattle.spdm_grammar.specs.Message.{exchange_rsp_message};
 
 use spdm_basis::Buffer;
 use spdm_grammar::ExchangeRsp;
+use spdm_grammar::names::MAX_OPAQUE_LEN;
 
 /// What PSK_EXCHANGE_RSP told the requester of a session, beside the session's id (DSP0274, "PSK_EXCHANGE_RSP response
 /// message format").
@@ -15,7 +16,7 @@ pub struct SessionTold {
     /// MeasurementSummaryHash: a hash of the session's size where a summary was asked for, else no bytes.
     pub summary: Buffer<48>,
     /// OpaqueData of the responder: at most 1,024 bytes.
-    pub opaque: Buffer<1024>,
+    pub opaque: Buffer<MAX_OPAQUE_LEN>,
 }
 
 // The bytes in a buffer of their own.

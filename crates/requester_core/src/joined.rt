@@ -1,7 +1,7 @@
 use crate::{ClearState, Sessions};
 use chunking::Collector;
-use psk_session::SessionTold;
 use negotiate::Common;
+use psk_session::SessionTold;
 use spdm_basis::Frame;
 use spdm_grammar::{Choice, Phase, SessionList, SessionView};
 
