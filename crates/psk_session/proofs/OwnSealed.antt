@@ -29,6 +29,7 @@ use Rattle.spdm_basis.specs.declared.values.session_id.SessionId.{SessionId}
 use Rattle.spdm_grammar.specs.declared.messages.choice.Choice.{Choice}
 use Rattle.spdm_grammar.specs.Message.{ChunkMessage}
 use Rattle.spdm_machine.specs.Keys.{inner_message, record_fault, sealed_of, verify_data}
+use Rattle.psk_session.specs.Told.{told_of}
 use Rattle.psk_session.specs.Course.{with_asked}
 use Rattle.psk_session.specs.Kept.{Keeps}
 use Rattle.psk_session.specs.Opening.{finish_inner, finish_record}
@@ -95,6 +96,7 @@ next_as key id psk s number inner pad sealed is same e = e ∙ sym (as_next key 
 -- What is kept does not depend on the padding of the newest record.
 pub keeps_repadded : (w : Awaited) (before : List ChunkMessage) (inner old new : List ℕ) (kept : Kept) (psk : List ℕ) (s : Steps) (epoch : ℕ) → Keeps kept psk (Asked (awaited_by w before) inner old ∷ s) epoch
     → Keeps kept psk (Asked (awaited_by w before) inner new ∷ s) epoch
+unfolding told_of
 keeps_repadded w before inner old new kept psk s epoch k =
     let same : t2_of (Asked (awaited_by w before) inner old ∷ s) ≡ t2_of (Asked (awaited_by w before) inner new ∷ s) = t2_asked w before s inner old ∙ sym (t2_asked w before s inner new) in
     let choice = (session_terms s).choice in

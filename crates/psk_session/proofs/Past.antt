@@ -22,6 +22,7 @@ use Rattle.spdm_machine.specs.Keys.{sealed_of, record_fault, inner_message}
 use Rattle.spdm_machine.specs.Sessions.{is_past_handshake, transcript_in, purpose_in}
 use Rattle.transcript.specs.Transcripts as transcript
 use Rattle.session_keys.specs.Keys.{IsKeyOf}
+use Rattle.psk_session.specs.Told.{told_of}
 use Rattle.psk_session.specs.Kept.{Keeps}
 use Rattle.psk_session.specs.Waiting.{awaited_by, awaited_epoch}
 use Rattle.psk_session.specs.declared.session_request.Awaited.{Awaited}
@@ -66,6 +67,7 @@ counted n most = omega arith
 pub keeps_asked : (a : Ask) (w : Awaited) (before : List ChunkMessage) (inner sealed : List ℕ) (kept new : Kept) (psk : List ℕ) (s : Steps) (epoch : ℕ)
     → a ≡ awaited_by w before → new ≡ record kept { request_next = min (kept.request_next + 1) (2 ^ 32 - 1) } → request_next s ≤ 65535
     → Keeps kept psk s epoch → Keeps new psk (Asked a inner sealed ∷ s) epoch
+unfolding told_of
 keeps_asked a w before inner sealed kept new psk s epoch asks is few k =
     let e : t2_of (Asked a inner sealed ∷ s) ≡ t2_of s = ap (λ (x : Ask). t2_of (Asked x inner sealed ∷ s)) asks ∙ t2_asked w before s inner sealed in
     let choice = (session_terms s).choice in
@@ -100,6 +102,7 @@ pub keeps_taken : (had : Bool) (sealed inner : List ℕ) (effect : Effect) (kept
     → new ≡ record kept { response_next = min (kept.response_next + 1) (2 ^ 32 - 1); taken = if had then min (kept.taken + 1) (2 ^ 64 - 1) else kept.taken }
     → Keeps kept psk s epoch → finishes effect ≡ false → updates effect ≡ false → had ≡ is_data effect → response_next s ≤ 65535
     → Keeps new psk (Took sealed inner effect ∷ s) epoch
+unfolding told_of
 keeps_taken had sealed inner effect kept new psk s epoch is k opens updated brings few =
     let choice = (session_terms s).choice in
     let e : t2_of (Took sealed inner effect ∷ s) ≡ t2_of s =
@@ -131,6 +134,7 @@ pub keeps_updated : (all : Bool) (sealed inner answer : List ℕ) (kept new : Ke
     → new.response_next ≡ (if all then 1 else min (kept.response_next + 1) (2 ^ 32 - 1))
     → Keeps kept psk s (awaited_epoch s (AskUpdate all)) → response_next s ≤ 65535
     → Keeps new psk (Took sealed inner (Grants (AskUpdate all) answer) ∷ s) (response_epoch (Took sealed inner (Grants (AskUpdate all) answer) ∷ s))
+unfolding told_of
 keeps_updated all sealed inner answer kept new psk s is next_key next k few =
     let after = Took sealed inner (Grants (AskUpdate all) answer) ∷ s in
     subst (λ (x : Kept). Keeps x psk after (response_epoch after)) (sym is) (record {

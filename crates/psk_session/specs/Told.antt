@@ -25,7 +25,7 @@ told_in (Ok (PskExchangeRsp rsp)) = Some (told_by rsp)
 told_in _ = None
 
 -- What a session's PSK_EXCHANGE_RSP told; nothing before it was taken.
-abbrev pub told_of : Steps → Option SessionTold
+unfoldable pub told_of : Steps → Option SessionTold
 told_of s =
     if is_accepted s then told_in (response_reading (hash_len (session_terms s)) (asks_summary (exchange_of s)) (exchange_answer s))
     else None

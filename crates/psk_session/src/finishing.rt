@@ -225,7 +225,7 @@ impl Finishing {
             th2,
             id: self.id,
             terms: self.terms,
-            told: self.told.clone().unwrap(),
+            told: self.told.copy(),
         };
         ReqOpen {
             session: ReqSession::new(kept),

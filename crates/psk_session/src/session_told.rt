@@ -8,7 +8,7 @@ use spdm_grammar::names::MAX_OPAQUE_LEN;
 
 /// What PSK_EXCHANGE_RSP told the requester of a session, beside the session's id (DSP0274, "PSK_EXCHANGE_RSP response
 /// message format").
-#[derive(Clone, Debug, Drop)]
+#[derive(Debug, Drop)]
 pub struct SessionTold {
     /// HeartbeatPeriod in seconds, 0 for no heartbeat: the responder drops a session in which no new record opened for
     /// twice that time.
@@ -38,6 +38,17 @@ impl SessionTold {
             period: rsp.heartbeat,
             summary: copy_of(rsp.summary),
             opaque: copy_of(rsp.opaque),
+        }
+    }
+
+    // A copy.
+    pub(crate) fn copy(&self) -> SessionTold
+        ensures { result ≡ self.now }
+    {
+        SessionTold {
+            period: self.period,
+            summary: copy_of(self.summary.as_slice()),
+            opaque: copy_of(self.opaque.as_slice()),
         }
     }
 

@@ -10,13 +10,16 @@ use Rattle.requester_core.specs.declared.in_sessions.slot.Slot.TheVariants as sl
 use Rattle.requester_machine.specs.Session.{Steps}
 
 pub empty_told : (psk : List ℕ) (s : Steps) → IsSlotOf slot.Empty psk s → told_of s ≡ None
+unfolding told_of
 empty_told psk s is = ap told_of is
 
 pub opening_told : (x : Opening) (psk : List ℕ) (s : Steps) → IsSlotOf (slot.Opening x) psk s → told_of s ≡ None
+unfolding told_of
 opening_told x psk s o = ap told_of o.steps
 
 pub finishing_told : (x : Finishing) (psk : List ℕ) (s : Steps) (told : SessionTold) → IsSlotOf (slot.Finishing x) psk s
     → told ≡ x.told → told_of s ≡ Some told
+unfolding told_of
 finishing_told x psk s told f is = ap told_of f.steps ∙ f.stands.told ∙ ap (λ (t : SessionTold). Some t) (sym is)
 
 pub live_told : (x : ReqSession) (psk : List ℕ) (s : Steps) (told : SessionTold) → IsSlotOf (slot.Live x) psk s

@@ -1,4 +1,4 @@
-use Rattle.std.proofs.Common.{◌≡◌, ◌++◌, sym, ap, subst, refl, ◌∙◌, ℕ, List, drop, arith}
+use Rattle.std.proofs.Common.{Some, ◌≡◌, ◌++◌, sym, ap, subst, refl, ◌∙◌, ℕ, List, drop, arith}
 use Rattle.key_schedule.specs.Keys.{DirectionSecret}
 use Rattle.key_schedule.specs.Purpose.{application_record}
 use Rattle.key_schedule.specs.declared.direction.Direction.TheVariants.{Request, Response}
@@ -13,10 +13,13 @@ use Rattle.psk_session.specs.Finishing.{Seen, StandsFor, finish_message}
 use Rattle.session_keys.specs.Keys.{IsKeyOf}
 use Rattle.psk_session.specs.Kept.{Keeps}
 use Rattle.psk_session.specs.Opening.{accepted, finishing}
+use Rattle.psk_session.specs.Told.{told_of}
 use Rattle.psk_session.specs.declared.kept.Kept.{Kept}
+use Rattle.psk_session.specs.declared.session_told.SessionTold.{SessionTold}
 use Rattle.psk_session.proofs.finishing.Finishing.finish.Goals as goal
 
 pub returns : goal.returns
+unfolding told_of
 returns c = λ psk n exchange answer pad sealed stands held.
     let inside = subst (λ (x : Seen). StandsFor x psk n exchange answer pad) (sym c.self.view_is) stands in
     let after = finished_by psk (finishing psk n exchange answer pad) sealed in
@@ -42,7 +45,7 @@ returns c = λ psk n exchange answer pad sealed stands held.
         response_next = refl;
         taken = λ _. refl;
         th2 = th2;
-        told = inside.told;
+        told = inside.told ∙ ap (λ (t : SessionTold). Some t) (sym c.copy.ensures);
       });
       few = (omega arith, omega arith);
       brought = c.new-3.ensures.brought;
