@@ -31,9 +31,10 @@
  * the end of this file.
  *
  * ANSWERS. Every call but close answers one number of enum spdm_answer. An answer other than SPDM_OK has changed
- * nothing, neither the end nor what the caller's pointers point to, with two exceptions: a command that is refused
- * with SPDM_WORN to SPDM_TOO_LONG leaves no packets to send, and is counted; and after SPDM_ROOM the length that is
- * needed is written. A call for an end that is not open answers SPDM_CLOSED, whatever else it is given.
+ * nothing, neither the end nor what the caller's pointers point to, with three exceptions: a command that is refused
+ * with SPDM_WORN to SPDM_TOO_LONG leaves no packets to send, and is counted; a reset that is refused with SPDM_WORN or
+ * SPDM_UNKNOWN_PEER leaves no packets to send; and after SPDM_ROOM the length that is needed is written. A call for an
+ * end that is not open answers SPDM_CLOSED, whatever else it is given.
  *
  * This header and the library must come from one build: ask spdm_header_fits() once.
  */
@@ -75,7 +76,7 @@ enum spdm_answer {
     SPDM_BLOCK_INDEX_TAKEN = 37,   /* two blocks have one index */
     SPDM_BLOCKS_TOO_LONG = 38,     /* all blocks together have more than 4,054 bytes */
 
-    /* why a command is not done */
+    /* why a command is not done; of SPDM_WORN also a reset */
     SPDM_WORN = 48,             /* 2^40 packets and commands were taken: close the end, open it with the next boot */
     SPDM_NOTHING_TO_RETRY = 49, /* no request is outstanding */
     SPDM_BUSY = 50,             /* a request is outstanding: its answer is awaited, or SPDM_RETRY */
@@ -454,6 +455,17 @@ uint32_t spdm_responder_peek(struct spdm_responder *responder, const uint8_t *pa
 /* Tells it that seconds have passed: a session in which no new record opened for twice the HeartbeatPeriod is gone. */
 uint32_t spdm_responder_tick(struct spdm_responder *responder, uint32_t seconds);
 
+/*
+ * Gives up the connection with the requester of this endpoint ID, all its sessions and its unfinished message, where the
+ * caller knows that the requester is gone: exactly what GET_VERSION from there does, and it counts as one packet. None of
+ * the records of those sessions opens any more; the requester negotiates anew when it comes back. Connections with other
+ * requesters go on, and what was queued for this one stays queued. SPDM_BAD_EID, then SPDM_WORN, SPDM_UNKNOWN_PEER.
+ *
+ * Nothing is to be sent then. After SPDM_OK, SPDM_WORN and SPDM_UNKNOWN_PEER no packets are left of those that it was to
+ * send: take them before.
+ */
+uint32_t spdm_responder_reset(struct spdm_responder *responder, uint8_t eid);
+
 /* Writes how far the connection with this requester has come, of enum spdm_phase. SPDM_BAD_EID, SPDM_UNKNOWN_PEER. */
 uint32_t spdm_responder_phase(struct spdm_responder *responder, uint8_t eid, uint32_t *phase);
 
@@ -473,9 +485,9 @@ uint32_t spdm_responder_data(struct spdm_responder *responder, uint8_t *room, si
 /*
  * Writes what became of the sessions with this requester since `watch` was left by the call before, by rising
  * RspSessionID from 1 to 4, and leaves it with the sessions as they stand now; a watch of zeros has none. Called after
- * each packet from the requester and after each tick it misses nothing but this: a handshake in whose place another one
- * with the same two IDs began is not told apart from it. The responder keeps nothing for it: each requester has a watch
- * of its own, and so has each part of a program that asks. SPDM_BAD_EID, SPDM_UNKNOWN_PEER.
+ * each packet from the requester, each tick and each reset it misses nothing but this: a handshake in whose place
+ * another one with the same two IDs began is not told apart from it. The responder keeps nothing for it: each requester
+ * has a watch of its own, and so has each part of a program that asks. SPDM_BAD_EID, SPDM_UNKNOWN_PEER.
  */
 uint32_t spdm_responder_changes(struct spdm_responder *responder, uint8_t eid, struct spdm_watch *watch,
                                 struct spdm_change changes[4]);

@@ -196,6 +196,7 @@ static void still_after_open(void) {
     CHECK(spdm_responder_tick(&ends.responder, 30) == SPDM_OK);
     run(&ends, SPDM_BEAT, 1, 0, "", SPDM_ALIVE);
     run(&ends, SPDM_END, 2, 0, "", SPDM_ENDED);
+    CHECK(spdm_responder_reset(&ends.responder, REQUESTER) == SPDM_OK);
     run(&ends, SPDM_CONNECT, 0, 0, "", SPDM_CONNECTED);
     CHECK(calls == before);
     close_ends(&ends);

@@ -30,6 +30,7 @@ static void closed(struct ends *ends) {
     CHECK(spdm_responder_queue(&ends->responder, REQUESTER, room, 1) == SPDM_CLOSED);
     CHECK(spdm_responder_queue(&ends->responder, 0, room, 1) == SPDM_CLOSED);
     CHECK(spdm_responder_tick(&ends->responder, 1) == SPDM_CLOSED);
+    CHECK(spdm_responder_reset(&ends->responder, REQUESTER) == SPDM_CLOSED);
     CHECK(spdm_responder_phase(&ends->responder, REQUESTER, &phase) == SPDM_CLOSED);
     CHECK(spdm_responder_session(&ends->responder, REQUESTER, 0, &session) == SPDM_CLOSED);
     CHECK(spdm_responder_data(&ends->responder, room, sizeof room, &len) == SPDM_CLOSED);
@@ -203,6 +204,8 @@ static void open_ends_refuse(void) {
     CHECK(spdm_responder_phase(&ends.responder, 7, &phase) == SPDM_BAD_EID && phase == 99);
     CHECK(spdm_responder_phase(&ends.responder, 77, &phase) == SPDM_UNKNOWN_PEER && phase == 99);
     CHECK(spdm_responder_phase(&ends.responder, REQUESTER, &phase) == SPDM_OK && phase == SPDM_NEGOTIATED);
+    CHECK(spdm_responder_reset(&ends.responder, 7) == SPDM_BAD_EID);
+    CHECK(spdm_responder_reset(&ends.responder, 77) == SPDM_UNKNOWN_PEER);
     CHECK(spdm_responder_queue(&ends.responder, 255, room, 1) == SPDM_BAD_EID);
     CHECK(spdm_responder_queue(&ends.responder, 77, room, 1) == SPDM_UNKNOWN_PEER);
     CHECK(spdm_responder_queue(&ends.responder, REQUESTER, room, 1025) == SPDM_REPLY_TOO_LONG);

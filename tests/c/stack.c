@@ -177,6 +177,7 @@ static void *all_calls(void *nothing) {
         CHECK(DEEP(spdm_requester_phase, (&ends.requester, &phase)) == SPDM_OK);
     }
     session(&ends, SPDM_END, 1, 0, SPDM_NOTHING, 0);
+    CHECK(DEEP(spdm_responder_reset, (&ends.responder, REQUESTER)) == SPDM_OK);
     session(&ends, SPDM_CONNECT, 0, 0, SPDM_NOTHING, 0);
     attest(&ends, &own);
     paint();

@@ -1,11 +1,11 @@
 //! What calls answer. Each group of causes begins at a multiple of 16.
 ghost use Rattle.std.specs.Prelude.{◌≡◌};
-ghost use Rattle.c_ends.specs.Codes.{argument_code, command_code, reply_code, requester_code, responder_code};
+ghost use Rattle.c_ends.specs.Codes.{argument_code, command_code, reply_code, requester_code, reset_code, responder_code};
 
 use crate::argument::ArgumentFault;
 use measurements::InventoryFault;
 use requester::{CommandFault, ReqConfigFault};
-use responder::{ReplyFault, RspConfigFault};
+use responder::{ReplyFault, ResetFault, RspConfigFault};
 
 /// It is done.
 pub const OK: u32 = 0;
@@ -51,6 +51,9 @@ pub const BAD_COMMAND: u32 = 20;
 
 /// The text of a policy has a bad line, or more than 4 MiB.
 pub const BAD_POLICY: u32 = 21;
+
+/// The end has taken 2^40 packets and commands.
+pub const WORN: u32 = 48;
 
 /// The code of an argument.
 pub(crate) fn of_argument(fault: ArgumentFault) -> u32
@@ -98,7 +101,7 @@ pub(crate) fn of_command(fault: CommandFault) -> u32
     ensures { result ≡ command_code fault }
 {
     match fault {
-        CommandFault::Worn => 48,
+        CommandFault::Worn => WORN,
         CommandFault::NothingToRetry => 49,
         CommandFault::Busy => 50,
         CommandFault::NotConnected => 51,
@@ -119,5 +122,15 @@ pub(crate) fn of_reply(fault: ReplyFault) -> u32
         ReplyFault::UnknownPeer => UNKNOWN_PEER,
         ReplyFault::TooLong => 64,
         ReplyFault::Full => 65,
+    }
+}
+
+/// The code of a reset.
+pub(crate) fn of_reset(fault: ResetFault) -> u32
+    ensures { result ≡ reset_code fault }
+{
+    match fault {
+        ResetFault::Worn => WORN,
+        ResetFault::UnknownPeer => UNKNOWN_PEER,
     }
 }

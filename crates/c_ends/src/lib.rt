@@ -26,6 +26,7 @@ mod responder_calls;
 mod responder_changes;
 mod responder_handle;
 mod responder_peeking;
+mod responder_resetting;
 mod responder_set_up;
 mod responder_views;
 mod session;

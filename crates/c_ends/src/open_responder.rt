@@ -1,5 +1,5 @@
 use mctp_framing::PacketList;
-use responder::{Heard, ReplyFault, Responder, RspConfig, RspConfigFault};
+use responder::{Heard, ReplyFault, ResetFault, Responder, RspConfig, RspConfigFault};
 use spdm_basis::Eid;
 use std::alloc::Global;
 
@@ -13,6 +13,7 @@ pub struct OpenResponder {
 impl OpenResponder {
     ghost use Rattle.std.specs.Prelude.{◌≡◌, ◌≤◌, ◌*◌, ◌-◌, ◌^◌, [], IfErr, IfOk, MatchResult, None, OnOk, Some};
     ghost use Rattle.responder.specs.Config.{IsCause, config_fault};
+    ghost use Rattle.responder.specs.Resetting.{after_reset, reset_fault, version_packet};
     ghost use Rattle.responder.specs.SetUp.{end_of};
     ghost use Rattle.responder.specs.Standing.{IsStep, StandsFor};
     ghost use Rattle.responder.specs.Unharmed.{AreOthersKept, IsHarmless};
@@ -75,5 +76,18 @@ impl OpenResponder {
         ensures sends { self.new.out ≡ self.old.out }
     {
         self.responder.tick(seconds);
+    }
+    /// `Responder::reset`, with `out` for its room: nothing is to be sent then, whatever it answers.
+    pub fn reset(&mut self, eid: Eid) -> Result<(), ResetFault>
+        ensures fault { (r : Responding) → StandsFor self.old.responder r → MatchResult result
+            (λ _. reset_fault eid.number r ≡ None)
+            (λ fault. reset_fault eid.number r ≡ Some fault) }
+        ensures stands { (r : Responding) → StandsFor self.old.responder r
+            → StandsFor self.new.responder (after_reset eid.number r) }
+        ensures others { (r : Responding) → StandsFor self.old.responder r
+            → AreOthersKept r (version_packet r.part.eid eid.number) self.new.responder }
+        ensures sends { self.new.out ≡ [] }
+    {
+        self.responder.reset(eid, &mut self.out)
     }
 }

@@ -8,6 +8,8 @@ mod attestor_tests;
 #[cfg(test)]
 mod look_tests;
 #[cfg(test)]
+mod reset_tests;
+#[cfg(test)]
 mod session_tests;
 #[cfg(test)]
 mod setting;

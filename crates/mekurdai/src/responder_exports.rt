@@ -1,11 +1,12 @@
 ghost use Rattle.std.specs.Prelude.{List, None, Some, [], false, slice_get, true, ℕ, ◌≡◌, ◌≢◌};
-ghost use Rattle.c_ends.specs.Codes.{told_of_reply};
+ghost use Rattle.c_ends.specs.Codes.{told_of_reply, told_of_reset};
 ghost use Rattle.c_ends.specs.Holding.{HoldsOthers, HoldsResponder};
 ghost use Rattle.c_ends.specs.Opening.{HasResponderFault, RefusesResponder};
 ghost use Rattle.c_ends.specs.Setting.{is_eid, responder_argument, responder_in};
 ghost use Rattle.c_ends.specs.Telling.{heard_told};
 ghost use Rattle.c_ends.specs.Writing.{IsPut, IsWritten};
 ghost use Rattle.c_ends.specs.declared.codes.TheConstants.{BAD_EID, CLOSED, NONE, OK, UNKNOWN_PEER};
+ghost use Rattle.responder.specs.Resetting.{after_reset, reset_fault, version_packet};
 ghost use Rattle.responder.specs.Standing.{views_at};
 ghost use Rattle.responder.specs.Unharmed.{IsHarmless};
 ghost use Rattle.responder_machine.specs.Independence.{after_reply};
@@ -120,6 +121,30 @@ pub extern "C" fn spdm_responder_tick(
         → (result ≡ CLOSED) × (responder.new.kept.held ≡ None) }
 {
     responder.tick(alloc, seconds)
+}
+
+/// Gives up the connection with this endpoint, all its sessions and its unfinished message, where the requester is known
+/// to be gone: exactly what GET_VERSION from there does, and one packet of the lifetime limit. Its queued replies stay, and
+/// the connections with other endpoints are as they were. Nothing is to be sent then, also after a fault of the reset.
+#[unsafe(no_mangle)]
+pub extern "C" fn spdm_responder_reset(
+    responder: &mut ResponderHandle,
+    alloc: Global,
+    eid: u8,
+) -> u32
+    ensures reset { (r : Responding) (sends : List (List ℕ))
+        → HoldsResponder responder.old.kept.held r sends → is_eid eid ≡ true
+        → (result ≡ told_of_reset (reset_fault eid r))
+        × HoldsResponder responder.new.kept.held (after_reset eid r) [] }
+    ensures others { (r : Responding) (sends : List (List ℕ))
+        → HoldsResponder responder.old.kept.held r sends → is_eid eid ≡ true
+        → HoldsOthers responder.new.kept.held r (version_packet r.part.eid eid) }
+    ensures bad_eid { responder.old.kept.held ≢ None → is_eid eid ≡ false
+        → (result ≡ BAD_EID) × (responder.new.kept.held ≡ responder.old.kept.held) }
+    ensures closed { responder.old.kept.held ≡ None
+        → (result ≡ CLOSED) × (responder.new.kept.held ≡ None) }
+{
+    responder.reset(alloc, eid)
 }
 
 /// Writes the number of the phase of the connection with this endpoint.
