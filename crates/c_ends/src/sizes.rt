@@ -2,9 +2,9 @@ use crate::open_requester::OpenRequester;
 use crate::open_responder::OpenResponder;
 use mctp_framing::Assembler;
 use responder::Known;
-use responder_core::Connection;
+use responder_core::{Connection, LiveSession};
 use spdm_grammar::BlockSpec;
-use spdm_grammar::names::MAX_BODY_SIZE;
+use spdm_grammar::names::{MAX_BODY_SIZE, SESSION_PLACES};
 
 // The packets that an end sends next, as `PacketList` takes memory for them: their bytes, and the places of 72.
 const PACKETS: usize = 8_192 + 72 * 16;
@@ -12,9 +12,12 @@ const PACKETS: usize = 8_192 + 72 * 16;
 // The first blocks of an inventory, which grows by doubling.
 const FIRST_BLOCKS: usize = 4;
 
-// The size of what a responder keeps of a requester.
+// The size of what a responder keeps of a requester: each of its sessions has a block of its own.
 fn requester_share() -> usize {
-    size_of::<(Known, Connection, Assembler)>() + MAX_BODY_SIZE
+    SESSION_PLACES
+        .saturating_mul(size_of::<LiveSession>())
+        .saturating_add(size_of::<(Known, Connection, Assembler)>())
+        .saturating_add(MAX_BODY_SIZE)
 }
 
 /// The most memory that opening a responder has taken at any time, in bytes, with so many requesters and blocks, whose

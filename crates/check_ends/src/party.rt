@@ -8,8 +8,9 @@ use check_laws::{Places, Round, SessionTable};
 use check_requester::{JudgedRequester, is_first_chunk};
 use check_responder::{AnswerKeys, JudgedResponder, PreparedRequest};
 use responder_core::Setup;
-use spdm_basis::RecordFrame;
+use spdm_basis::{OutOfMemory, RecordFrame};
 use spdm_grammar::Why;
+use std::alloc::Global;
 
 /// A requester of a capture and the responder towards it, while no large message is in progress: what the two ends
 /// hold, and the keys of answers that were given; its number, and where its entries stand in the table of sessions. It
@@ -44,7 +45,7 @@ fn refused(why: Why, body: &[u8]) -> Result<Continuation, Why>
 }
 
 impl Party {
-    ghost use Rattle.std.specs.Prelude.{◌≡◌, ◌≤◌, ◌<◌, ◌-◌, ◌^◌, ℕ, List, [], None, Ok, OnErr, length};
+    ghost use Rattle.std.specs.Prelude.{◌≡◌, ◌≤◌, ◌<◌, ◌-◌, ◌^◌, ℕ, List, [], None, Ok, IfOk, OnErr, length};
     ghost use Rattle.responder_core.specs.Setup.{IsSetUp};
     ghost use Rattle.mctp_framing.specs.Cutting.{RouteFields};
     ghost use Rattle.mctp_framing.specs.Gathering.Gathered.{Whole};
@@ -61,21 +62,27 @@ impl Party {
 
     /// A requester with this number, counted from 1, of which nothing came yet, and the responder that is set up so
     /// towards it. The table of sessions has no entries.
-    pub fn new(asker: JudgedRequester, number: u8, setup: &Setup<'_>) -> Party
+    pub fn new(
+        alloc: Global,
+        asker: JudgedRequester,
+        number: u8,
+        setup: &Setup<'_>,
+    ) -> Result<Party, OutOfMemory>
         ensures { (w : Configuration) (q : ReqSetup) → IsAsker asker q (kept_of (new_dialogue q))
             → number ≡ number_from 1 q.eid w.requesters
             → IsSetUp setup.now (responder_for w (kept_of (new_dialogue q)))
-            → IsParty result w q (kept_of (new_dialogue q)) [] }
+            → IfOk result (λ party. IsParty party w q (kept_of (new_dialogue q)) []) }
     {
-        Party {
+        let answerer = JudgedResponder::new(alloc, setup)?;
+        Ok(Party {
             asker,
-            answerer: JudgedResponder::new(setup),
+            answerer,
             keys: AnswerKeys::new(),
             number,
             places: Places::new(),
             coming: PreparedRequest::new(),
             text: RecordFrame::new(),
-        }
+        })
     }
 
     /// Handles a complete request of at most 4,161 bytes with its tag, next in order after this round: it is accepted

@@ -12,15 +12,16 @@ use crate::{Given, Judged};
 use responder_core::{Connection, FreeValues, Setup};
 use responder_session::Work;
 use session_keys::{byte_at, same_bytes};
-use spdm_basis::{Frame, RecordFrame};
+use spdm_basis::{Frame, OutOfMemory, RecordFrame};
 use spdm_grammar::Heard;
 use spdm_grammar::names::CHUNK_SEND_ACK_FIELDS_LEN;
 use spdm_grammar::names::error_number::LARGE_RESPONSE;
 use spdm_grammar::names::request_code::CHUNK_GET;
 use spdm_grammar::names::response_code::{CHUNK_SEND_ACK, ERROR};
+use std::alloc::Global;
 
-/// What is kept of the responder towards one requester: its connection, and room to answer in. Fixed size; never
-/// allocates.
+/// What is kept of the responder towards one requester: its connection, and room to answer in. Allocates only when
+/// constructed (read, not proved).
 #[derive(Drop)]
 pub struct JudgedResponder {
     /// The responder towards the requester.
@@ -123,7 +124,7 @@ pub(crate) fn judged_by(
 }
 
 impl JudgedResponder {
-    ghost use Rattle.std.specs.Prelude.{◌≡◌, ◌<◌, ◌-◌, ◌^◌, [], true, is_some};
+    ghost use Rattle.std.specs.Prelude.{◌≡◌, ◌<◌, ◌-◌, ◌^◌, [], true, IfOk, is_some};
     ghost use Rattle.responder_core.specs.Free.{IsFree};
     ghost use Rattle.responder_core.specs.Setup.{IsSetUp};
     ghost use Rattle.responder_machine.specs.Answer.{Free};
@@ -136,15 +137,17 @@ impl JudgedResponder {
     ghost use Rattle.check_responder.specs.ClearAnswers.{IsJudgedAt, IsLongWith, given_in};
 
     /// The initial state, before any message.
-    pub fn new(setup: &Setup<'_>) -> JudgedResponder
-        ensures { (r : RspSetup) → IsSetUp setup.now r → IsAnswerer result r [] }
+    pub fn new(alloc: Global, setup: &Setup<'_>) -> Result<JudgedResponder, OutOfMemory>
+        ensures { (r : RspSetup) → IsSetUp setup.now r
+            → IfOk result (λ responder. IsAnswerer responder r []) }
     {
-        JudgedResponder {
-            connection: Connection::new(setup),
+        let connection = Connection::new(alloc, setup)?;
+        Ok(JudgedResponder {
+            connection,
             message: Frame::new(),
             record: RecordFrame::new(),
             work: Work::new(),
-        }
+        })
     }
 
     /// Judges an answer to a clear message at these values. The whole answer to the message passes 4,096 bytes where

@@ -52,7 +52,7 @@ impl Peer {
             → IfOk result (λ peer. StandsFor peer p [] (new_connection p (known_of known.now))) }
     {
         let known = copy_of(alloc, known)?;
-        let connection = Connection::new(&part.towards(&known));
+        let connection = Connection::new(alloc, &part.towards(&known))?;
         let assembler = Assembler::new(alloc, part.eid, known.eid, MAX_BODY_SIZE)?;
         Ok(Peer {
             known,

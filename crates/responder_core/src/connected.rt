@@ -6,12 +6,14 @@ use crate::clear::clear_part::code_at;
 use crate::wiping::wipe_queue;
 use crate::{ClearOutcome, ClearPart, ExchangeOrigin, FreeValues, Sessions, Setup};
 use responder_session::{AppQueue, QueueFault, ResponseValues, Work};
-use spdm_basis::{Frame, RecordFrame};
+use spdm_basis::{Frame, OutOfMemory, RecordFrame};
 use spdm_grammar::Heard;
 use spdm_grammar::names::request_code::GET_MEASUREMENTS;
+use std::alloc::Global;
 
 /// A responder's connection with one requester (DSP0274, section 10), with every free value handed in: the clear part,
-/// the sessions by RspSessionID, and the queue of application data to send in reply. Fixed size; never allocates.
+/// the sessions by RspSessionID, and the queue of application data to send in reply. Allocates only when constructed
+/// (read, not proved).
 #[derive(Drop)]
 pub struct Connection {
     pub(crate) clear: ClearPart,
@@ -41,7 +43,7 @@ fn tells_measured(heard: Heard) -> bool
 }
 
 impl Connection {
-    ghost use Rattle.std.specs.Prelude.{◌≡◌, ◌≤◌, ◌<◌, ◌^◌, ◌-◌, ◌∷◌, [], ℕ, List, None, Some, MatchResult, length, replicate};
+    ghost use Rattle.std.specs.Prelude.{◌≡◌, ◌≤◌, ◌<◌, ◌^◌, ◌-◌, ◌∷◌, [], ℕ, List, None, Some, IfOk, MatchResult, length, replicate};
     ghost use Rattle.responder_machine.specs.Answer.{Free};
     ghost use Rattle.responder_machine.specs.BoundLaws.{messages_of};
     ghost use Rattle.responder_machine.specs.History.{History, queue_of};
@@ -63,15 +65,17 @@ impl Connection {
     ghost use Rattle.responder_core.specs.NoSessions.{HasNoSessions};
 
     /// The initial state, before any message.
-    pub fn new(setup: &Setup<'_>) -> Connection
-        ensures { (r : RspSetup) → IsSetUp setup.now r → StandsFor result r [] }
+    pub fn new(alloc: Global, setup: &Setup<'_>) -> Result<Connection, OutOfMemory>
+        ensures { (r : RspSetup) → IsSetUp setup.now r
+            → IfOk result (λ connection. StandsFor connection r []) }
     {
-        Connection {
+        let sessions = Sessions::new(alloc)?;
+        Ok(Connection {
             clear: ClearPart::new(setup),
-            sessions: Sessions::new(),
+            sessions,
             queue: AppQueue::new(),
             drawn: false,
-        }
+        })
     }
 
     /// Overwrites each session and the application data that wait, before the memory of the responder is given back. Not

@@ -81,7 +81,12 @@ impl JudgedPair {
         let asker = JudgedRequester::new(alloc, &setup_of(q), &q.psk)?;
         let hint = Bytes::copy(alloc, q.hint.as_slice())?;
         let psk = copy_of(&q.psk);
-        let party = Party::new(asker, number, &answering.towards(hint.as_slice(), &psk));
+        let party = Party::new(
+            alloc,
+            asker,
+            number,
+            &answering.towards(hint.as_slice(), &psk),
+        )?;
         Ok(JudgedPair {
             eid: q.eid,
             requests: Assembler::new(alloc, own, q.eid, MAX_BODY_SIZE)?,

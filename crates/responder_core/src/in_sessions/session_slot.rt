@@ -4,16 +4,17 @@ ghost use Rattle.spdm_grammar.specs.declared.names.TheConstants.{MAX_APP_DATA_LE
 use crate::LiveSession;
 use measurements::Inventory;
 use responder_session::{ResponseValues, RspTold, Work};
-use spdm_basis::RecordFrame;
+use spdm_basis::{OutOfMemory, RecordFrame};
+use std::alloc::Global;
 use std::marker::Model;
-use std::mem;
 
 /// The slot of one session. Where there is none, what stands in it is overwritten: the invariant says so, so that no
-/// call that empties a slot can leave a key or a plaintext in it. In contracts, an option of a session.
+/// call that empties a slot can leave a key or a plaintext in it. The session stays on the heap, so that a slot can be
+/// moved. Allocates only when constructed (read, not proved). In contracts, an option of a session.
 #[derive(Drop)]
 pub struct SessionSlot {
     pub(crate) is_there: bool,
-    pub(crate) live: LiveSession,
+    pub(crate) live: Box<LiveSession>,
 }
 
 impl Model for SessionSlot {
@@ -23,13 +24,13 @@ impl Model for SessionSlot {
 
     ghost Value = { Option LiveSession };
 
-    ghost view = { λ p. if p.is_there then Some p.live else None };
+    ghost view = { λ p. if p.is_there then Some p.live.value else None };
 
-    ghost invariant = { λ p. p.is_there ≡ false → IsWipedLive p.live };
+    ghost invariant = { λ p. p.is_there ≡ false → IsWipedLive p.live.value };
 }
 
 impl SessionSlot {
-    ghost use Rattle.std.specs.Prelude.{◌≡◌, ◌≤◌, None, Some, MatchOption, length};
+    ghost use Rattle.std.specs.Prelude.{◌≡◌, ◌≤◌, None, Some, IfOk, MatchOption, length};
     ghost use Rattle.responder_machine.specs.Answer.{Free};
     ghost use Rattle.responder_machine.specs.Session.{Events, after_tick};
     ghost use Rattle.responder_machine.specs.Setup.{RspSetup, inventory_of};
@@ -38,12 +39,15 @@ impl SessionSlot {
     ghost use Rattle.responder_core.specs.LiveSession.{IsSlotOf, IsTakenIn};
 
     /// A slot without a session.
-    pub fn empty() -> SessionSlot
-        ensures { result ≡ None }
+    pub fn empty(alloc: Global) -> Result<SessionSlot, OutOfMemory>
+        ensures { IfOk result (λ slot. slot ≡ None) }
     {
-        SessionSlot {
-            is_there: false,
-            live: LiveSession::wiped(),
+        match Box::new(alloc, LiveSession::wiped()) {
+            Ok(live) => Ok(SessionSlot {
+                is_there: false,
+                live,
+            }),
+            Err(_) => Err(OutOfMemory),
         }
     }
 
@@ -52,7 +56,7 @@ impl SessionSlot {
         ensures { MatchOption result (self.now ≡ None) (λ live. self.now ≡ Some live.now) }
     {
         if self.is_there {
-            Some(&self.live)
+            Some(self.live.as_ref())
         } else {
             None
         }
@@ -72,7 +76,7 @@ impl SessionSlot {
     pub fn put(&mut self, live: LiveSession)
         ensures { self.new ≡ Some live }
     {
-        self.live = live;
+        *self.live = live;
         self.is_there = true;
     }
 
@@ -85,7 +89,7 @@ impl SessionSlot {
             return None;
         }
         self.is_there = false;
-        Some(mem::replace(&mut self.live, LiveSession::wiped()))
+        Some(Box::replace(&mut self.live, LiveSession::wiped()))
     }
 
     // Puts into the slot what was taken out of one.

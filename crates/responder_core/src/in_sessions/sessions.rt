@@ -8,13 +8,14 @@ use crate::in_sessions::records::{record_id, replace_record, write_decrypt_error
 use crate::{EndedRecord, LiveSession, SessionSlot};
 use measurements::Inventory;
 use responder_session::{ResponseValues, RspAct, RspSession, RspTold, Work};
-use spdm_basis::{RecordFrame, SessionId};
+use spdm_basis::{OutOfMemory, RecordFrame, SessionId};
 use spdm_grammar::names::request_code::GET_VERSION;
 use spdm_grammar::names::{MAX_SESSIONS, SESSION_PLACES};
 use spdm_grammar::{Heard, Phase, SessionView};
+use std::alloc::Global;
 
 /// The sessions of a connection: a slot for each RspSessionID from 1 to 4, and the last record of the one ended
-/// session. A slot without a session is overwritten (`SessionSlot`). Fixed size; never allocates.
+/// session. A slot without a session is overwritten (`SessionSlot`). Allocates only when constructed (read, not proved).
 #[derive(Drop)]
 pub struct Sessions {
     pub(crate) slots: [SessionSlot; SESSION_PLACES],
@@ -41,7 +42,7 @@ fn one_if(holds: bool) -> u8
 }
 
 impl Sessions {
-    ghost use Rattle.std.specs.Prelude.{◌≡◌, ◌≢◌, ◌≤◌, ◌<◌, ◌^◌, ◌-◌, ◌∷◌, [], None, Some, ℕ, List, MatchOption, true, length};
+    ghost use Rattle.std.specs.Prelude.{◌≡◌, ◌≢◌, ◌≤◌, ◌<◌, ◌^◌, ◌-◌, ◌∷◌, [], None, Some, ℕ, List, IfOk, MatchOption, true, length};
     ghost use Rattle.responder_machine.specs.Answer.{Free};
     ghost use Rattle.responder_machine.specs.BoundLaws.{messages_of};
     ghost use Rattle.responder_machine.specs.History.{History, clear_turns, phase_of};
@@ -68,18 +69,17 @@ impl Sessions {
     ghost use Rattle.responder_session.specs.Session.{IsEnded};
 
     /// No sessions.
-    pub fn new() -> Sessions
-        ensures { (r : RspSetup) → StandsFor result r [] }
+    pub fn new(alloc: Global) -> Result<Sessions, OutOfMemory>
+        ensures { (r : RspSetup) → IfOk result (λ sessions. StandsFor sessions r []) }
     {
-        Sessions {
-            slots: [
-                SessionSlot::empty(),
-                SessionSlot::empty(),
-                SessionSlot::empty(),
-                SessionSlot::empty(),
-            ],
+        let first = SessionSlot::empty(alloc)?;
+        let second = SessionSlot::empty(alloc)?;
+        let third = SessionSlot::empty(alloc)?;
+        let fourth = SessionSlot::empty(alloc)?;
+        Ok(Sessions {
+            slots: [first, second, third, fourth],
             ended: EndedRecord::none(),
-        }
+        })
     }
 
     // A record for the session with this RspSessionID; none where there is none.

@@ -6,4 +6,4 @@ use Rattle.capture_machine.specs.Rounds.{new_dialogue}
 pub returns : goal.returns
 returns c = λ w q asker number set_up.
     let r = responder_for w (kept_of (new_dialogue q)) in
-    record { asker = asker; answerer = c.new.ensures r set_up; keys = c.new-2.ensures r; number = number; places = c.new-3.ensures q }
+    record { asker = asker; answerer = c.in_ok-answerer.ensures r set_up; keys = c.new-2.ensures r; number = number; places = c.new-3.ensures q }

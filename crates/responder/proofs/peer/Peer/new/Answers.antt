@@ -13,5 +13,5 @@ returns c = λ p is.
       setup = ap (λ (k : Known). towards p (known_of k)) (sym copy);
       receiver = c.in_ok-assembler.ensures.receiver ∙ ap (λ (n : ℕ). receiver_of n c.in_ok-known.known.eid.number) (sym is.eid);
       assembler = c.in_ok-assembler.ensures.stands;
-      connection = c.new-connection.ensures (towards p (known_of c.args.known.now)) (subst (λ (k : Known). IsSetUp c.towards.result (towards p (known_of k))) copy (c.towards.ensures.set p is));
+      connection = c.in_ok-connection.ensures (towards p (known_of c.args.known.now)) (subst (λ (k : Known). IsSetUp c.towards.result (towards p (known_of k))) copy (c.towards.ensures.set p is));
     }

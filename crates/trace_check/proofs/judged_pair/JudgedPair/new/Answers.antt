@@ -17,9 +17,9 @@ returns c = λ w own limits sound answering number.
         asks = c.in_ok-new.ensures.stands;
         answers_of = c.in_ok-new-2.ensures.receiver ∙ ap (λ (n : ℕ). receiver_of q.eid n) (sym own);
         answers = c.in_ok-new-2.ensures.stands;
-        round = c.new-4.ensures;
+        round = c.new-5.ensures;
       };
-      talk = c.new-5.ensures w q (c.new-party.ensures w q asker number set_up);
+      talk = c.new-6.ensures w q (c.in_ok-party.ensures w q asker number set_up);
       hint = hint;
       psk = psk;
     }

@@ -2,5 +2,5 @@ use Rattle.responder_core.proofs.Recorded.{no_sessions_in}
 use Rattle.responder_core.proofs.in_sessions.sessions.Sessions.new.Goals as goal
 
 pub returns : goal.returns
-returns c = λ r. no_sessions_in r c.empty.result c.empty-2.result c.empty-3.result c.empty-4.result c.none.result
-    c.empty.ensures c.empty-2.ensures c.empty-3.ensures c.empty-4.ensures c.none.ensures
+returns c = λ r. no_sessions_in r c.in_ok-first.first c.in_ok-second.second c.in_ok-third.third c.in_ok-fourth.fourth c.none.result
+    c.in_ok-first.ensures c.in_ok-second.ensures c.in_ok-third.ensures c.in_ok-fourth.ensures c.none.ensures
