@@ -2,9 +2,9 @@ use crate::open_requester::OpenRequester;
 use crate::open_responder::OpenResponder;
 use mctp_framing::Assembler;
 use responder::Known;
-use responder_core::{Connection, LiveSession};
+use responder_core::{Connection, connection_blocks};
 use spdm_grammar::BlockSpec;
-use spdm_grammar::names::{MAX_BODY_SIZE, SESSION_PLACES};
+use spdm_grammar::names::MAX_BODY_SIZE;
 
 // The packets that an end sends next, as `PacketList` takes memory for them: their bytes, and the places of 72.
 const PACKETS: usize = 8_192 + 72 * 16;
@@ -12,10 +12,9 @@ const PACKETS: usize = 8_192 + 72 * 16;
 // The first blocks of an inventory, which grows by doubling.
 const FIRST_BLOCKS: usize = 4;
 
-// The size of what a responder keeps of a requester: each of its sessions has a block of its own.
+// The size of what a responder keeps of a requester.
 fn requester_share() -> usize {
-    SESSION_PLACES
-        .saturating_mul(size_of::<LiveSession>())
+    connection_blocks()
         .saturating_add(size_of::<(Known, Connection, Assembler)>())
         .saturating_add(MAX_BODY_SIZE)
 }

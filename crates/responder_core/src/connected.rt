@@ -3,9 +3,8 @@ ghost use Rattle.responder_core.specs.Connected.{queue_left, tells_measured};
 ghost use Rattle.spdm_grammar.specs.declared.names.TheConstants.{MAX_APP_DATA_LEN, MAX_OPAQUE_LEN, MAX_PADDING, MAX_SESSIONS};
 
 use crate::clear::clear_part::code_at;
-use crate::wiping::wipe_queue;
-use crate::{ClearOutcome, ClearPart, ExchangeOrigin, FreeValues, Sessions, Setup};
-use responder_session::{AppQueue, QueueFault, ResponseValues, Work};
+use crate::{ClearOutcome, ClearPart, ExchangeOrigin, FreeValues, ReplyQueue, Sessions, Setup};
+use responder_session::{QueueFault, ResponseValues, Work};
 use spdm_basis::{Frame, OutOfMemory, RecordFrame};
 use spdm_grammar::Heard;
 use spdm_grammar::names::request_code::GET_MEASUREMENTS;
@@ -18,13 +17,13 @@ use std::alloc::Global;
 pub struct Connection {
     pub(crate) clear: ClearPart,
     pub(crate) sessions: Sessions,
-    pub(crate) queue: AppQueue,
+    pub(crate) queue: ReplyQueue,
     // Whether the last body used a draw.
     pub(crate) drawn: bool,
 }
 
 // Application data that was received takes the first reply off the queue.
-fn use_up(queue: &mut AppQueue, heard: Heard)
+fn use_up(queue: &mut ReplyQueue, heard: Heard)
     ensures { queue.new ≡ queue_left heard queue.old }
 {
     if let Heard::Taken(_) = heard {
@@ -70,10 +69,11 @@ impl Connection {
             → IfOk result (λ connection. StandsFor connection r []) }
     {
         let sessions = Sessions::new(alloc)?;
+        let queue = ReplyQueue::new(alloc)?;
         Ok(Connection {
             clear: ClearPart::new(setup),
             sessions,
-            queue: AppQueue::new(),
+            queue,
             drawn: false,
         })
     }
@@ -85,7 +85,7 @@ impl Connection {
         ensures queue { self.new.queue ≡ replicate 16 (replicate MAX_APP_DATA_LEN 0) }
     {
         self.sessions.wipe();
-        wipe_queue(&mut self.queue);
+        self.queue.wipe();
     }
 
     /// Handles a clear message with its tag; `free` are the values that its response may use. The response overwrites

@@ -6,6 +6,7 @@
 //! `Connection::on_clear` and `Connection::on_record`.
 #![tactic(auto)]
 
+mod blocks;
 mod clear;
 mod connected;
 mod free_values;
@@ -13,11 +14,13 @@ mod in_sessions;
 mod judging;
 mod laws;
 mod new_data;
+mod reply_queue;
 mod setup;
 mod silence;
 mod views;
 mod wiping;
 
+pub use blocks::connection_blocks;
 pub use clear::clear_outcome::ClearOutcome;
 pub use clear::clear_part::ClearPart;
 pub use clear::clear_state::ClearState;
@@ -36,5 +39,6 @@ pub use in_sessions::session_slot::SessionSlot;
 pub use in_sessions::sessions::Sessions;
 pub use judging::dry_run::DryRun;
 pub use laws::others_keep_the_clear_part;
+pub use reply_queue::ReplyQueue;
 pub use setup::Setup;
 pub use silence::Silence;

@@ -1,0 +1,11 @@
+use crate::LiveSession;
+use responder_session::AppQueue;
+use spdm_grammar::names::SESSION_PLACES;
+
+/// What a connection has in blocks of its own, in bytes: its sessions, and the queue of application data. Tested, and not
+/// proved.
+pub fn connection_blocks() -> usize {
+    SESSION_PLACES
+        .saturating_mul(size_of::<LiveSession>())
+        .saturating_add(size_of::<AppQueue>())
+}
