@@ -33,6 +33,7 @@ pub use clear::requests::Requests;
 pub use connected::Connection;
 pub use free_values::FreeValues;
 pub use in_sessions::ended::EndedRecord;
+pub use in_sessions::ended_place::EndedPlace;
 pub use in_sessions::live_session::LiveSession;
 pub use in_sessions::records::record_id;
 pub use in_sessions::session_slot::SessionSlot;

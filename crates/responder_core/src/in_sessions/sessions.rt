@@ -5,7 +5,7 @@ ghost use Rattle.spdm_grammar.specs.declared.names.TheConstants.{MAX_APP_DATA_LE
 ghost use Rattle.secured_record.specs.declared.TheConstants.{MAX_RECORD_SIZE};
 
 use crate::in_sessions::records::{record_id, replace_record, write_decrypt_error};
-use crate::{EndedRecord, LiveSession, SessionSlot};
+use crate::{EndedPlace, LiveSession, SessionSlot};
 use measurements::Inventory;
 use responder_session::{ResponseValues, RspAct, RspSession, RspTold, Work};
 use spdm_basis::{OutOfMemory, RecordFrame, SessionId};
@@ -19,7 +19,7 @@ use std::alloc::Global;
 #[derive(Drop)]
 pub struct Sessions {
     pub(crate) slots: [SessionSlot; SESSION_PLACES],
-    pub(crate) ended: EndedRecord,
+    pub(crate) ended: EndedPlace,
 }
 
 // How the responder tells what a record of this session did.
@@ -76,9 +76,10 @@ impl Sessions {
         let second = SessionSlot::empty(alloc)?;
         let third = SessionSlot::empty(alloc)?;
         let fourth = SessionSlot::empty(alloc)?;
+        let ended = EndedPlace::none(alloc)?;
         Ok(Sessions {
             slots: [first, second, third, fourth],
-            ended: EndedRecord::none(),
+            ended,
         })
     }
 

@@ -104,7 +104,7 @@ impl Connection {
     pub fn put_ended(&mut self, last: EndedRecord)
         ensures { self.new ≡ with_ended self.old last }
     {
-        self.sessions.ended = last;
+        self.sessions.ended.put(last);
     }
 
     /// The MEASUREMENTS in response to the newest record of the session with this RspSessionID were never seen, and are
