@@ -21,7 +21,7 @@ pub record IsWipedRoom (room : Room) : Type 0 where
 pub record IsWipedShared (shared : Shared) : Type 0 where
   pub seed : shared.draws ≡ record { seed = replicate 32 0; number = 0 }
   pub last : shared.last ≡ replicate MAX_APP_DATA_LEN 0
-  pub room : IsWipedRoom shared.room
+  pub room : IsWipedRoom shared.room.value
 
 -- The pre-shared key is zeros, as many as a key has at most; there is no session: each slot is overwritten; and the
 -- application data that waited are zeros, in as many places as there are.

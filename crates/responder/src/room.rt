@@ -1,7 +1,8 @@
 use crate::body::Body;
 use responder_session::Work;
-use spdm_basis::{Buffer, Frame, RecordFrame};
+use spdm_basis::{Buffer, Frame, OutOfMemory, RecordFrame};
 use spdm_grammar::names::MAX_APP_DATA_LEN;
+use std::alloc::Global;
 
 // Scratch buffers for one response, allocated once so that no packet clears buffers of its own. Their contents between
 // two bodies are irrelevant.
@@ -20,8 +21,16 @@ pub struct Room {
 }
 
 impl Room {
+    // Empty buffers on the heap, where they stay: they have 26 KB.
+    pub(crate) fn new(alloc: Global) -> Result<Box<Room>, OutOfMemory> {
+        match Box::new(alloc, Room::empty()) {
+            Ok(room) => Ok(room),
+            Err(_) => Err(OutOfMemory),
+        }
+    }
+
     // Empty buffers.
-    pub(crate) fn new() -> Room {
+    fn empty() -> Room {
         Room {
             body: Body::new(),
             message: Frame::new(),
@@ -30,4 +39,10 @@ impl Room {
             work: Work::new(),
         }
     }
+}
+
+/// What a responder has in a block of its own beside its requesters and its configuration, in bytes. Tested, and not
+/// proved.
+pub fn responder_block() -> usize {
+    size_of::<Room>()
 }

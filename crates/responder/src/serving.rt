@@ -85,6 +85,9 @@ impl Responder {
         ensures fault { IfErr result (λ fault. IsCause config.now fault) }
     {
         let part = Part::new(alloc, config)?;
+        let Ok(room) = Room::new(alloc) else {
+            return Err(RspConfigFault::OutOfMemory);
+        };
         let Ok(peers) = peers_of(alloc, &part, config) else {
             return Err(RspConfigFault::OutOfMemory);
         };
@@ -94,7 +97,7 @@ impl Responder {
             shared: Shared {
                 draws,
                 last: Buffer::new(),
-                room: Room::new(),
+                room,
             },
             given: 0,
             peers,

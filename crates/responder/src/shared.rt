@@ -21,7 +21,7 @@ use spdm_grammar::names::MAX_APP_DATA_LEN;
 pub struct Shared {
     pub(crate) draws: DrawStream,
     pub(crate) last: Buffer<MAX_APP_DATA_LEN>,
-    pub(crate) room: Room,
+    pub(crate) room: Box<Room>,
 }
 
 impl Shared {

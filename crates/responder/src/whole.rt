@@ -104,15 +104,15 @@ pub(crate) fn hear_whole(
         return Heard::Ignored(RspIgnored::NotRequest);
     }
     let drawn = shared.draws.peek();
-    let room = &mut shared.room;
+    let room = shared.room.as_mut();
     let Some(heard) = hear_body(connection, setup, route.tag, bytes, &drawn, room) else {
         return Heard::Ignored(RspIgnored::OtherType);
     };
-    shared.follow(connection, heard);
     out.fill(
-        shared.room.body.as_slice(),
+        room.body.as_slice(),
         usize::from(part.unit),
         reversed(route),
     );
+    shared.follow(connection, heard);
     heard
 }

@@ -3,7 +3,6 @@ use Rattle.responder_core.specs.Connected.{IsDone}
 use Rattle.responder_core.specs.ClearPart.{is_drawn}
 use Rattle.mctp_framing.specs.Cutting.{RouteFields, packets_of, route_of}
 use Rattle.responder.proofs.Data.{body_data}
-use Rattle.responder.specs.declared.room.Room.{Room}
 use Rattle.responder.proofs.Meeting.{does_whole}
 use Rattle.responder.proofs.whole.hear_whole.Goals as goal
 use Rattle.responder.specs.Came.{Came, IsMet, IsShort, last_for}
@@ -37,7 +36,7 @@ returns c = λ p q k part set towards_is made few below to from empty stands.
       sent =
           c.fill.ensures ∙ ap (λ (r : RouteFields). packets_of r c.from.result c.as_slice.result.now) c.reversed.ensures
           ∙ ap (λ (n : ℕ). packets_of (route c.args.route.from.number c.args.route.to.number) n c.as_slice.result.now) (c.from.ensures ∙ sym unit)
-          ∙ ap (λ (xs : List ℕ). packets_of (route c.args.route.from.number c.args.route.to.number) k.setup.unit xs) (c.as_slice.ensures.value ∙ ap (λ (x : Room). x.body) c.follow.ensures.room ∙ done.body)
+          ∙ ap (λ (xs : List ℕ). packets_of (route c.args.route.from.number c.args.route.to.number) k.setup.unit xs) (c.as_slice.ensures.value ∙ done.body)
           ∙ ap (λ (x : ℕ). packets_of (route x c.args.route.to.number) k.setup.unit (body_of o)) (sym peer)
           ∙ ap (λ (y : ℕ). packets_of (route k.setup.peer y) k.setup.unit (body_of o)) (sym eid);
       stands = done.stands;

@@ -18,9 +18,9 @@ returns-clause-stands c =
       part = c.in_ok-part.ensures.kept;
       seed = ap (λ (d : Draws). d.seed) c.from_number-draws.ensures;
       number = omega (arith, number, boot, none);
-      last = c.new-2.ensures;
+      last = c.new-3.ensures;
       given = refl;
-      peers = c.in-Ok.ensures (part_of config) c.in_ok-part.ensures.kept;
+      peers = c.in-Ok-peers_of.ensures (part_of config) c.in_ok-part.ensures.kept;
       apart = new_apart (part_of config) (map known_of config.known.now) apart;
       reached = record { end = end_of config c.args.seed (c.args.boot * 2 ^ 40); all = []; apart = apart; is = refl };
       first = omega (arith, few);
