@@ -5,6 +5,7 @@ pub mod answers;
 pub mod beginning;
 pub mod clear_outcome;
 pub mod clear_part;
+pub mod clear_place;
 pub mod clear_state;
 pub mod contents;
 pub mod exchange;

@@ -3,7 +3,7 @@ ghost use Rattle.responder_core.specs.Connected.{queue_left, tells_measured};
 ghost use Rattle.spdm_grammar.specs.declared.names.TheConstants.{MAX_APP_DATA_LEN, MAX_OPAQUE_LEN, MAX_PADDING, MAX_SESSIONS};
 
 use crate::clear::clear_part::code_at;
-use crate::{ClearOutcome, ClearPart, ExchangeOrigin, FreeValues, ReplyQueue, Sessions, Setup};
+use crate::{ClearOutcome, ClearPlace, ExchangeOrigin, FreeValues, ReplyQueue, Sessions, Setup};
 use responder_session::{QueueFault, ResponseValues, Work};
 use spdm_basis::{Frame, OutOfMemory, RecordFrame};
 use spdm_grammar::Heard;
@@ -15,7 +15,7 @@ use std::alloc::Global;
 /// (read, not proved).
 #[derive(Drop)]
 pub struct Connection {
-    pub(crate) clear: ClearPart,
+    pub(crate) clear: ClearPlace,
     pub(crate) sessions: Sessions,
     pub(crate) queue: ReplyQueue,
     // Whether the last body used a draw.
@@ -68,10 +68,11 @@ impl Connection {
         ensures { (r : RspSetup) → IsSetUp setup.now r
             → IfOk result (λ connection. StandsFor connection r []) }
     {
+        let clear = ClearPlace::new(alloc, setup)?;
         let sessions = Sessions::new(alloc)?;
         let queue = ReplyQueue::new(alloc)?;
         Ok(Connection {
-            clear: ClearPart::new(setup),
+            clear,
             sessions,
             queue,
             drawn: false,

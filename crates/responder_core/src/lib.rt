@@ -23,6 +23,7 @@ mod wiping;
 pub use blocks::connection_blocks;
 pub use clear::clear_outcome::ClearOutcome;
 pub use clear::clear_part::ClearPart;
+pub use clear::clear_place::ClearPlace;
 pub use clear::clear_state::ClearState;
 pub use clear::handled_request::HandledRequest;
 pub use clear::kept::KeptReply;

@@ -1,4 +1,6 @@
-use crate::{ClearPart, ClearState, Connection, LiveSession, Requests, SessionSlot, Sessions};
+use crate::{
+    ClearPart, ClearPlace, ClearState, Connection, LiveSession, Requests, SessionSlot, Sessions,
+};
 use spdm_grammar::names::MAX_SESSIONS;
 
 // The clear part without the MEASUREMENTS that were to go by LargeResponse in answer to what was taken last: they were
@@ -51,6 +53,26 @@ impl ClearPart {
             → StandsFor self.new r (Clear tag (turn_unseen t) d ∷ h) }
     {
         self.requests.forget();
+    }
+}
+
+impl ClearPlace {
+    ghost use Rattle.std.specs.Prelude.{◌∷◌, ℕ};
+    ghost use Rattle.responder_rules.specs.LargeAnswer.{turn_unseen};
+    ghost use Rattle.responder_machine.specs.History.{History};
+    ghost use Rattle.responder_machine.specs.History.Entry.{Clear};
+    ghost use Rattle.responder_machine.specs.Setup.{RspSetup};
+    ghost use Rattle.responder_machine.specs.Turn.{Turn};
+    ghost use Rattle.spdm_machine.specs.Keys.{Draw};
+    ghost use Rattle.responder_core.specs.ClearPart.{StandsFor};
+    ghost use Rattle.responder_core.specs.Pending.{GoesLarge};
+
+    fn forget(&mut self)
+        ensures { (r : RspSetup) (h : History) (tag : ℕ) (t : Turn) (d : Draw) → GoesLarge t
+            → StandsFor self.old r (Clear tag t d ∷ h)
+            → StandsFor self.new r (Clear tag (turn_unseen t) d ∷ h) }
+    {
+        self.inner.forget();
     }
 }
 

@@ -1,4 +1,4 @@
-use crate::{ClearPart, ClearState, Connection, Requests, Sessions};
+use crate::{ClearPart, ClearPlace, ClearState, Connection, Requests, Sessions};
 
 // How the clear part follows a request that was taken, whose large response was never seen.
 impl ClearState {
@@ -50,6 +50,27 @@ impl ClearPart {
     {
         self.requests.skip_large_response();
         self.kept.keep(tag, message, reply);
+    }
+}
+
+impl ClearPlace {
+    ghost use Rattle.std.specs.Prelude.{◌≤◌, ◌∷◌, Bool, length};
+    ghost use Rattle.responder_machine.specs.History.{History};
+    ghost use Rattle.responder_machine.specs.History.Entry.{Clear};
+    ghost use Rattle.responder_machine.specs.Setup.{RspSetup};
+    ghost use Rattle.responder_machine.specs.Turn.{Turn};
+    ghost use Rattle.spdm_grammar.specs.declared.names.TheConstants.{MAX_MESSAGE_SIZE};
+    ghost use Rattle.spdm_machine.specs.Keys.{Draw};
+    ghost use Rattle.responder_core.specs.ClearPart.{StandsFor};
+    ghost use Rattle.responder_core.specs.UnseenRequests.{IsTurnOf, IsUnseenTurn};
+
+    fn skip_large_response(&mut self, tag: u8, message: &[u8], reply: &[u8])
+        ensures { (r : RspSetup) (h : History) (t : Turn) (d : Draw) (exchange : Bool)
+            → length message.now ≤ MAX_MESSAGE_SIZE → length reply.now ≤ MAX_MESSAGE_SIZE
+            → IsUnseenTurn t → IsTurnOf t message.now reply.now exchange → StandsFor self.old r h
+            → StandsFor self.new r (Clear tag t d ∷ h) }
+    {
+        self.inner.skip_large_response(tag, message, reply);
     }
 }
 
