@@ -1,7 +1,7 @@
 use crate::open_requester::OpenRequester;
 use crate::open_responder::OpenResponder;
 use mctp_framing::Assembler;
-use responder::{Known, responder_block};
+use responder::{Known, responder_blocks};
 use responder_core::{Connection, connection_blocks};
 use spdm_grammar::BlockSpec;
 use spdm_grammar::names::MAX_BODY_SIZE;
@@ -25,7 +25,7 @@ pub fn responder_size(requesters: usize, blocks: usize, bytes: usize) -> usize {
     let each = requester_share().saturating_add(size_of::<Known>());
     let listed = FIRST_BLOCKS.saturating_add(blocks.saturating_mul(4));
     size_of::<OpenResponder>()
-        .saturating_add(responder_block())
+        .saturating_add(responder_blocks())
         .saturating_add(PACKETS)
         .saturating_add(requesters.saturating_mul(each))
         .saturating_add(listed.saturating_mul(size_of::<BlockSpec>()))

@@ -15,7 +15,7 @@ pub record IsWipedRoom (room : Room) : Type 0 where
   pub message : room.message ≡ replicate MAX_MESSAGE_SIZE 0
   pub sealed : room.«record» ≡ replicate MAX_RECORD_SIZE 0
   pub reply : room.reply ≡ replicate MAX_APP_DATA_LEN 0
-  pub work : IsWipedWork room.work
+  pub work : IsWipedWork room.work.value
 
 -- The seed of the draws, the application data received last and the buffers are zeros.
 pub record IsWipedShared (shared : Shared) : Type 0 where

@@ -93,7 +93,7 @@ pub(crate) fn hear_record(
         reply: room.reply.as_slice(),
         pad: &[],
     };
-    let heard = connection.on_record(setup, sealed, &free, &mut room.work, &mut room.record);
+    let heard = connection.on_record(setup, sealed, &free, room.work.as_mut(), &mut room.record);
     write_reply(heard, room.record.as_slice(), &mut room.body);
     heard
 }

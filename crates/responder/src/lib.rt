@@ -31,6 +31,6 @@ pub use fault::RspConfigFault;
 pub use peeking::{PeekRoom, Peeked};
 pub use resetting::ResetFault;
 pub use responder_core::Silence;
-pub use room::responder_block;
+pub use room::responder_blocks;
 pub use serving::Responder;
 pub use spdm_grammar::{Heard, Phase, ReplyFault, RspIgnored};

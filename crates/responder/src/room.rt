@@ -17,32 +17,35 @@ pub struct Room {
     // The next application data to send in reply: up to 1,024 bytes.
     pub(crate) reply: Buffer<MAX_APP_DATA_LEN>,
     // Scratch space for handling a record.
-    pub(crate) work: Work,
+    pub(crate) work: Box<Work>,
 }
 
 impl Room {
-    // Empty buffers on the heap, where they stay: they have 26 KB.
+    // Empty buffers on the heap, where they stay: two blocks of 13 KB.
     pub(crate) fn new(alloc: Global) -> Result<Box<Room>, OutOfMemory> {
-        match Box::new(alloc, Room::empty()) {
+        let Ok(work) = Box::new(alloc, Work::new()) else {
+            return Err(OutOfMemory);
+        };
+        match Box::new(alloc, Room::with(work)) {
             Ok(room) => Ok(room),
             Err(_) => Err(OutOfMemory),
         }
     }
 
-    // Empty buffers.
-    fn empty() -> Room {
+    // Empty buffers, with this scratch space.
+    fn with(work: Box<Work>) -> Room {
         Room {
             body: Body::new(),
             message: Frame::new(),
             record: RecordFrame::new(),
             reply: Buffer::new(),
-            work: Work::new(),
+            work,
         }
     }
 }
 
-/// What a responder has in a block of its own beside its requesters and its configuration, in bytes. Tested, and not
+/// What a responder has in blocks of its own beside its requesters and its configuration, in bytes. Tested, and not
 /// proved.
-pub fn responder_block() -> usize {
-    size_of::<Room>()
+pub fn responder_blocks() -> usize {
+    size_of::<Room>().saturating_add(size_of::<Work>())
 }
