@@ -64,6 +64,6 @@ impl ReplyQueue {
     pub fn wipe(&mut self)
         ensures { self.new ≡ replicate 16 (replicate MAX_APP_DATA_LEN 0) }
     {
-        wipe_queue(&mut self.inner);
+        wipe_queue(self.inner.as_mut());
     }
 }
