@@ -1,4 +1,4 @@
-ghost use Rattle.std.specs.Prelude.{◌≡◌, ◌≤◌, [], IfOk, IfSome, is_some, true, false, length};
+ghost use Rattle.std.specs.Prelude.{◌≡◌, ◌≤◌, [], ℕ, IfOk, IfSome, is_some, true, false, length};
 ghost use Rattle.responder_machine.specs.Answer.{Free, answer_bytes};
 ghost use Rattle.responder_machine.specs.History.{History, clear_turns};
 ghost use Rattle.responder_machine.specs.May.{IsAllowed};
