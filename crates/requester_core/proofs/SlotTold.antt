@@ -1,21 +1,29 @@
 -- What the slot of a session says of what PSK_EXCHANGE_RSP told.
-use Rattle.std.proofs.Common.{◌≡◌, ◌∙◌, ap, sym, inl, inr, ℕ, List, [], Some, None}
+use Rattle.std.specs.Prelude.{◌⊎◌}
+use Rattle.std.proofs.Common.{◌≡◌, ◌∙◌, ap, subst, sym, inl, inr, ℕ, List, [], Some, None}
 use Rattle.psk_session.specs.Told.{told_of}
 use Rattle.psk_session.specs.declared.finishing.Finishing.{Finishing}
 use Rattle.psk_session.specs.declared.opening.Opening.{Opening}
 use Rattle.psk_session.specs.declared.req_session.ReqSession.{ReqSession}
 use Rattle.psk_session.specs.declared.session_told.SessionTold.{SessionTold}
 use Rattle.requester_core.specs.Slot.{IsSlotOf}
+use Rattle.requester_core.specs.declared.in_sessions.slot.Slot.{Slot}
 use Rattle.requester_core.specs.declared.in_sessions.slot.Slot.TheVariants as slot
 use Rattle.requester_machine.specs.Session.{Steps}
 
-pub empty_told : (psk : List ℕ) (s : Steps) → IsSlotOf slot.Empty psk s → told_of s ≡ None
+-- Where there is no session nothing is told.
+pub empty_told : (s : Steps) → s ≡ [] → told_of s ≡ None
 unfolding told_of
-empty_told psk s is = ap told_of is
+empty_told s is = ap told_of is
 
-pub opening_told : (x : Opening) (psk : List ℕ) (s : Steps) → IsSlotOf (slot.Opening x) psk s → told_of s ≡ None
+opening_told : (x : Opening) (psk : List ℕ) (s : Steps) → IsSlotOf (slot.Opening x) psk s → told_of s ≡ None
 unfolding told_of
 opening_told x psk s o = ap told_of o.steps
+
+-- Before PSK_EXCHANGE_RSP was taken nothing is told.
+pub none_told : (x : Slot) (psk : List ℕ) (s : Steps) → (x ≡ slot.Empty) ⊎ ((o : Opening) × (x ≡ slot.Opening o)) → IsSlotOf x psk s → told_of s ≡ None
+none_told x psk s (inl e) is = empty_told s (subst (λ (y : Slot). IsSlotOf y psk s) e is)
+none_told x psk s (inr o) is = opening_told o.0 psk s (subst (λ (y : Slot). IsSlotOf y psk s) o.1 is)
 
 pub finishing_told : (x : Finishing) (psk : List ℕ) (s : Steps) (told : SessionTold) → IsSlotOf (slot.Finishing x) psk s
     → told ≡ x.told → told_of s ≡ Some told

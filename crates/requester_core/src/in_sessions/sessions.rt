@@ -305,6 +305,7 @@ impl Sessions {
     }
 
     // What the session with this ReqSessionID was told.
+    #[tactic(auto, using(crate::proofs::SlotTold::empty_told))]
     fn told_at(&self, id: u16) -> Option<&SessionTold>
         ensures { (psk : List ℕ) (s : Steps) → IsSlotOf (slot_of self.now id) psk s
             → MatchOption result (told_of s ≡ None) (λ told. told_of s ≡ Some told.now) }
