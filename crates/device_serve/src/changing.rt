@@ -85,11 +85,7 @@ fn line_change(q: u8, change: SessionChange, out: &mut Line)
 }
 
 // Writes the line of a session with requester `q`, where it changed. The fault is that of `write_changes`.
-fn write_change<K: Sink>(
-    sink: &mut K,
-    q: u8,
-    change: Option<SessionChange>,
-) -> Result<(), OutFault>
+fn write_change<K: Sink>(sink: &mut K, q: u8, change: Option<SessionChange>) -> Result<(), OutFault>
     requires { q ≤ 8 }
     ensures whole { OnOk result (Takes (K.contents sink.old)
         (frames_of (told_changes q (change ∷ []))) (K.contents sink.new)) }

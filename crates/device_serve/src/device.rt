@@ -288,6 +288,7 @@ impl Device {
             Err(fault) => Err(fault_of(fault)),
         }
     }
+
     // Writes what became of the sessions with requester `q` since they were watched.
     fn tell_changes<K: Sink>(
         &self,
@@ -358,6 +359,7 @@ impl Device {
             Err(fault) => Err(fault),
         }
     }
+
     // Reads the next frame and writes what it led to, and behind it what became of sessions. Returns whether there was
     // one. There is room for the bytes of a line.
     pub(crate) fn answer_next<S: Source, K: Sink>(

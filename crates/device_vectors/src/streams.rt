@@ -88,7 +88,10 @@ fn behind_opening(rt: &(impl AllocGlobal + Abort), frames: &str) -> Result<Strin
     stream.extend_from_slice(more.as_slice())?;
     let (outcome, written) = run(rt, stream.as_slice())?;
     assert_eq!(rt; outcome, Outcome::Done);
-    let behind = written.as_str().strip_prefix(OPENED).ok_or("another opening")?;
+    let behind = written
+        .as_str()
+        .strip_prefix(OPENED)
+        .ok_or("another opening")?;
     Ok(String::from_str(rt.alloc(), behind)?)
 }
 
