@@ -1,12 +1,11 @@
 -- The lines of what became of sessions, behind what a frame led to.
-use Rattle.std.proofs.Common.{◌≡◌, ◌∙◌, ◌++◌, ◌+◌, ◌-◌, ◌≤◌, ℕ, get_or, take, drop, List, [], ◌∷◌, Option, Some, None, Result, Ok, Err, arith, length, refl, ap, sym, subst, append_assoc, append-nil}
+use Rattle.std.proofs.Common.{◌≡◌, ◌∙◌, ◌++◌, ◌+◌, ◌-◌, ◌≤◌, ℕ, get_or, take, drop, List, [], ◌∷◌, Option, Some, None, arith, length, refl, ap, sym, subst, append_assoc, append-nil}
 use Rattle.std.proofs.lemmas.Grind.{common_steps, flat_map-append}
 use Rattle.device_serve.specs.Devised as devised
 use Rattle.device_serve.specs.Devised.{Writing, changes_at, changes_from, devised_by, frame_of, frames_of, shown_with, told_changes}
 use Rattle.device_serve.specs.Devised.Writing.{Changes}
 use Rattle.device_serve.specs.Standing.{IsAnswered, IsStepFault}
 use Rattle.device_serve.specs.declared.device.Device.{Device}
-use Rattle.frame_stream.proofs.Fronts.{fault_later}
 use Rattle.frame_stream.proofs.Written.{prefix_of_first, takes_both, takes_then_prefix}
 use Rattle.frame_stream.specs.Frames.{GivenFrame}
 use Rattle.frame_stream.specs.Runs.{Counts}

@@ -1,4 +1,4 @@
-use Rattle.std.proofs.Common.{◌≡◌, ◌∙◌, ◌+◌, ◌++◌, ◌∷◌, [], ℕ, List, Bool, length, ap, sym, subst}
+use Rattle.std.proofs.Common.{◌≡◌, ◌∙◌, ◌+◌, ◌++◌, ◌∷◌, [], List, Bool, length, ap, sym, subst}
 use Rattle.device_serve.proofs.Changed.{answered_in_part, answered_more, fault_before, last_apart, others_of}
 use Rattle.device_serve.specs.Devised.{changes_at, devised_by, frames_of, told_changes}
 use Rattle.device_serve.specs.Standing.{IsAnswered, IsStep, IsStepFault}

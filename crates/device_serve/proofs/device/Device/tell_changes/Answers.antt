@@ -1,4 +1,4 @@
-use Rattle.std.proofs.Common.{ℕ, List, Option, subst}
+use Rattle.std.proofs.Common.{List, Option, subst}
 use Rattle.device_serve.proofs.Changed.{changes_are}
 use Rattle.device_serve.specs.Devised.{frames_of, told_changes}
 use Rattle.responder.specs.Changes.{marks_in}
