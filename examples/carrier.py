@@ -109,9 +109,9 @@ class Carrier:
             self.starts = True
         to.give(PACKET, packet)
 
-    def settle(self, owes=lambda: False):
-        """Carries until both ends are silent; longer where `owes()` holds."""
-        while ready := self.readable.select(STARTING if owes() or self.starts else SILENCE):
+    def settle(self, owes=lambda: False, silence=SILENCE):
+        """Carries until both ends are silent for so many seconds; longer where `owes()` holds."""
+        while ready := self.readable.select(STARTING if owes() or self.starts else silence):
             for key, _ in ready:
                 for kind, content in key.data.frames():
                     if key.data is self.responder:

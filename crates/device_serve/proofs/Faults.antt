@@ -19,7 +19,7 @@ early_cause c d before held n (fault.Responder of) early = refl
 early_cause c d before held n fault.OutOfMemory early = refl
 
 -- after it no fault is of these
-pub step_late : (c : ScriptConfig) (d : devised.Device) (old : Device) (before held : Option (List ℕ)) (n : Counts) (f : ServeFault) (new : Device) (after holds : Option (List ℕ)) → IsStepFault c d old before held n f new after holds → IsLate f
+pub step_late : (c : ScriptConfig) (d : devised.Device) (old : Device) (before held : Option (List ℕ)) (n : Counts) (f : ServeFault) (new : Device) (after holds : Option (List ℕ)) → IsStepFault c c.requesters d old before held n f new after holds → IsLate f
 step_late c d old before held n fault.ReadFault new after holds is = tt
 step_late c d old before held n fault.WriteFault new after holds is = tt
 step_late c d old before held n fault.TooLong new after holds is = tt

@@ -6,3 +6,4 @@ pub mod Written
 pub mod Runs
 pub mod Faults
 pub mod Unique
+pub mod Changed

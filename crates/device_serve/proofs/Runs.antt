@@ -11,7 +11,7 @@ use Rattle.frame_stream.specs.Runs.{Counts, IsFresh, IsOver}
 use Rattle.frame_stream.specs.Standing.{left_of}
 use Rattle.frame_stream.specs.declared.reader.FrameReader.{FrameReader}
 use Rattle.device_serve.specs.Devised as devised
-use Rattle.device_serve.specs.Devised.{Writing, after_frames, device_kinds, devised_by, devised_from, frame_of, frames_of}
+use Rattle.device_serve.specs.Devised.{Writing, after_frames, device_kinds, devised_by, devised_from, frame_of, frames_of, shown_by}
 use Rattle.device_serve.specs.Streams.{AreTold, HasNoAnswer, IsDevised, IsDevisedSoFar, IsDeviceStream, IsTold, Stops}
 use Rattle.device_serve.specs.Standing.{IsAnswered, IsCause, IsNoAnswer, IsRun, IsStepFault, StandsFor}
 use Rattle.responder_serve.specs.declared.fault.ServeFault.{ServeFault}
@@ -25,18 +25,18 @@ after_more c d [] frame = refl
 after_more c d (f ∷ frames) frame = after_more c (devised_by c d f).after frames frame
 
 devised_more : (c : ScriptConfig) (d : devised.Device) (frames : List GivenFrame) (frame : GivenFrame) →
-    devised_from c d (frames ++ frame ∷ []) ≡ devised_from c d frames ++ (devised_by c (after_frames c d frames) frame).written
-devised_more c d [] frame = append-nil ((devised_by c d frame).written)
+    devised_from c d (frames ++ frame ∷ []) ≡ devised_from c d frames ++ shown_by c (after_frames c d frames) frame
+devised_more c d [] frame = append-nil (shown_by c d frame)
 devised_more c d (f ∷ frames) frame =
-    ap (λ (l : List Writing). (devised_by c d f).written ++ l) (devised_more c (devised_by c d f).after frames frame)
-    ∙ sym (append_assoc ((devised_by c d f).written) (devised_from c (devised_by c d f).after frames) ((devised_by c (after_frames c (devised_by c d f).after frames) frame).written))
+    ap (λ (l : List Writing). shown_by c d f ++ l) (devised_more c (devised_by c d f).after frames frame)
+    ∙ sym (append_assoc (shown_by c d f) (devised_from c (devised_by c d f).after frames) (shown_by c (after_frames c (devised_by c d f).after frames) frame))
 
 -- as frames
 written_more : (c : ScriptConfig) (d : devised.Device) (frames : List GivenFrame) (frame : GivenFrame) →
-    frames_of (devised_from c d (frames ++ frame ∷ [])) ≡ frames_of (devised_from c d frames) ++ frames_of (devised_by c (after_frames c d frames) frame).written
+    frames_of (devised_from c d (frames ++ frame ∷ [])) ≡ frames_of (devised_from c d frames) ++ frames_of (shown_by c (after_frames c d frames) frame)
 written_more c d frames frame =
     ap frames_of (devised_more c d frames frame)
-    ∙ flat_map-append frame_of (devised_from c d frames) (devised_by c (after_frames c d frames) frame).written
+    ∙ flat_map-append frame_of (devised_from c d frames) (shown_by c (after_frames c d frames) frame)
 
 told_more : (frames : List GivenFrame) (frame : GivenFrame) → AreTold frames → IsTold frame → AreTold (frames ++ frame ∷ [])
 told_more [] frame all own = (own, tt)
@@ -44,7 +44,7 @@ told_more (f ∷ frames) frame all own = (all.0, told_more frames frame all.1 ow
 
 -- one more frame
 pub run_more : (c : ScriptConfig) (d : devised.Device) (old : FrameReader) (first held : Option (List ℕ)) (mid : Device) (before between : Option (List ℕ)) (new : Device) (after holds : Option (List ℕ)) →
-    (run : IsRun c d old first held mid before between) → IsAnswered c (after_frames c d run.frames) mid before between new after holds → IsRun c d old first held new after holds
+    (run : IsRun c d old first held mid before between) → IsAnswered c c.requesters (after_frames c d run.frames) mid before between new after holds → IsRun c d old first held new after holds
 run_more c d old first held mid before between new after holds run step =
     let frames = run.frames in
     let frame = step.frame in
@@ -54,7 +54,7 @@ run_more c d old first held mid before between new after holds run step =
       told = told_more frames frame run.told step.told;
       stands = subst (λ (e : devised.Device). StandsFor new e) (sym (after_more c d frames frame)) step.stands;
       written = subst (λ (l : List ℕ). Takes held l holds) (sym (written_more c d frames frame))
-          (takes_both held between holds (frames_of (devised_from c d frames)) (frames_of (devised_by c (after_frames c d frames) frame).written) run.written step.written);
+          (takes_both held between holds (frames_of (devised_from c d frames)) (frames_of (shown_by c (after_frames c d frames) frame)) run.written step.written);
     }
 
 -- what a stream is after the frames so far
@@ -105,7 +105,7 @@ pub run_fault : (c : ScriptConfig) (d : devised.Device) (old : FrameReader) (fir
     IsFresh device_kinds stream_limit old → (run : IsRun c d old first held mid before between) →
     all.read_before ≤ n.read_before → n.read_before ≤ n.read_after → all.read_after ≡ n.read_after →
     all.written_before ≤ n.written_before → n.written_before ≤ n.written_after → all.written_after ≡ n.written_after →
-    IsStepFault c (after_frames c d run.frames) mid before between n fault new after holds → IsCause c d (left_of old first) held holds all fault
+    IsStepFault c c.requesters (after_frames c d run.frames) mid before between n fault new after holds → IsCause c d (left_of old first) held holds all fault
 run_fault c d old first held mid before between n all fault.ReadFault new after holds fresh run low high same low' high' same' (counted, kept) = (
   subst (λ m. HasFault all.read_before m) (sym same) (fault_later all.read_before n.read_before n.read_after low high counted),
   so_far c d old first held mid before between holds fresh run kept,
@@ -119,7 +119,7 @@ run_fault c d old first held mid before between n all fault.WriteFault new after
         stream = stream_begins device_kinds stream_limit old first (frames ++ frame ∷ []) new.reader after fresh (one_more_read old first frames mid.reader before frame new.reader after run.read part.read);
         told = told_more frames frame run.told part.told;
         written = subst (λ (l : List ℕ). TakesPrefix held l holds) (sym (written_more c d frames frame))
-            (takes_then_prefix held between holds (frames_of (devised_from c d frames)) (frames_of (devised_by c (after_frames c d frames) frame).written) run.written part.written);
+            (takes_then_prefix held between holds (frames_of (devised_from c d frames)) (frames_of (shown_by c (after_frames c d frames) frame)) run.written part.written);
       },
     )
 run_fault c d old first held mid before between n all fault.TooLong new after holds fresh run low high same low' high' same' (cause, kept) = record {

@@ -5,7 +5,7 @@ use Rattle.std.proofs.lemmas.Bool.{false≢true}
 use Rattle.std.proofs.lemmas.Grind.{flat_map-append}
 use Rattle.std.proofs.lemmas.Option.{none-some}
 use Rattle.device_serve.specs.Devised as devised
-use Rattle.device_serve.specs.Devised.{Devising, Writing, answers_waiting, at_rest, behind, frame_of, frames_of, hears, queued_by, rests, settles, settles_waiting}
+use Rattle.device_serve.specs.Devised.{Devising, answers_waiting, at_rest, behind, frame_of, frames_of, hears, settles, settles_waiting}
 use Rattle.device_serve.specs.Devised.Writing.{Tells}
 use Rattle.device_serve.specs.Replies.{Answer, answer_in}
 use Rattle.device_serve.specs.Replies.Answer.{WithData, WithoutData}

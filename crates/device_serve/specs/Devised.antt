@@ -1,12 +1,15 @@
 -- What a responder with an application behind it writes on a stream of frames. This project's own.
 use Rattle.std.specs.Prelude.{◌+◌, ◌==◌, ◌++◌, ℕ, List, [], ◌∷◌, map, Bool, true, Option, Some, None}
 use Rattle.std.specs.List.{flat_map, position_from}
+use Rattle.device_serve.specs.Changing.{change_text}
 use Rattle.device_serve.specs.Replies.{Answer, answer_in}
 use Rattle.device_serve.specs.Replies.Answer.{WithData, WithoutData}
-use Rattle.frame_stream.specs.Frames.{GivenFrame, spelled}
+use Rattle.frame_stream.specs.Frames.{GivenFrame, counted, spelled}
 use Rattle.frame_stream.specs.Frames.GivenFrame.{PacketOf, TicksOf, CommandOf}
 use Rattle.frame_stream.specs.declared.kinds.Kinds.{Kinds}
 use Rattle.requester_drive.specs.Driven.{line_frame}
+use Rattle.responder.specs.Changes.{changes_between, marks_at}
+use Rattle.responder.specs.declared.changes.SessionChange.{SessionChange}
 use Rattle.responder_machine.specs.EndLaws.{source_of}
 use Rattle.responder_machine.specs.Responding.{Responding, RspStep, connection_of, queues, reply_fault_of, responder_hears, ticks}
 use Rattle.responder_serve.specs.Served.{responder_in_life}
@@ -37,14 +40,16 @@ device_in_life c seed boot = at_rest (responder_in_life c seed boot)
 abbrev pub device_of : ScriptConfig → (seed : List ℕ) → Device
 device_of c seed = device_in_life c seed 0
 
--- What it writes: a line, or a packet that it sends.
+-- What it writes: a line, the line of what became of a session with requester n, or a packet that it sends.
 pub data Writing : Type 0 where
   Tells : (line : Line) → Writing
+  Changes : (n : ℕ) → (change : SessionChange) → Writing
   Sends : (packet : List ℕ) → Writing
 
 -- Each as a frame, one after the other.
 abbrev pub frame_of : Writing → List ℕ
 frame_of (Tells line) = line_frame line
+frame_of (Changes n change) = 4 ∷ counted (change_text n change)
 frame_of (Sends packet) = spelled (PacketOf packet)
 
 abbrev pub frames_of : List Writing → List ℕ
@@ -135,11 +140,40 @@ answers d (Some answer) = answers_waiting d.responder d.waits answer
 
 -- ---- Frames.
 
--- What a frame leads to. A packet, and seconds, answer the packet that waits without data first.
+-- What a frame leads to, without what becomes of sessions. A packet, and seconds, answer the packet that waits without
+-- data first.
 abbrev pub devised_by : ScriptConfig → Device → GivenFrame → Devising
 devised_by c d (PacketOf packet) = behind (settles d) (λ r. arrives c r packet)
 devised_by c d (TicksOf seconds) = behind (settles d) (λ r. rests (ticks r seconds))
 devised_by c d (CommandOf line) = answers d (answer_in line)
+
+-- ---- Sessions.
+
+-- What became of the sessions with an endpoint between two moments.
+abbrev pub changes_at : (eid : ℕ) → (before after : Responding) → List (Option SessionChange)
+changes_at eid before after = changes_between (marks_at (connection_of eid before.connections)) (marks_at (connection_of eid after.connections))
+
+-- A line for each that changed, by rising RspSessionID.
+abbrev pub told_changes : (n : ℕ) → List (Option SessionChange) → List Writing
+told_changes n [] = []
+told_changes n (None ∷ others) = told_changes n others
+told_changes n (Some change ∷ others) = Changes n change ∷ told_changes n others
+
+-- Those of requesters, counted from n.
+abbrev pub changes_from : (n : ℕ) → List ReqPart → (before after : Responding) → List Writing
+changes_from n [] before after = []
+changes_from n (q ∷ others) before after = told_changes n (changes_at q.eid.number before after) ++ changes_from (n + 1) others before after
+
+-- What a frame leads to, and behind it what it changed of the sessions with these requesters, the first of the
+-- configuration.
+abbrev pub shown_with : ScriptConfig → List ReqPart → Device → GivenFrame → List Writing
+shown_with c requesters d frame = (devised_by c d frame).written ++ changes_from 1 requesters d.responder (devised_by c d frame).after.responder
+
+-- What is written of a frame.
+abbrev pub shown_by : ScriptConfig → Device → GivenFrame → List Writing
+shown_by c d frame = shown_with c c.requesters d frame
+
+-- ---- All frames.
 
 -- The device after all of them in order.
 abbrev pub after_frames : ScriptConfig → Device → List GivenFrame → Device
@@ -149,4 +183,4 @@ after_frames c d (frame ∷ others) = after_frames c (devised_by c d frame).afte
 -- What is written of all of them, in order. A packet that waits behind the last one is not answered.
 abbrev pub devised_from : ScriptConfig → Device → List GivenFrame → List Writing
 devised_from c d [] = []
-devised_from c d (frame ∷ others) = (devised_by c d frame).written ++ devised_from c (devised_by c d frame).after others
+devised_from c d (frame ∷ others) = shown_by c d frame ++ devised_from c (devised_by c d frame).after others

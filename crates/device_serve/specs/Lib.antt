@@ -1,3 +1,4 @@
+pub mod Changing
 pub mod Replies
 pub mod Devised
 pub mod Streams

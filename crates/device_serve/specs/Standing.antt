@@ -2,7 +2,7 @@
 use Rattle.std.specs.Prelude.{◌≡◌, ◌⊎◌, ℕ, List, [], ◌∷◌, Bool, true, false, take, Option, Some, None, Result, Ok, Err, IfSome}
 use Rattle.std.specs.Option.{option_map}
 use Rattle.device_serve.specs.Devised as devised
-use Rattle.device_serve.specs.Devised.{Devising, after_frames, answers, devised_by, devised_from, frames_of, number_in}
+use Rattle.device_serve.specs.Devised.{Devising, after_frames, answers, devised_by, devised_from, frames_of, number_in, shown_with}
 use Rattle.device_serve.specs.Devised.Writing.{Tells}
 use Rattle.device_serve.specs.Replies.{Answer, answer_in}
 use Rattle.device_serve.specs.Replies.Answer.{WithData, WithoutData}
@@ -25,6 +25,7 @@ use Rattle.responder_machine.specs.EndLaws.{source_of}
 use Rattle.responder_machine.specs.Responding.{Responding, responder_hears}
 use Rattle.responder_serve.specs.declared.fault.ServeFault.{ServeFault}
 use Rattle.responder_serve.specs.declared.fault.ServeFault.TheVariants as fault
+use Rattle.script_text.specs.declared.configuration.config.ReqPart.{ReqPart}
 use Rattle.script_text.specs.declared.configuration.config.ScriptConfig.{ScriptConfig}
 use Rattle.spdm_basis.specs.Stream.{HasFault, Takes, TakesPrefix}
 use Rattle.spdm_basis.specs.declared.streams.transfer.OutFault.{OutFault}
@@ -112,25 +113,25 @@ IsObeyed d at line n held (Err fault.WriteFault) new holds =
 IsObeyed d at line n held (Err (fault.BadFrame place)) new holds = (place ≡ at) × (answer_in line ≡ None) × (holds ≡ held)
 IsObeyed d at line n held (Err other) new holds = ⊥
 
--- A frame was read, and all that it led to was written.
-pub record IsAnswered (c : ScriptConfig) (d : devised.Device) (old : Device) (before held : Option (List ℕ)) (new : Device) (after holds : Option (List ℕ)) : Type 0 where
+-- A frame was read, and all that it led to was written, with what it changed of the sessions with these requesters.
+pub record IsAnswered (c : ScriptConfig) (qs : List ReqPart) (d : devised.Device) (old : Device) (before held : Option (List ℕ)) (new : Device) (after holds : Option (List ℕ)) : Type 0 where
   pub frame : GivenFrame
   pub read : IsRead old.reader before frame new.reader after
   pub told : IsTold frame
   pub stands : StandsFor new (devised_by c d frame).after
-  pub written : Takes held (frames_of (devised_by c d frame).written) holds
+  pub written : Takes held (frames_of (shown_with c qs d frame)) holds
 
 -- Whether there was a frame.
-abbrev pub IsStep : ScriptConfig → devised.Device → (old : Device) → (before held : Option (List ℕ)) → Bool → (new : Device) → (after holds : Option (List ℕ)) → Type 0
-IsStep c d old before held true new after holds = IsAnswered c d old before held new after holds
-IsStep c d old before held false new after holds = IsOver old.reader before held new.reader after holds
+abbrev pub IsStep : ScriptConfig → List ReqPart → devised.Device → (old : Device) → (before held : Option (List ℕ)) → Bool → (new : Device) → (after holds : Option (List ℕ)) → Type 0
+IsStep c qs d old before held true new after holds = IsAnswered c qs d old before held new after holds
+IsStep c qs d old before held false new after holds = IsOver old.reader before held new.reader after holds
 
 -- A frame was read, and a prefix of what it led to was written.
-pub record IsAnsweredInPart (c : ScriptConfig) (d : devised.Device) (old : Device) (before held : Option (List ℕ)) (new : Device) (after holds : Option (List ℕ)) : Type 0 where
+pub record IsAnsweredInPart (c : ScriptConfig) (qs : List ReqPart) (d : devised.Device) (old : Device) (before held : Option (List ℕ)) (new : Device) (after holds : Option (List ℕ)) : Type 0 where
   pub frame : GivenFrame
   pub read : IsRead old.reader before frame new.reader after
   pub told : IsTold frame
-  pub written : TakesPrefix held (frames_of (devised_by c d frame).written) holds
+  pub written : TakesPrefix held (frames_of (shown_with c qs d frame)) holds
 
 -- A line was read that is no answer; its frame begins at this byte.
 pub record IsNoAnswer (old : Device) (before : Option (List ℕ)) (at : ℕ) (new : Device) (after : Option (List ℕ)) : Type 0 where
@@ -140,14 +141,14 @@ pub record IsNoAnswer (old : Device) (before : Option (List ℕ)) (at : ℕ) (ne
   pub at_is : at ≡ old.reader.taken
 
 -- Why a frame led to nothing.
-abbrev pub IsStepFault : ScriptConfig → devised.Device → (old : Device) → (before held : Option (List ℕ)) → Counts → ServeFault → (new : Device) → (after holds : Option (List ℕ)) → Type 0
-IsStepFault c d old before held n fault.ReadFault new after holds = HasFault n.read_before n.read_after × (holds ≡ held)
-IsStepFault c d old before held n fault.WriteFault new after holds = HasFault n.written_before n.written_after × IsAnsweredInPart c d old before held new after holds
-IsStepFault c d old before held n fault.TooLong new after holds = reading.IsCause old.reader before n.read_before n.read_after frame.TooLong × (holds ≡ held)
-IsStepFault c d old before held n (fault.BadFrame at) new after holds =
+abbrev pub IsStepFault : ScriptConfig → List ReqPart → devised.Device → (old : Device) → (before held : Option (List ℕ)) → Counts → ServeFault → (new : Device) → (after holds : Option (List ℕ)) → Type 0
+IsStepFault c qs d old before held n fault.ReadFault new after holds = HasFault n.read_before n.read_after × (holds ≡ held)
+IsStepFault c qs d old before held n fault.WriteFault new after holds = HasFault n.written_before n.written_after × IsAnsweredInPart c qs d old before held new after holds
+IsStepFault c qs d old before held n fault.TooLong new after holds = reading.IsCause old.reader before n.read_before n.read_after frame.TooLong × (holds ≡ held)
+IsStepFault c qs d old before held n (fault.BadFrame at) new after holds =
     (reading.IsCause old.reader before n.read_before n.read_after (frame.BadFrame at) ⊎ IsNoAnswer old before at new after) × (holds ≡ held)
-IsStepFault c d old before held n fault.OutOfMemory new after holds = ⊥
-IsStepFault c d old before held n (fault.Responder refused) new after holds = ⊥
+IsStepFault c qs d old before held n fault.OutOfMemory new after holds = ⊥
+IsStepFault c qs d old before held n (fault.Responder refused) new after holds = ⊥
 
 -- ---- All frames so far.
 

@@ -2,15 +2,16 @@ ghost use Rattle.std.specs.Prelude.{◌≡◌};
 ghost use Rattle.responder_serve.specs.Told.{of_responder, told_of};
 
 use crate::ServeFault;
+use crate::changing::write_changes;
 use crate::hearing::{hear, tell_brought};
 use crate::lines::write_reply;
 use crate::replies::{Said, said_in};
 use crate::waiting::Waiting;
 use frame_stream::{FrameFault, FrameKind, FrameReader, Kinds};
 use mctp_framing::PacketList;
-use responder::{PeekRoom, Responder, RspConfigFault};
+use responder::{PeekRoom, Responder, RspConfigFault, SessionWatch};
 use script_ends::make_responder;
-use script_text::{MOST_BYTES, ScriptConfig};
+use script_text::{MOST_BYTES, ReqPart, ScriptConfig};
 use spdm_basis::{Sink, Source};
 use std::alloc::Global;
 
@@ -59,16 +60,18 @@ fn fault_of_responder(fault: RspConfigFault) -> ServeFault
 }
 
 impl Device {
-    ghost use Rattle.std.specs.Prelude.{◌≡◌, ◌≤◌, ◌<◌, ◌-◌, ◌^◌, length, None, IfErr, IfOk, OnErr};
+    ghost use Rattle.std.specs.Prelude.{◌≡◌, ◌≤◌, ◌<◌, ◌-◌, ◌^◌, [], length, None, IfErr, IfOk, OnErr, OnOk};
     ghost use Rattle.device_serve.specs.Devised as devised;
-    ghost use Rattle.device_serve.specs.Devised.{answers_waiting, arrives, behind, device_in_life, device_kinds, rests, settles};
+    ghost use Rattle.device_serve.specs.Devised.{answers_waiting, arrives, behind, changes_at, device_in_life, device_kinds, frames_of, rests, settles, told_changes};
     ghost use Rattle.device_serve.specs.Replies.Answer.{WithData};
     ghost use Rattle.device_serve.specs.Standing.{IsDevice, IsDevisedBy, IsObeyed, IsStep, IsStepFault, StandsFor};
     ghost use Rattle.frame_stream.specs.Frames.{stream_limit};
     ghost use Rattle.frame_stream.specs.Standing.{IsNew, beginning_of, content_in};
-    ghost use Rattle.responder_machine.specs.Responding.{ticks};
+    ghost use Rattle.responder.specs.Changes.{marks_at, marks_in};
+    ghost use Rattle.responder_machine.specs.Responding.{Responding, connection_of, ticks};
     ghost use Rattle.responder_serve.specs.Told.{IsEarly};
-    ghost use Rattle.spdm_basis.specs.Stream.{HasFault};
+    ghost use Rattle.responder_serve.specs.declared.fault.ServeFault.TheVariants.{WriteFault};
+    ghost use Rattle.spdm_basis.specs.Stream.{HasFault, Takes, TakesPrefix};
 
     // The device of a configuration with this seed, in the life of this boot number, and its stream, of which some bytes
     // were read already. Allocates all its memory here.
@@ -242,9 +245,9 @@ impl Device {
         }
     }
 
-    // Reads the next frame and writes what it led to. Returns whether there was one. There is room for the bytes of a
-    // line.
-    pub(crate) fn answer_next<S: Source, K: Sink>(
+    // Reads the next frame and writes what it led to, without what became of sessions. Returns whether there was one.
+    // There is room for the bytes of a line.
+    fn take_next<S: Source, K: Sink>(
         &mut self,
         config: &ScriptConfig,
         room: &mut [u8; MOST_BYTES],
@@ -255,10 +258,10 @@ impl Device {
         requires kinds { self.old.reader.kinds ≡ device_kinds }
         requires device { IsDevice self.old }
         ensures step { (d : devised.Device) → StandsFor self.old d → IfOk result
-            (λ more. IsStep config.now d self.old (S.remaining source.old) (K.contents sink.old)
+            (λ more. IsStep config.now [] d self.old (S.remaining source.old) (K.contents sink.old)
             more self.new (S.remaining source.new) (K.contents sink.new)) }
         ensures fault { (d : devised.Device) → StandsFor self.old d → IfErr result
-            (λ fault. IsStepFault config.now d self.old (S.remaining source.old)
+            (λ fault. IsStepFault config.now [] d self.old (S.remaining source.old)
             (K.contents sink.old) (record {
               read_before = S.faults source.old;
               read_after = S.faults source.new;
@@ -284,5 +287,105 @@ impl Device {
             },
             Err(fault) => Err(fault_of(fault)),
         }
+    }
+
+    // Writes what became of the sessions with requester `q` since they were watched.
+    fn tell_changes<K: Sink>(
+        &self,
+        watch: &mut SessionWatch,
+        q: u8,
+        sink: &mut K,
+    ) -> Result<(), ServeFault>
+        requires few { q ≤ 8 }
+        ensures whole { (before : Responding) (d : devised.Device) → StandsFor self.now d
+            → marks_in watch.old ≡ marks_at (connection_of watch.old.eid.number before.connections)
+            → OnOk result (Takes (K.contents sink.old)
+            (frames_of (told_changes q (changes_at watch.old.eid.number before d.responder)))
+            (K.contents sink.new)) }
+        ensures prefix { (before : Responding) (d : devised.Device) → StandsFor self.now d
+            → marks_in watch.old ≡ marks_at (connection_of watch.old.eid.number before.connections)
+            → OnErr result (TakesPrefix (K.contents sink.old)
+            (frames_of (told_changes q (changes_at watch.old.eid.number before d.responder)))
+            (K.contents sink.new)) }
+        ensures blamed { IfErr result (λ fault. fault ≡ WriteFault) }
+        ensures fault { OnErr result (HasFault (K.faults sink.old) (K.faults sink.new)) }
+        ensures later { K.faults sink.old ≤ K.faults sink.new }
+    {
+        let changes = watch.changes(&self.responder);
+        match write_changes(sink, q, &changes) {
+            Ok(()) => Ok(()),
+            Err(_) => Err(ServeFault::WriteFault),
+        }
+    }
+
+    // Reads the next frame and writes what it led to, and behind it what became of the sessions with these requesters,
+    // the first of the configuration. Returns whether there was one. There is room for the bytes of a line.
+    fn take_watched<S: Source, K: Sink>(
+        &mut self,
+        config: &ScriptConfig,
+        watched: &[ReqPart],
+        room: &mut [u8; MOST_BYTES],
+        source: &mut S,
+        sink: &mut K,
+    ) -> Result<bool, ServeFault>
+        requires few { length config.now.requesters ≤ 8 }
+        requires watched { length watched.now ≤ 8 }
+        requires kinds { self.old.reader.kinds ≡ device_kinds }
+        requires device { IsDevice self.old }
+        ensures step { (d : devised.Device) → StandsFor self.old d → IfOk result
+            (λ more. IsStep config.now watched.now d self.old (S.remaining source.old)
+            (K.contents sink.old) more self.new (S.remaining source.new) (K.contents sink.new)) }
+        ensures fault { (d : devised.Device) → StandsFor self.old d → IfErr result
+            (λ fault. IsStepFault config.now watched.now d self.old (S.remaining source.old)
+            (K.contents sink.old) (record {
+              read_before = S.faults source.old;
+              read_after = S.faults source.new;
+              written_before = K.faults sink.old;
+              written_after = K.faults sink.new;
+            }) fault self.new (S.remaining source.new) (K.contents sink.new)) }
+        ensures read_later { S.faults source.old ≤ S.faults source.new }
+        ensures written_later { K.faults sink.old ≤ K.faults sink.new }
+    {
+        let [others @ .., last] = watched else {
+            return self.take_next(config, room, source, sink);
+        };
+        let mut watch = SessionWatch::new(&self.responder, last.eid);
+        match self.take_watched(config, others, room, source, sink) {
+            Ok(true) => match self.tell_changes(&mut watch, others.len() as u8 + 1, sink) {
+                Ok(()) => Ok(true),
+                Err(fault) => Err(fault),
+            },
+            Ok(false) => Ok(false),
+            Err(fault) => Err(fault),
+        }
+    }
+
+    // Reads the next frame and writes what it led to, and behind it what became of sessions. Returns whether there was
+    // one. There is room for the bytes of a line.
+    pub(crate) fn answer_next<S: Source, K: Sink>(
+        &mut self,
+        config: &ScriptConfig,
+        room: &mut [u8; MOST_BYTES],
+        source: &mut S,
+        sink: &mut K,
+    ) -> Result<bool, ServeFault>
+        requires few { length config.now.requesters ≤ 8 }
+        requires kinds { self.old.reader.kinds ≡ device_kinds }
+        requires device { IsDevice self.old }
+        ensures step { (d : devised.Device) → StandsFor self.old d → IfOk result
+            (λ more. IsStep config.now config.now.requesters d self.old (S.remaining source.old)
+            (K.contents sink.old) more self.new (S.remaining source.new) (K.contents sink.new)) }
+        ensures fault { (d : devised.Device) → StandsFor self.old d → IfErr result
+            (λ fault. IsStepFault config.now config.now.requesters d self.old
+            (S.remaining source.old) (K.contents sink.old) (record {
+              read_before = S.faults source.old;
+              read_after = S.faults source.new;
+              written_before = K.faults sink.old;
+              written_after = K.faults sink.new;
+            }) fault self.new (S.remaining source.new) (K.contents sink.new)) }
+        ensures read_later { S.faults source.old ≤ S.faults source.new }
+        ensures written_later { K.faults sink.old ≤ K.faults sink.new }
+    {
+        self.take_watched(config, config.requesters.as_slice(), room, source, sink)
     }
 }

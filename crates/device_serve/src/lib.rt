@@ -4,6 +4,7 @@
 //! Read first: `devised_by` in `specs/Devised.antt`, what a frame leads to. The call is `serve_device`.
 #![tactic(auto)]
 
+mod changing;
 mod device;
 mod hearing;
 mod lines;

@@ -24,7 +24,8 @@ use std::alloc::Global;
 /// `r fault WORD` is written, or `none`, without data; any other frame answers it without data and is then handled itself.
 /// Where no packet waits such a line leads to nothing. A packet that waits at the end of the stream is not answered. Of
 /// each packet that is given to the responder the line `to r ..` is written, and the packets of its answer as frames of
-/// kind 1, before the next read.
+/// kind 1, before the next read. Behind what a frame leads to stands a line `session qN SESSION WORD` for each session that
+/// it changed: it `began`, is `opened` or `gone`, or was `replaced` by another one, whose id follows.
 ///
 /// After `Ok` the stream was read to its end and all was written. Returns `BadFrame` exactly when a frame has another
 /// kind, is cut by the end of input, or is a line that is neither `reply H` nor `none`; and `TooLong` exactly when the

@@ -1,4 +1,5 @@
-//! The command `spdm_device` beside an independent program: data that are answered, repeated and late, and bad frames.
+//! The command `spdm_device` beside an independent program: data that are answered, repeated and late, sessions that come and
+//! go, and bad frames.
 //!
 //! Read first: `data_are_answered` in `src/streams.rt`.
 #![tactic(auto)]

@@ -1,7 +1,7 @@
 -- What is carried to a requester and a device comes to the ends of a world by its events.
 use Rattle.std.proofs.Common.{◌≡◌, ◌≢◌, ◌∙◌, ◌+◌, ℕ, List, [], ◌∷◌, ◌++◌, map, filter, true, false, Option, Some, None, refl, sym, ap, subst}
 use Rattle.std.proofs.lemmas.List.{append-nil}
-use Rattle.device_serve.specs.Devised.{Device, Writing, after_frames, device_of, devised_by, devised_from}
+use Rattle.device_serve.specs.Devised.{Device, Writing, after_frames, device_of, devised_by, devised_from, shown_by}
 use Rattle.device_serve.specs.Replies.{Answer, answer_in}
 use Rattle.device_serve.specs.Replies.Answer.{WithData, WithoutData}
 use Rattle.frame_stream.specs.Frames.{GivenFrame}
@@ -21,7 +21,7 @@ use Rattle.spdm_machine.proofs.Members.{IsIn, in_map, map_in}
 use Rattle.requester_machine.specs.Setup.{ReqSetup}
 use Rattle.stream_laws.proofs.Addressed.{for_one, kept}
 use Rattle.stream_laws.proofs.Configurations.{hold}
-use Rattle.stream_laws.proofs.DeviceDoes.{Does, Done, FrameMay, WaitsWell, does_both, frame_done}
+use Rattle.stream_laws.proofs.DeviceDoes.{Does, Done, FrameMay, WaitsWell, does_both, does_shown, frame_done}
 use Rattle.stream_laws.proofs.DeviceRuns.{none_run, other_runs, told_runs}
 use Rattle.stream_laws.proofs.DeviceShown.{trace_begins}
 use Rattle.stream_laws.proofs.DeviceSteps.{InWorld}
@@ -34,7 +34,7 @@ use Rattle.stream_laws.specs.Carriage.Carried.{Says, ToRequester, ToResponder, W
 use Rattle.stream_laws.specs.Coming.{Coming, comes, comes_from, is_for_first, is_packet_for}
 use Rattle.stream_laws.specs.Coming.Coming.{Gives, Tells}
 use Rattle.stream_laws.specs.DeviceLaws.{EveryDeviceCarriageIsAWorld}
-use Rattle.stream_laws.specs.Devices.{DeviceCarried, MayCarryAllTo, all_asked, device_events, device_frames, device_lines, frame_events, gives_answered, gives_arriving, gives_waiting, only_data, waiting_data, without_data}
+use Rattle.stream_laws.specs.Devices.{DeviceCarried, MayCarryAllTo, all_asked, device_events, device_frames, device_lines, frame_events, gives_answered, gives_arriving, gives_waiting, only_data, waiting_data, told_and_sent}
 use Rattle.stream_laws.specs.Devices.DeviceCarried.{Answers, Carries}
 use Rattle.stream_laws.specs.Frames.{bring_first, told_first}
 use Rattle.stream_laws.specs.Worlds.{ends_from, world_of}
@@ -130,9 +130,10 @@ module _ (c : ScriptConfig) (asks : ℕ) (differ : asks ≢ c.responder.eid.numb
       → WaitsWell serves d.responder d.waits → FrameMay serves frame
       → Done c d world (frame_events c d frame) (devised_by c d frame).written (devised_by c d frame).after
       → Goes (devised_by c d frame).after (world_from world (frame_events c d frame)) entries brings written after
-      → Goes d world (frame_events c d frame ++ entries) brings ((devised_by c d frame).written ++ written) after
+      → Goes d world (frame_events c d frame ++ entries) brings (shown_by c d frame ++ written) after
   frame_goes d world frame entries brings written after well may done others = record {
-    does = does_both c d (devised_by c d frame).after after world (frame_events c d frame) entries (devised_by c d frame).written written done.does others.does;
+    does = does_both c d (devised_by c d frame).after after world (frame_events c d frame) entries (shown_by c d frame) written
+        (does_shown c d (devised_by c d frame).after world (frame_events c d frame) (devised_by c d frame).written d.responder (devised_by c d frame).after.responder done.does) others.does;
     same = others.same ∙ sym (all_quiet asks world (frame_events c d frame) entries (frame_quiet d well frame may));
   }
 
@@ -215,7 +216,7 @@ every_device_carriage c seeds a is front carried may =
     let told : device_lines eid (trace_lines w entries) ≡ goes.does.own = begins ∙ goes.does.runs.lines in record {
       driven = first_is_driven c seeds a is front entries (all_asked carried) goes.same;
       devised = record {
-        written = goes.does.told ∙ ap without_data (sym told);
+        written = goes.does.told ∙ ap told_and_sent (sym told);
         brought = goes.does.brought ∙ ap (λ (own : List Writing). only_data own ++ waiting_data c (after_frames c d frames).responder (after_frames c d frames).waits) (sym told);
         after = goes.does.runs.stands.serving.is;
       };

@@ -1,8 +1,8 @@
 -- What a device does on a frame is what the world of its responder does by the events of that frame.
-use Rattle.std.proofs.Common.{◌≡◌, ◌∙◌, ℕ, List, [], ◌∷◌, ◌++◌, map, not, Bool, true, Option, Some, None, refl, sym, ap, subst}
+use Rattle.std.proofs.Common.{◌≡◌, ◌∙◌, ◌+◌, ◌||◌, ℕ, List, [], ◌∷◌, ◌++◌, map, not, Bool, true, Option, Some, None, refl, sym, ap, subst}
 use Rattle.std.proofs.lemmas.List.{append-nil, append_assoc}
 use Rattle.std.proofs.lemmas.List.Elements.{filter-append}
-use Rattle.device_serve.specs.Devised.{Device, Writing, answers, arrives_with, at_rest, devised_by, hears, number_in, replies, settles}
+use Rattle.device_serve.specs.Devised.{Device, Writing, answers, arrives_with, at_rest, changes_from, changes_at, devised_by, hears, number_in, replies, settles, told_changes}
 use Rattle.device_serve.specs.Devised.Writing.{Sends, Tells}
 use Rattle.device_serve.specs.Replies.{Answer, answer_in}
 use Rattle.device_serve.specs.Replies.Answer.{WithData, WithoutData}
@@ -12,6 +12,8 @@ use Rattle.responder_machine.proofs.Brought.{brought_answered, brought_taken}
 use Rattle.responder_machine.proofs.QueuedBrings.{queued_alike}
 use Rattle.responder_machine.specs.EndLaws.{source_of}
 use Rattle.responder_machine.specs.Responding.{Connection, Responding, connection_of, queues, reply_fault_of, responder_hears, ticks}
+use Rattle.responder.specs.declared.changes.SessionChange.{SessionChange}
+use Rattle.script_text.specs.declared.configuration.config.ReqPart.{ReqPart}
 use Rattle.script_text.specs.declared.configuration.config.ScriptConfig.{ScriptConfig}
 use Rattle.spdm_basis.specs.declared.values.session_id.SessionId.{SessionId}
 use Rattle.spdm_grammar.specs.Lines.{Line}
@@ -22,7 +24,7 @@ use Rattle.stream_laws.proofs.DeviceSteps.{InWorld, heard_own}
 use Rattle.stream_laws.proofs.Numbers.{part_eid}
 use Rattle.stream_laws.specs.Carriage.{event_of}
 use Rattle.stream_laws.specs.Coming.{is_packet_for}
-use Rattle.stream_laws.specs.Devices.{data_brought, frame_events, gives_answered, gives_arriving, gives_waiting, is_data, only_data, waiting_data, without_data}
+use Rattle.stream_laws.specs.Devices.{data_brought, frame_events, gives_answered, gives_arriving, gives_waiting, is_change, is_data, only_data, waiting_data, told_and_sent}
 use Rattle.world_machine.specs.Happenings.{Entry}
 use Rattle.world_machine.specs.Happenings.Happening.{Inject, Reply, Tick}
 use Rattle.world_machine.specs.Trace.{world_from}
@@ -33,7 +35,7 @@ use Rattle.world_machine.specs.World.{World}
 pub record Does (c : ScriptConfig) (d : Device) (world : World) (entries : List Entry) (written : List Writing) (after : Device) : Type 0 where
   pub own : List Writing
   pub runs : Runs c world entries own after.responder
-  pub told : without_data written ≡ without_data own
+  pub told : told_and_sent written ≡ told_and_sent own
   pub brought : waiting_data c d.responder d.waits ++ only_data written ≡ only_data own ++ waiting_data c after.responder after.waits
 
 -- A packet that waits is for the responder, and brings data.
@@ -51,22 +53,22 @@ data_only : (n : ℕ) (taken : Option (SessionId × List ℕ)) (packets : List (
 data_only n None packets = sends_none packets
 data_only n (Some taken) packets = ap (λ (rest : List Writing). data_brought n (Some taken) ++ rest) (sends_none packets)
 
-data_left : (n : ℕ) (taken : Option (SessionId × List ℕ)) (rest : List Writing) → without_data (data_brought n taken ++ rest) ≡ without_data rest
+data_left : (n : ℕ) (taken : Option (SessionId × List ℕ)) (rest : List Writing) → told_and_sent (data_brought n taken ++ rest) ≡ told_and_sent rest
 data_left n None rest = refl
 data_left n (Some taken) rest = refl
 
 pub does_both : (c : ScriptConfig) (d between after : Device) (world : World) (xs ys : List Entry) (one two : List Writing)
     → Does c d world xs one between → Does c between (world_from world xs) ys two after → Does c d world (xs ++ ys) (one ++ two) after
 does_both c d between after world xs ys one two p q =
-    let but_data : Writing → Bool = λ one. not (is_data one) in
+    let but_data : Writing → Bool = λ one. not (is_data one || is_change one) in
     let start = waiting_data c d.responder d.waits in
     let middle = waiting_data c between.responder between.waits in
     let end = waiting_data c after.responder after.waits in record {
       own = p.own ++ q.own;
       runs = both_run c world xs ys p.own q.own between.responder after.responder p.runs q.runs;
       told = filter-append but_data one two
-          ∙ ap (λ (front : List Writing). front ++ without_data two) p.told
-          ∙ ap (λ (rest : List Writing). without_data p.own ++ rest) q.told
+          ∙ ap (λ (front : List Writing). front ++ told_and_sent two) p.told
+          ∙ ap (λ (rest : List Writing). told_and_sent p.own ++ rest) q.told
           ∙ sym (filter-append but_data p.own q.own);
       brought = ap (λ (rest : List Writing). start ++ rest) (filter-append is_data one two)
           ∙ sym (append_assoc start (only_data one) (only_data two))
@@ -75,6 +77,52 @@ does_both c d between after world xs ys one two p q =
           ∙ ap (λ (rest : List Writing). only_data p.own ++ rest) q.brought
           ∙ sym (append_assoc (only_data p.own) (only_data q.own) end)
           ∙ ap (λ (front : List Writing). front ++ end) (sym (filter-append is_data p.own q.own));
+    }
+
+-- ---- Lines of what became of sessions.
+
+change_apart : (n : ℕ) (changes : List (Option SessionChange)) → told_and_sent (told_changes n changes) ≡ []
+change_apart n [] = refl
+change_apart n (None ∷ others) = change_apart n others
+change_apart n (Some change ∷ others) = change_apart n others
+
+change_no_data : (n : ℕ) (changes : List (Option SessionChange)) → only_data (told_changes n changes) ≡ []
+change_no_data n [] = refl
+change_no_data n (None ∷ others) = change_no_data n others
+change_no_data n (Some change ∷ others) = change_no_data n others
+
+module _ (r s : Responding) where
+  changes_apart : (n : ℕ) (qs : List ReqPart) → told_and_sent (changes_from n qs r s) ≡ []
+  changes_apart n [] = refl
+  changes_apart n (q ∷ others) =
+      let own = told_changes n (changes_at q.eid.number r s) in
+      filter-append (λ (one : Writing). not (is_data one || is_change one)) own (changes_from (n + 1) others r s)
+      ∙ ap (λ (front : List Writing). front ++ told_and_sent (changes_from (n + 1) others r s)) (change_apart n (changes_at q.eid.number r s))
+      ∙ changes_apart (n + 1) others
+
+  changes_no_data : (n : ℕ) (qs : List ReqPart) → only_data (changes_from n qs r s) ≡ []
+  changes_no_data n [] = refl
+  changes_no_data n (q ∷ others) =
+      let own = told_changes n (changes_at q.eid.number r s) in
+      filter-append is_data own (changes_from (n + 1) others r s)
+      ∙ ap (λ (front : List Writing). front ++ only_data (changes_from (n + 1) others r s)) (change_no_data n (changes_at q.eid.number r s))
+      ∙ changes_no_data (n + 1) others
+
+-- They stand beside what the events lead to.
+pub does_shown : (c : ScriptConfig) (d after : Device) (world : World) (entries : List Entry) (written : List Writing) (r s : Responding) → Does c d world entries written after
+    → Does c d world entries (written ++ changes_from 1 c.requesters r s) after
+does_shown c d after world entries written r s p =
+    let changes = changes_from 1 c.requesters r s in
+    let start = waiting_data c d.responder d.waits in record {
+      own = p.own;
+      runs = p.runs;
+      told = filter-append (λ (one : Writing). not (is_data one || is_change one)) written changes
+          ∙ ap (λ (rest : List Writing). told_and_sent written ++ rest) (changes_apart r s 1 c.requesters)
+          ∙ append-nil (told_and_sent written)
+          ∙ p.told;
+      brought = ap (λ (rest : List Writing). start ++ rest)
+          (filter-append is_data written changes ∙ ap (λ (rest : List Writing). only_data written ++ rest) (changes_no_data r s 1 c.requesters) ∙ append-nil (only_data written))
+          ∙ p.brought;
     }
 
 module _ (c : ScriptConfig) (r : Responding) (world : World) (h : InWorld c r world) where
@@ -89,7 +137,7 @@ module _ (c : ScriptConfig) (r : Responding) (world : World) (h : InWorld c r wo
 
   -- ---- A packet is given to the responder.
 
-  hears_told : (packet : List ℕ) → without_data (hears r packet).written ≡ without_data (heard_own c r packet)
+  hears_told : (packet : List ℕ) → told_and_sent (hears r packet).written ≡ told_and_sent (heard_own c r packet)
   hears_told packet =
       let step = responder_hears r packet in
       let told = Tells (Line.ToResponder step.heard) in

@@ -9,7 +9,7 @@ use Rattle.script_ends.specs.Configured.{configuration_in}
 use Rattle.script_text.specs.declared.configuration.config.ScriptConfig.{ScriptConfig}
 use Rattle.spdm_agreement.specs.Configured.{IsConfiguration}
 use Rattle.spdm_agreement.specs.Worlds.{HoldsTogether}
-use Rattle.stream_laws.specs.Devices.{DeviceCarried, MayCarryAllTo, all_asked, device_events, device_frames, device_lines, only_data, waiting_data, without_data}
+use Rattle.stream_laws.specs.Devices.{DeviceCarried, MayCarryAllTo, all_asked, device_events, device_frames, device_lines, only_data, waiting_data, told_and_sent}
 use Rattle.stream_laws.specs.Laws.{IsDrivenAs}
 use Rattle.stream_laws.specs.Worlds.{world_of}
 use Rattle.world_machine.specs.Chance.{NoChance}
@@ -17,11 +17,11 @@ use Rattle.world_machine.specs.Happenings.{Entry}
 use Rattle.world_machine.specs.Setup.{WorldSetup}
 use Rattle.world_machine.specs.Trace.{trace_lines, world_after}
 
--- A device writes what is of the responder in the trace, in the order of the trace but for the lines of data; of those
--- it writes the ones of the trace in their order, and behind them the one of the packet that still waits. Its responder
--- stands at the end as the responder of the world does.
+-- A device writes what is of the responder in the trace, in the order of the trace but for the lines of data, and beside
+-- lines of what became of sessions; of the lines of data it writes the ones of the trace in their order, and behind them
+-- the one of the packet that still waits. Its responder stands at the end as the responder of the world does.
 pub record IsDevisedAs (c : ScriptConfig) (d : Device) (w : WorldSetup) (entries : List Entry) (frames : List GivenFrame) : Type 0 where
-  pub written : without_data (devised_from c d frames) ≡ without_data (device_lines c.responder.eid.number (trace_lines w entries))
+  pub written : told_and_sent (devised_from c d frames) ≡ told_and_sent (device_lines c.responder.eid.number (trace_lines w entries))
   pub brought : only_data (devised_from c d frames) ≡ only_data (device_lines c.responder.eid.number (trace_lines w entries)) ++ waiting_data c (after_frames c d frames).responder (after_frames c d frames).waits
   pub after : (world_after w entries).responder ≡ (after_frames c d frames).responder
 

@@ -1,9 +1,9 @@
 -- What is carried to a requester and to a device, the same as events of a world, and what of the trace of a world is of
 -- the device. This project's own.
-use Rattle.std.specs.Prelude.{◌==◌, ◌++◌, not, ℕ, List, [], ◌∷◌, filter, slice_index, if◌then◌else◌, Bool, true, false, Option, Some, None}
+use Rattle.std.specs.Prelude.{◌==◌, ◌++◌, ◌||◌, not, ℕ, List, [], ◌∷◌, filter, slice_index, if◌then◌else◌, Bool, true, false, Option, Some, None}
 use Rattle.std.specs.List.{flat_map}
 use Rattle.device_serve.specs.Devised.{Device, Writing, after_frames, number_in, settles}
-use Rattle.device_serve.specs.Devised.Writing.{Sends, Tells}
+use Rattle.device_serve.specs.Devised.Writing.{Changes, Sends, Tells}
 use Rattle.device_serve.specs.Replies.{Answer, answer_in}
 use Rattle.device_serve.specs.Replies.Answer.{WithData, WithoutData}
 use Rattle.frame_stream.specs.Frames.{GivenFrame}
@@ -113,7 +113,8 @@ device_line eid _ = []
 abbrev pub device_lines : (eid : ℕ) → List Line → List Writing
 device_lines eid lines = flat_map (device_line eid) lines
 
--- ---- Lines of data. A device writes them when they arrive, and a trace has them when they are taken.
+-- ---- Lines of data. A device writes them when they arrive, and a trace has them when they are taken. Of what became of
+-- sessions a device writes lines too, and a trace has none.
 
 abbrev pub is_data_line : Line → Bool
 is_data_line (Line.Data whose id bytes) = true
@@ -121,13 +122,20 @@ is_data_line _ = false
 
 abbrev pub is_data : Writing → Bool
 is_data (Tells line) = is_data_line line
+is_data (Changes n change) = false
 is_data (Sends packet) = false
+
+abbrev pub is_change : Writing → Bool
+is_change (Tells line) = false
+is_change (Changes n change) = true
+is_change (Sends packet) = false
 
 abbrev pub only_data : List Writing → List Writing
 only_data all = filter is_data all
 
-abbrev pub without_data : List Writing → List Writing
-without_data all = filter (λ (one : Writing). not (is_data one)) all
+-- All but both.
+abbrev pub told_and_sent : List Writing → List Writing
+told_and_sent all = filter (λ (one : Writing). not (is_data one || is_change one)) all
 
 -- The line of the data that a packet from requester n brings, if it brings any.
 abbrev pub data_brought : (n : ℕ) → (brought : Option (SessionId × List ℕ)) → List Writing

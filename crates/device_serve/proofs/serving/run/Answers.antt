@@ -22,7 +22,7 @@ loop-device-preserved g c =
     let holds = g.K.Sink.contents c.answer_next.new.sink in
     let inv = c.loop-device.invariant in
     let stepped = λ (d : devised.Device) (stands : StandsFor mid d).
-    subst (λ (b : Bool). IsStep c.args.config.now d mid before between b new after holds) c.in-Ok-true.field-0-test (c.in-Ok-true.ensures.step d stands) in
+    subst (λ (b : Bool). IsStep c.args.config.now c.args.config.now.requesters d mid before between b new after holds) c.in-Ok-true.field-0-test (c.in-Ok-true.ensures.step d stands) in
     let kept = inv.run c.requires.device.0 c.requires.device.1 in
     let own = stepped (after_frames c.args.config.now c.requires.device.0 kept.frames) kept.stands in
     record {
@@ -45,7 +45,7 @@ returns-in-Ok-false-clause-served g c =
     λ d stands.
     let run = c.loop-device.invariant.run d stands in
     run_over c.args.config.now d c.args.device.reader (g.S.Source.remaining c.args.source.now) (g.K.Sink.contents c.args.sink.now) mid before between new.reader after holds c.requires.fresh run
-    (subst (λ (b : Bool). IsStep c.args.config.now (after_frames c.args.config.now d run.frames) mid before between b new after holds) c.in-Ok-false.field-0-test (c.in-Ok-false.ensures.step (after_frames c.args.config.now d run.frames) run.stands))
+    (subst (λ (b : Bool). IsStep c.args.config.now c.args.config.now.requesters (after_frames c.args.config.now d run.frames) mid before between b new after holds) c.in-Ok-false.field-0-test (c.in-Ok-false.ensures.step (after_frames c.args.config.now d run.frames) run.stands))
 
 pub returns-in-Ok-false-clause-end : goal.returns-in-Ok-false-clause-end
 returns-in-Ok-false-clause-end g c =
@@ -57,7 +57,7 @@ returns-in-Ok-false-clause-end g c =
     let holds = g.K.Sink.contents c.answer_next.new.sink in
     let d = c.requires.device.0 in
     let run = c.loop-device.invariant.run d c.requires.device.1 in
-    let over = subst (λ (b : Bool). IsStep c.args.config.now (after_frames c.args.config.now d run.frames) mid before between b new after holds) c.in-Ok-false.field-0-test (c.in-Ok-false.ensures.step (after_frames c.args.config.now d run.frames) run.stands) in
+    let over = subst (λ (b : Bool). IsStep c.args.config.now c.args.config.now.requesters (after_frames c.args.config.now d run.frames) mid before between b new after holds) c.in-Ok-false.field-0-test (c.in-Ok-false.ensures.step (after_frames c.args.config.now d run.frames) run.stands) in
     end_reached c.args.device.reader (g.S.Source.remaining c.args.source.now) run.frames mid.reader before new.reader after run.read over.done
 
 pub returns-in-Err-clause-fault : goal.returns-in-Err-clause-fault
@@ -110,7 +110,7 @@ loop-device-smaller g c =
     let holds = g.K.Sink.contents c.answer_next.new.sink in
     let d = c.requires.device.0 in
     let run = c.loop-device.invariant.run d c.requires.device.1 in
-    let own = subst (λ (b : Bool). IsStep c.args.config.now (after_frames c.args.config.now d run.frames) mid before between b new after holds) c.in-Ok-true.field-0-test (c.in-Ok-true.ensures.step (after_frames c.args.config.now d run.frames) run.stands) in
+    let own = subst (λ (b : Bool). IsStep c.args.config.now c.args.config.now.requesters (after_frames c.args.config.now d run.frames) mid before between b new after holds) c.in-Ok-true.field-0-test (c.in-Ok-true.ensures.step (after_frames c.args.config.now d run.frames) run.stands) in
     let some = spelled_some own.frame in
     let within : new.reader.taken ≤ new.reader.limit = new.reader.within in
     omega (arith, own.read.taken, own.read.limit, some, within)

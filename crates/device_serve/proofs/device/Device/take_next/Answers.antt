@@ -5,7 +5,7 @@ use Rattle.frame_stream.specs.Frames.GivenFrame.{CommandOf, PacketOf, TicksOf}
 use Rattle.frame_stream.specs.Runs.{Counts}
 use Rattle.frame_stream.specs.Standing.{IsNext, IsRead, content_in, frame_as}
 use Rattle.frame_stream.specs.declared.kinds.FrameKind.{FrameKind}
-use Rattle.device_serve.proofs.device.Device.answer_next.Goals as goal
+use Rattle.device_serve.proofs.device.Device.take_next.Goals as goal
 
 pub returns-in-Ok-clause-step : goal.returns-in-Ok-clause-step
 returns-in-Ok-clause-step g c = λ d stands.
