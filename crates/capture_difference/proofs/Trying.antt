@@ -19,7 +19,7 @@ none_of_nothing false false = refl
 -- A packet of which a change is tried has a byte.
 pub some_bytes : (judged share len : ℕ) → 0 < changes_of judged share len → 0 < len
 some_bytes judged share zero some =
-    let none : changes_of judged share 0 ≡ 0 = none_of_nothing (nat_lt judged (4096 / (0 + 1) / share)) (nat_lt judged (131072 / (0 + 1) / share)) in
+    let none : changes_of judged share 0 ≡ 0 = none_of_nothing (nat_lt judged (4000 / (0 + 1) / share)) (nat_lt judged (128000 / (0 + 1) / share)) in
     absurd (omega (arith, some, none))
 some_bytes judged share (suc len) some = omega arith
 

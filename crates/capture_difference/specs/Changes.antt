@@ -28,6 +28,6 @@ share_of place count = if place + 1 == count then 1 else count
 abbrev pub changes_of : (judged share len : ℕ) → ℕ
 changes_of judged share len =
     if nat_lt 8000 len then 0
-    else (if nat_lt judged (4096 / (len + 1) / share) then len * 263
-    else (if nat_lt judged (131072 / (len + 1) / share) then len * 8
+    else (if nat_lt judged (4000 / (len + 1) / share) then len * 263
+    else (if nat_lt judged (128000 / (len + 1) / share) then len * 8
     else 0))

@@ -14,9 +14,9 @@ const BITS: usize = 8;
 const MOST_LEN: usize = 8000;
 
 // How many packets of one byte may be judged for each mask, where all are tried, and where only bits are.
-const FEW: usize = 4096;
+const FEW: usize = 4000;
 
-const MANY: usize = 131_072;
+const MANY: usize = 128_000;
 
 /// Another byte at a place of a packet.
 #[derive(Clone, Copy, Debug, PartialEq, Eq)]
