@@ -67,13 +67,13 @@ with_table w packets table has = (has.0, leads_too w (reverse packets) has.0 has
 module _ (w : Configuration) (before : List (List ℕ)) (packet : List ℕ) (behind : List (List ℕ)) where
   -- Those before it do not conform.
   pub stopped_before : (goes : Bool) (seen : Checker) → IsFollowed w before goes seen → goes ≡ false → Conforms w (before ++ packet ∷ behind) → ⊥
-  stopped_before goes seen told no whole =
-      let none : Conforms w before → ⊥ = subst (λ (g : Bool). IsFollowed w before g seen) no told in
+  stopped_before goes seen told stops whole =
+      let none : Conforms w before → ⊥ = subst (λ (g : Bool). IsFollowed w before g seen) stops told in
       none_behind w before (packet ∷ behind) none whole
 
   -- They do, and it does not go on from them.
   pub kept_before : (goes : Bool) (seen : Checker) → IsFollowed w before goes seen → goes ≡ true → IsChecker seen w (reverse before)
-  kept_before goes seen told yes = subst (λ (g : Bool). IsFollowed w before g seen) yes told
+  kept_before goes seen told on = subst (λ (g : Bool). IsFollowed w before g seen) on told
 
   -- It goes on.
   pub kept_with : (seen : Checker) → IsChecker seen w (packet ∷ reverse before) → IsChecker seen w (reverse (before ++ packet ∷ []))

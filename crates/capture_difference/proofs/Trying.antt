@@ -28,13 +28,13 @@ some_bytes judged share (suc len) some = omega arith
 module _ (w : Configuration) (before : List (List ℕ)) (packet : List ℕ) (behind : List (List ℕ)) where
   -- It was judged with these bytes.
   pub with_it : (number : ℕ) (change : Change) (bytes : List ℕ) (goes : Bool) → change ≡ change_of packet number → bytes ≡ changed packet change → IsWhether w (before ++ bytes ∷ behind) goes → goes ≡ true → Mends w before packet behind number
-  with_it number change bytes goes is are whether yes =
-      let told : Conforms w (before ++ bytes ∷ behind) = subst (IsWhether w (before ++ bytes ∷ behind)) yes whether in
+  with_it number change bytes goes is are whether on =
+      let told : Conforms w (before ++ bytes ∷ behind) = subst (IsWhether w (before ++ bytes ∷ behind)) on whether in
       subst (λ (b : List ℕ). Conforms w (before ++ b ∷ behind)) (are ∙ ap (changed packet) is) told
 
   pub not_with_it : (number : ℕ) (change : Change) (bytes : List ℕ) (goes : Bool) → change ≡ change_of packet number → bytes ≡ changed packet change → IsWhether w (before ++ bytes ∷ behind) goes → goes ≡ false → Mends w before packet behind number → ⊥
-  not_with_it number change bytes goes is are whether no mends =
-      let told : Conforms w (before ++ bytes ∷ behind) → ⊥ = subst (IsWhether w (before ++ bytes ∷ behind)) no whether in
+  not_with_it number change bytes goes is are whether stops mends =
+      let told : Conforms w (before ++ bytes ∷ behind) → ⊥ = subst (IsWhether w (before ++ bytes ∷ behind)) stops whether in
       told (subst (λ (b : List ℕ). Conforms w (before ++ b ∷ behind)) (sym (are ∙ ap (changed packet) is)) mends)
 
   -- One more of which none did.

@@ -13,7 +13,7 @@ pub loop-number-preserved : goal.loop-number-preserved
 loop-number-preserved c = λ sound few.
     let w : Configuration = configuration_in c.args.config.now in
     let n : ℕ = c.loop-number.number in
-    let tried : IsTried w c.args.before.now c.args.packet.now c.args.behind.now n c.in_ok-try_change.field-0 = c.in_ok-try_change.ensures sound few in
+    let tried : IsTried w c.args.before.now c.args.packet.now c.args.behind.now n c.in_ok-byte.field-0 = c.in_ok-byte.ensures sound few in
     none_more w c.args.before.now c.args.packet.now c.args.behind.now n (c.loop-number.invariant sound few)
     (subst (IsTried w c.args.before.now c.args.packet.now c.args.behind.now n) c.in-None.is tried)
 
@@ -21,7 +21,7 @@ pub returns-in-Some : goal.returns-in-Some
 returns-in-Some c = λ sound few.
     let w : Configuration = configuration_in c.args.config.now in
     let n : ℕ = c.loop-number.number in
-    let tried : IsTried w c.args.before.now c.args.packet.now c.args.behind.now n c.in_ok-try_change.field-0 = c.in_ok-try_change.ensures sound few in
+    let tried : IsTried w c.args.before.now c.args.packet.now c.args.behind.now n c.in_ok-byte.field-0 = c.in_ok-byte.ensures sound few in
     first_found w c.args.before.now c.args.packet.now c.args.behind.now c.args.most n c.in-Some.byte c.loop-number-test.true (c.loop-number.invariant sound few)
     (subst (IsTried w c.args.before.now c.args.packet.now c.args.behind.now n) c.in-Some.is tried)
 

@@ -14,7 +14,7 @@ loop-passed-preserved c = λ sound few.
     let packets = c.args.packets.now in
     let passed : ℕ = c.loop-passed.passed in
     let place : ℕ = length packets - 1 - passed in
-    let found : IsFoundAt w packets place c.in_ok-seek_at.field-0 = c.in_ok-seek_at.ensures sound few in
+    let found : IsFoundAt w packets place c.in_ok-byte.field-0 = c.in_ok-byte.ensures sound few in
     one_passed w packets passed place (omega (arith, c.loop-passed-test.true)) (c.loop-passed.invariant sound few) (subst (IsFoundAt w packets place) c.in-None.is found)
 
 pub returns-in-Some : goal.returns-in-Some
@@ -23,7 +23,7 @@ returns-in-Some c = λ sound few.
     let packets = c.args.packets.now in
     let passed : ℕ = c.loop-passed.passed in
     let place : ℕ = length packets - 1 - passed in
-    let found : IsFoundAt w packets place c.in_ok-seek_at.field-0 = c.in_ok-seek_at.ensures sound few in
+    let found : IsFoundAt w packets place c.in_ok-byte.field-0 = c.in_ok-byte.ensures sound few in
     found_first w packets passed place c.in-Some.byte (omega (arith, c.loop-passed-test.true)) (c.loop-passed.invariant sound few) (subst (IsFoundAt w packets place) c.in-Some.is found)
 
 pub returns : goal.returns

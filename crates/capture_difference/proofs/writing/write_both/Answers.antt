@@ -13,7 +13,7 @@ returns-in-Ok-write_difference-clause-whole g c =
     takes_both (g.K.Sink.contents c.args.sink.now) (g.K.Sink.contents c.write_packets.new.sink) (g.K.Sink.contents c.write_difference.new.sink)
     (packets_text c.args.style c.args.text.now) (difference_text c.args.style c.args.told) c.in-Ok.ensures.whole c.in-Ok-write_difference.ensures.whole
 
-pub returns-clause-prefix : goal.returns-clause-prefix
-returns-clause-prefix g c =
+pub returns-in-Err-write_difference-clause-prefix : goal.returns-in-Err-write_difference-clause-prefix
+returns-in-Err-write_difference-clause-prefix g c =
     takes_then_prefix (g.K.Sink.contents c.args.sink.now) (g.K.Sink.contents c.write_packets.new.sink) (g.K.Sink.contents c.write_difference.new.sink)
     (packets_text c.args.style c.args.text.now) (difference_text c.args.style c.args.told) c.in-Ok.ensures.whole c.in-Err-write_difference.ensures.prefix
