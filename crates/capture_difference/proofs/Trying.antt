@@ -3,7 +3,7 @@ use Rattle.std.proofs.Common.{◌≡◌, ◌∙◌, ◌++◌, ◌∷◌, [], ◌
 use Rattle.std.proofs.lemmas.Bool.{cases_eq}
 use Rattle.std.proofs.lemmas.List.{length-drop, length-take-le}
 use Rattle.capture_difference.specs.Changes.{change_of, changed, changes_of, share_of}
-use Rattle.capture_difference.specs.Difference.{IsFound, IsFoundAt, IsSought, IsTried, IsWhether, Mends, NoneMends, wrong_byte}
+use Rattle.capture_difference.specs.Difference.{IsFound, IsFoundAt, IsSought, IsTried, IsWhether, Mends, NoneMends}
 use Rattle.capture_difference.specs.declared.changes.Change.{Change}
 use Rattle.capture_difference.specs.declared.difference.WrongByte.{WrongByte}
 use Rattle.capture_machine.specs.Capture.{Conforms}
