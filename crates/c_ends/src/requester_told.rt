@@ -5,7 +5,7 @@ ghost use Rattle.c_ends.specs.Showing.{told_opaque, told_period, told_summary};
 ghost use Rattle.c_ends.specs.Writing.{IsPut, IsWritten};
 ghost use Rattle.c_ends.specs.declared.codes.TheConstants.{CLOSED, NONE};
 ghost use Rattle.psk_session.specs.Told.{told_of};
-ghost use Rattle.psk_session.specs.declared.session_told.SessionTold as told;
+ghost use Rattle.psk_session.specs.declared.session_told.SessionTold as noted;
 ghost use Rattle.requester_machine.specs.Requesting.{Requesting};
 ghost use Rattle.requester_machine.specs.Session.{session_of};
 
@@ -17,7 +17,7 @@ use std::alloc::Global;
 
 // HeartbeatPeriod, where something was told.
 fn put_period(told: Option<&SessionTold>, period: &mut u32) -> u32
-    ensures { (o : Option told.SessionTold) → MatchOption told (o ≡ None) (λ t. o ≡ Some t.now)
+    ensures { (o : Option noted.SessionTold) → MatchOption told.entry (o ≡ None) (λ t. o ≡ Some t.now)
         → IsPut (option_map told_period o) NONE result period.old period.new }
 {
     match told {
@@ -31,7 +31,7 @@ fn put_period(told: Option<&SessionTold>, period: &mut u32) -> u32
 
 // The measurement summary, where something was told.
 fn write_summary(told: Option<&SessionTold>, room: &mut [u8], len: &mut usize) -> u32
-    ensures { (o : Option told.SessionTold) → MatchOption told (o ≡ None) (λ t. o ≡ Some t.now)
+    ensures { (o : Option noted.SessionTold) → MatchOption told.entry (o ≡ None) (λ t. o ≡ Some t.now)
         → IsWritten (option_map told_summary o) result room.old room.new len.old len.new }
 {
     match told {
@@ -42,7 +42,7 @@ fn write_summary(told: Option<&SessionTold>, room: &mut [u8], len: &mut usize) -
 
 // The opaque data, where something was told.
 fn write_opaque(told: Option<&SessionTold>, room: &mut [u8], len: &mut usize) -> u32
-    ensures { (o : Option told.SessionTold) → MatchOption told (o ≡ None) (λ t. o ≡ Some t.now)
+    ensures { (o : Option noted.SessionTold) → MatchOption told.entry (o ≡ None) (λ t. o ≡ Some t.now)
         → IsWritten (option_map told_opaque o) result room.old room.new len.old len.new }
 {
     match told {
