@@ -1,9 +1,9 @@
 -- Of no capture two things are told.
-use Rattle.std.proofs.Common.{◌≡◌, ◌∙◌, ◌+◌, ℕ, List, Option, Some, None, ap, subst, sym, refl, length, take, drop, inl, inr}
+use Rattle.std.proofs.Common.{◌≡◌, ◌∙◌, ◌<◌, ◌+◌, ℕ, List, Option, Some, None, ap, subst, sym, refl, length, take, drop, inl, inr}
 use Rattle.std.proofs.lemmas.Bool.{cases_order}
 use Rattle.std.proofs.lemmas.List.{take-append-drop}
 use Rattle.capture_difference.specs.Changes.{change_of}
-use Rattle.capture_difference.specs.Difference.{IsFound, IsFoundAt, IsSought, OneDifference, packet_at, tries_at, wrong_byte}
+use Rattle.capture_difference.specs.Difference.{IsFound, IsFoundAt, IsJudged, IsSought, OneDifference, packet_at, tries_at, wrong_byte}
 use Rattle.capture_difference.specs.declared.difference.Difference.{Difference}
 use Rattle.capture_difference.specs.declared.difference.WrongByte.{WrongByte}
 use Rattle.capture_machine.proofs.Captures.{beginning}

@@ -1,15 +1,42 @@
 -- Changes of a packet, tried one after the other.
-use Rattle.std.proofs.Common.{◌≡◌, [], ◌<◌, ◌≤◌, ◌+◌, ◌-◌, ◌^◌, ℕ, List, Option, Some, None, Result, IfOk, arith, subst, sym, length, take, drop, slice_index_or, inl, inr}
+use Rattle.std.proofs.Common.{◌≡◌, ◌∙◌, ◌++◌, ◌∷◌, [], ◌<◌, ◌≤◌, ◌+◌, ◌-◌, ◌*◌, ◌^◌, ◌/◌, ℕ, zero, suc, List, Bool, true, false, Option, Some, None, Result, IfOk, arith, ap, cond, refl, subst, sym, length, take, drop, nat_lt, slice_index_or, inl, inr}
 use Rattle.std.proofs.lemmas.Bool.{cases_eq}
 use Rattle.std.proofs.lemmas.List.{length-drop, length-take-le}
-use Rattle.capture_difference.specs.Changes.{changes_of, share_of}
-use Rattle.capture_difference.specs.Difference.{IsFound, IsFoundAt, IsSought, IsTried, Mends, NoneMends}
+use Rattle.capture_difference.specs.Changes.{change_of, changed, changes_of, share_of}
+use Rattle.capture_difference.specs.Difference.{IsFound, IsFoundAt, IsSought, IsTried, IsWhether, Mends, NoneMends, wrong_byte}
+use Rattle.capture_difference.specs.declared.changes.Change.{Change}
 use Rattle.capture_difference.specs.declared.difference.WrongByte.{WrongByte}
+use Rattle.capture_machine.specs.Capture.{Conforms}
 use Rattle.world_machine.specs.Setup.{Configuration}
+
+-- ---- How many.
+
+none_of_nothing : (few many : Bool) → cond few (0 * 263) (cond many (0 * 8) 0) ≡ 0
+none_of_nothing true many = refl
+none_of_nothing false true = refl
+none_of_nothing false false = refl
+
+-- A packet of which a change is tried has a byte.
+pub some_bytes : (judged share len : ℕ) → 0 < changes_of judged share len → 0 < len
+some_bytes judged share zero some =
+    let none : changes_of judged share 0 ≡ 0 = none_of_nothing (nat_lt judged (4000 / (0 + 1) / share)) (nat_lt judged (128000 / (0 + 1) / share)) in
+    absurd (omega (arith, some, none))
+some_bytes judged share (suc len) some = omega arith
 
 -- ---- One change.
 
 module _ (w : Configuration) (before : List (List ℕ)) (packet : List ℕ) (behind : List (List ℕ)) where
+  -- It was judged with these bytes.
+  pub with_it : (number : ℕ) (change : Change) (bytes : List ℕ) (goes : Bool) → change ≡ change_of packet number → bytes ≡ changed packet change → IsWhether w (before ++ bytes ∷ behind) goes → goes ≡ true → Mends w before packet behind number
+  with_it number change bytes goes is are whether on =
+      let told : Conforms w (before ++ bytes ∷ behind) = subst (IsWhether w (before ++ bytes ∷ behind)) on whether in
+      subst (λ (b : List ℕ). Conforms w (before ++ b ∷ behind)) (are ∙ ap (changed packet) is) told
+
+  pub not_with_it : (number : ℕ) (change : Change) (bytes : List ℕ) (goes : Bool) → change ≡ change_of packet number → bytes ≡ changed packet change → IsWhether w (before ++ bytes ∷ behind) goes → goes ≡ false → Mends w before packet behind number → ⊥
+  not_with_it number change bytes goes is are whether stops mends =
+      let told : Conforms w (before ++ bytes ∷ behind) → ⊥ = subst (IsWhether w (before ++ bytes ∷ behind)) stops whether in
+      told (subst (λ (b : List ℕ). Conforms w (before ++ b ∷ behind)) (sym (are ∙ ap (changed packet) is)) mends)
+
   -- One more of which none did.
   pub none_more : (n : ℕ) → NoneMends w before packet behind n → (Mends w before packet behind n → ⊥) → NoneMends w before packet behind (n + 1)
   none_more n none not m few mends = elim (cases_eq m n) [

@@ -1,11 +1,12 @@
 -- Where in a packet a byte stands, in words: in its header, in the type of its body, in a field of a message in the clear
 -- that it carries alone, or elsewhere in its payload. This project's own.
-use Rattle.std.specs.Prelude.{ℕ, List, [], ◌∷◌, ◌-◌, ◌==◌, ◌&&◌, nat_lt, codes, if◌then◌else◌, Bool, true, false, Result, Ok, Err}
+use Rattle.std.specs.Prelude.{ℕ, List, [], ◌∷◌, ◌-◌, ◌==◌, ◌&&◌, nat_lt, codes, if◌then◌else◌, Bool, true, false, Option, Some, None, Result, Ok, Err}
 use Rattle.capture_difference.specs.declared.spots.Spot.{Spot}
 use Rattle.capture_difference.specs.declared.spots.Spot.TheVariants.{BodyType, Header, InField, Payload}
 use Rattle.message_fields.specs.Names.{name_text}
 use Rattle.message_fields.specs.Tables.{request_fields, response_fields}
 use Rattle.message_fields.specs.declared.field.Field.{Field}
+use Rattle.message_fields.specs.declared.names.Name.{Name}
 use Rattle.mctp_framing.specs.Packet.{PacketFields, parsed}
 use Rattle.packet_text.specs.Readings.{request_hash, response_lengths}
 use Rattle.packet_text.specs.declared.readings.Lengths.{Lengths}

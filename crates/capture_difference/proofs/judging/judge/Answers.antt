@@ -1,9 +1,10 @@
-use Rattle.std.proofs.Common.{Option, Result, IfOk, map, subst, sym}
+use Rattle.std.proofs.Common.{◌≡◌, ℕ, List, Option, Some, None, Result, Ok, IfOk, map, subst, sym}
 use Rattle.capture_difference.proofs.Conforming.{with_table}
 use Rattle.capture_difference.proofs.judging.judge.Goals as goal
 use Rattle.capture_difference.proofs.judging.judge.Goals.{in-Conforms, in-Differs+in_ok-byte-in-Differs}
 use Rattle.capture_difference.specs.Difference.{IsJudged}
 use Rattle.capture_difference.specs.declared.difference.Difference.{Difference}
+use Rattle.capture_machine.specs.Capture.{Conforms}
 use Rattle.check_laws.specs.Verdict.{IsVerdict, seen_of}
 use Rattle.script_ends.specs.Configured.{configuration_in}
 use Rattle.spdm_basis.specs.declared.OutOfMemory.{OutOfMemory}

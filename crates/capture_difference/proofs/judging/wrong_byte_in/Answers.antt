@@ -1,4 +1,4 @@
-use Rattle.std.proofs.Common.{◌≡◌, ◌∙◌, ℕ, List, IfOk, min, ap, arith, subst, length, take, length-take}
+use Rattle.std.proofs.Common.{◌≡◌, ◌<◌, ◌∙◌, ℕ, List, IfOk, min, ap, arith, subst, length, take, length-take}
 use Rattle.std.proofs.lemmas.List.{take_min}
 use Rattle.capture_difference.proofs.judging.wrong_byte_in.Goals as goal
 use Rattle.capture_difference.specs.Difference.{IsSought}

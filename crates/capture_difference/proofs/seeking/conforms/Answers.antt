@@ -1,4 +1,4 @@
-use Rattle.std.proofs.Common.{◌++◌, ◌∷◌, [], Result, arith, subst, reverse}
+use Rattle.std.proofs.Common.{◌≡◌, ◌<◌, ◌++◌, ◌∷◌, [], ℕ, List, Result, arith, subst, length, reverse}
 use Rattle.std.proofs.lemmas.List.{length-reverse}
 use Rattle.capture_difference.proofs.Conforming.{few_with, kept_before, kept_with, refused_whole, stopped_before, went_on}
 use Rattle.capture_difference.proofs.seeking.conforms.Goals as goal

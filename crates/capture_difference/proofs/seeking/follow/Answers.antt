@@ -1,4 +1,4 @@
-use Rattle.std.proofs.Common.{◌≡◌, ◌<◌, ◌+◌, ◌∙◌, ◌++◌, ◌∷◌, ℕ, List, Result, ap, subst, sym, append-nil, length, reverse, take, drop, get_or}
+use Rattle.std.proofs.Common.{◌≡◌, ◌<◌, ◌≤◌, ◌+◌, ◌∙◌, ◌++◌, ◌∷◌, ℕ, List, Result, ap, arith, subst, sym, append-nil, length, reverse, take, drop, get_or}
 use Rattle.std.proofs.lemmas.List.{take_all}
 use Rattle.capture_difference.proofs.Conforming.{behind_more, cut_at, refused_whole, short_behind}
 use Rattle.capture_difference.proofs.seeking.follow.Goals as goal

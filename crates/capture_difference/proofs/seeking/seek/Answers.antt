@@ -1,7 +1,8 @@
-use Rattle.std.proofs.Common.{ℕ, arith, subst}
+use Rattle.std.proofs.Common.{◌≡◌, ◌<◌, ◌≤◌, ◌∙◌, ℕ, List, Option, None, Some, arith, subst, length}
 use Rattle.capture_difference.proofs.Trying.{first_found, none_more}
 use Rattle.capture_difference.proofs.seeking.seek.Goals as goal
 use Rattle.capture_difference.specs.Difference.{IsTried}
+use Rattle.capture_difference.specs.declared.difference.WrongByte.{WrongByte}
 use Rattle.script_ends.specs.Configured.{configuration_in}
 use Rattle.world_machine.specs.Setup.{Configuration}
 

@@ -1,4 +1,4 @@
-use Rattle.std.proofs.Common.{◌≡◌, ◌∙◌, ◌+◌, [], ℕ, List, IfOk, arith, ap, length, take, drop, slice_index_or}
+use Rattle.std.proofs.Common.{◌≡◌, ◌<◌, ◌∙◌, ◌+◌, [], ℕ, List, IfOk, arith, ap, length, take, drop, slice_index_or}
 use Rattle.std.proofs.lemmas.List.{get_or_read}
 use Rattle.capture_difference.proofs.Trying.{few_around, found_at}
 use Rattle.capture_difference.proofs.seeking.seek_at.Goals as goal

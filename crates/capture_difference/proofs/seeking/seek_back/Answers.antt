@@ -1,4 +1,4 @@
-use Rattle.std.proofs.Common.{◌-◌, ℕ, arith, subst, length}
+use Rattle.std.proofs.Common.{◌≡◌, ◌<◌, ◌≤◌, ◌+◌, ◌-◌, ℕ, List, Option, None, Some, arith, subst, length}
 use Rattle.capture_difference.proofs.Trying.{found_first, one_passed}
 use Rattle.capture_difference.proofs.seeking.seek_back.Goals as goal
 use Rattle.capture_difference.specs.Difference.{IsFoundAt}

@@ -1,4 +1,4 @@
-use Rattle.std.proofs.Common.{◌∙◌, ℕ, Bool, ap, sym}
+use Rattle.std.proofs.Common.{◌≡◌, ◌∙◌, ℕ, Bool, ap, sym}
 use Rattle.capture_difference.proofs.spots.message_spot.Goals as goal
 use Rattle.capture_difference.specs.Spots.{message_spot, request_spot, response_spot_by}
 use Rattle.packet_text.specs.declared.readings.Lengths.{Lengths}

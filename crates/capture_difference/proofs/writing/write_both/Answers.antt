@@ -1,3 +1,4 @@
+use Rattle.std.proofs.Common.{ℕ, List}
 use Rattle.capture_difference.specs.Texts.{difference_text}
 use Rattle.capture_text.proofs.Taken.{prefix_of_first, takes_both, takes_then_prefix}
 use Rattle.packet_text.specs.Told.{packets_text}
