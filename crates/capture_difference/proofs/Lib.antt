@@ -1,3 +1,0 @@
-pub mod Conforming
-pub mod Trying
-pub mod OneTold

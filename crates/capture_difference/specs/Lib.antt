@@ -1,5 +1,0 @@
-pub mod Spots
-pub mod Changes
-pub mod Difference
-pub mod Texts
-pub mod Written
