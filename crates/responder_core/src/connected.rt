@@ -2,7 +2,6 @@ ghost use Rattle.std.specs.Prelude.{◌≡◌};
 ghost use Rattle.responder_core.specs.Connected.{queue_left, tells_measured};
 ghost use Rattle.spdm_grammar.specs.declared.names.TheConstants.{MAX_APP_DATA_LEN, MAX_OPAQUE_LEN, MAX_PADDING, MAX_SESSIONS};
 
-use crate::clear::clear_part::code_at;
 use crate::{
     ClearOutcome, ClearPlace, ExchangeOrigin, FreeValues, ReplyQueue, Sessions, Setup, record_id,
 };
@@ -165,7 +164,7 @@ impl Connection {
             .begin(begun, tag, message, bytes, free.handle, out);
         self.sessions.begin(free.id, session, bytes);
         self.drawn = true;
-        Heard::Answered(code_at(message))
+        Heard::Answered(begun.code())
     }
 
     /// Handles a received record; `free` are the values that its response may use. The response record, or ERROR
