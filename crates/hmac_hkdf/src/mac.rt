@@ -32,14 +32,22 @@ fn shorten_key(hash: HashAlg, key: &[u8]) -> ArrayVec<u8, 128>
     short
 }
 
+const ZEROS: [u8; 128] = [0; 128];
+
+// So many zeros.
+fn zeros(count: usize) -> &'static [u8]
+    requires { count ≤ 128 }
+    ensures { result.now ≡ replicate count 0 }
+{
+    &ZEROS[..count]
+}
+
 // Appends `count` zeros.
 fn push_zeros(block: &mut ArrayVec<u8, 128>, count: usize)
     requires { length block.old.items + count ≤ 128 }
     ensures { block.new.items ≡ block.old.items ++ replicate count 0 }
 {
-    for _i in 0..count {
-        block.push(0);
-    }
+    let _ = block.try_extend_from_slice(zeros(count));
 }
 
 // The key with zeros up to the length of a block; a key longer than a block is hashed first.
@@ -52,15 +60,23 @@ fn pad_key(hash: HashAlg, key: &[u8]) -> ArrayVec<u8, 128>
     block
 }
 
+// XORs each byte with `pad`.
+fn mask_all(bytes: &mut [u8], pad: u8)
+    ensures { bytes.new ≡ masked pad bytes.old }
+{
+    for x in bytes.iter_mut() {
+        *x ^= pad;
+    }
+}
+
 // Each byte of the padded key XORed with `pad`.
 fn mask(block: &[u8], pad: u8) -> ArrayVec<u8, 128>
     requires { length block.now ≤ 128 }
     ensures { result.items ≡ masked pad block.now }
 {
     let mut masked_key = ArrayVec::new();
-    for x in block {
-        masked_key.push(*x ^ pad);
-    }
+    let _ = masked_key.try_extend_from_slice(block);
+    mask_all(masked_key.as_mut_slice(), pad);
     masked_key
 }
 
