@@ -5,7 +5,7 @@ ghost use Rattle.spdm_grammar.specs.declared.names.TheConstants.{MAX_APP_DATA_LE
 ghost use Rattle.secured_record.specs.declared.TheConstants.{MAX_RECORD_SIZE, MIN_RECORD_SIZE};
 
 use crate::applying::Opened;
-use crate::exchange::{Exchange, handshake_with, write_answer};
+use crate::exchange::{Exchange, answer_exchange};
 use crate::kept::Kept;
 use crate::{ExchangeParts, ResponseValues, RspTold, Work};
 use measurements::Inventory;
@@ -92,8 +92,7 @@ impl RspSession {
         let mut lane = Lane::new(terms.choice.hash);
         lane.push(vca.as_slice());
         lane.push(exchange);
-        let handshake = handshake_with(&lane, psk, terms, parts, out);
-        write_answer(parts, terms, &handshake.responder_verify(), out);
+        let handshake = answer_exchange(&lane, psk, terms, parts, out);
         lane.push(out.as_slice());
         RspSession {
             stage: Some(Stage::Handshake),
