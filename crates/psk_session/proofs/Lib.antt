@@ -11,4 +11,5 @@ pub mod Taking
 pub mod Entries
 pub mod Standings
 pub mod OwnSealed
+pub mod IdTold
 pub mod ToldAnswers

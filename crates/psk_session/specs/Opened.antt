@@ -1,5 +1,6 @@
 -- What comes of an answer to PSK_EXCHANGE. This project's own.
 use Rattle.std.specs.Prelude.{◌≡◌, ℕ, List, Some, None, Result, Ok, Err}
+use Rattle.spdm_machine.specs.Sessions.{id_in_exchange}
 use Rattle.transcript.specs.Transcripts.{Negotiation}
 use Rattle.psk_session.specs.Finishing.{StandsFor}
 use Rattle.psk_session.specs.Opening.{Seen, accepted, open_fault}
@@ -9,11 +10,12 @@ use Rattle.psk_session.specs.declared.opening.Opening.{Opening}
 use Rattle.psk_session.specs.declared.session_told.SessionTold.{SessionTold}
 use Rattle.psk_session.specs.Told.{told_of}
 
--- What the answer told of the session; or its fault.
+-- RspSessionID, and what else the answer told of the session; or its fault.
 abbrev pub IsToldBy : (psk : List ℕ) → Negotiation → (exchange answer : List ℕ)
-    → Result SessionTold OpenFault → Type 0
+    → Result (ℕ × SessionTold) OpenFault → Type 0
 IsToldBy psk n exchange answer (Ok told) =
-    (open_fault psk n exchange answer ≡ None) × (told_of (accepted n exchange answer) ≡ Some told)
+    (open_fault psk n exchange answer ≡ None) × (told.0 ≡ id_in_exchange answer)
+    × (told_of (accepted n exchange answer) ≡ Some told.1)
 IsToldBy psk n exchange answer (Err fault) = open_fault psk n exchange answer ≡ Some fault
 
 -- A state of the accepted session, whose PSK_FINISH has this padding; or the fault of the answer.

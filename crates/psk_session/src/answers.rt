@@ -1,13 +1,10 @@
-ghost use Rattle.std.specs.Prelude.{◌≡◌, MatchResult, None, Some, Ok, slice_index, bytes_eq};
-ghost use Rattle.byteorder.specs.Endian.{little_number};
+ghost use Rattle.std.specs.Prelude.{◌≡◌, MatchResult, None, Some, Ok};
 ghost use Rattle.spdm_grammar.specs.Message.{exchange_rsp_message, response_message};
 ghost use Rattle.spdm_grammar.specs.Message.ResponseMessage.{PskExchangeRsp};
 ghost use Rattle.spdm_grammar.specs.Responses.{response_reading};
 ghost use Rattle.spdm_codec.specs.Answer.{Gives};
-ghost use Rattle.spdm_machine.specs.Sessions.{id_in_exchange};
 ghost use Rattle.psk_session.specs.Answers.{no_exchange_rsp};
 
-use session_keys::byte_at;
 use spdm_codec::read_response;
 use spdm_grammar::{ExchangeRsp, Malformed, Response};
 
@@ -38,11 +35,4 @@ pub fn read_exchange_rsp(
         Ok(_) => Err(1),
         Err(fault) => Err(fault.at),
     }
-}
-
-// The half of a session id that PSK_EXCHANGE or PSK_EXCHANGE_RSP tells.
-pub fn told_id(message: &[u8]) -> u16
-    ensures { result ≡ id_in_exchange message.now }
-{
-    byte_at(message, 4) as u16 + 256 * byte_at(message, 5) as u16
 }

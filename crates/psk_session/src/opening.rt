@@ -3,6 +3,7 @@ ghost use Rattle.running_hash.specs.Hash.{hash_of};
 ghost use Rattle.spdm_basis.specs.Sizes.{hash_size};
 ghost use Rattle.transcript.specs.Transcripts.{Negotiation, vca_of, without_verify};
 ghost use Rattle.requester_machine.specs.Session.{t1_of};
+ghost use Rattle.spdm_machine.specs.Sessions.{id_in_exchange};
 ghost use Rattle.spdm_machine.specs.Terms.{terms_of};
 ghost use Rattle.transcript.specs.Lane as lane;
 ghost use Rattle.session_keys.specs.Terms.{AreTermsOf};
@@ -14,7 +15,7 @@ ghost use Rattle.psk_session.specs.Told.{told_of};
 ghost use Rattle.psk_session.specs.Wiped.{IsWipedOpening};
 ghost use Rattle.spdm_grammar.specs.declared.names.TheConstants.{MAX_PADDING};
 
-use crate::answers::{read_exchange_rsp, told_id};
+use crate::answers::read_exchange_rsp;
 use crate::finish_record::lane_with;
 use crate::{Finishing, OpenFault, SessionTerms, SessionTold, wipe_psk};
 use byte_compare::same_bytes;
@@ -88,8 +89,8 @@ impl Opening {
         Handshake::new(choice.hash, choice.aead, &self.psk, self.hash_with(answer))
     }
 
-    // What an answer tells, whose handshake this is, or its fault.
-    fn told(&self, answer: &[u8], handshake: &Handshake) -> Result<SessionTold, OpenFault>
+    // The RspSessionID of an answer, whose handshake this is, and what else it tells; or its fault.
+    fn told(&self, answer: &[u8], handshake: &Handshake) -> Result<(u16, SessionTold), OpenFault>
         ensures { (psk : List ℕ) (n : Negotiation) (exchange : List ℕ)
             → StandsFor self.now psk n exchange
             → IsHandshakeOf handshake.now (terms_of n).choice psk
@@ -100,7 +101,7 @@ impl Opening {
             Err(at) => Err(OpenFault::Malformed(at)),
             Ok(rsp) => {
                 if same_bytes(rsp.verify, handshake.responder_verify().as_slice()) {
-                    Ok(SessionTold::of(&rsp))
+                    Ok((rsp.rsp_id, SessionTold::of(&rsp)))
                 } else {
                     Err(OpenFault::BadVerify)
                 }
@@ -144,14 +145,15 @@ impl Opening {
         let handshake = self.handshake_with(answer);
         match self.told(answer, &handshake) {
             Err(fault) => Err(fault),
-            Ok(told) => Ok(self.accept(answer, told, handshake, pad)),
+            Ok((rsp_id, told)) => Ok(self.accept(answer, rsp_id, told, handshake, pad)),
         }
     }
 
-    // The session with its sound answer, which told this, and whose handshake this is.
+    // The session with its sound answer, which told this RspSessionID and this, and whose handshake this is.
     fn accept(
         &self,
         answer: &[u8],
+        rsp_id: u16,
         told: SessionTold,
         handshake: Handshake,
         pad: &[u8],
@@ -162,10 +164,11 @@ impl Opening {
             → StandsFor self.now psk n exchange
             → IsHandshakeOf handshake (terms_of n).choice psk
             (t1_of (accepted n exchange answer.now))
+            → rsp_id ≡ id_in_exchange answer.now
             → told_of (accepted n exchange answer.now) ≡ Some told
             → finishing.StandsFor result psk n exchange answer.now pad.now }
     {
         let lane = lane_with(&self.lane, answer);
-        Finishing::new(lane, handshake, self.terms, told_id(answer), told, pad)
+        Finishing::new(lane, handshake, self.terms, rsp_id, told, pad)
     }
 }

@@ -8,4 +8,4 @@ pub returns-in-Ok : goal.returns-in-Ok
 returns-in-Ok c = λ psk n exchange stands.
     let handshake = c.handshake_with-handshake.ensures.value psk n exchange stands in
     let told = c.in-Ok.ensures psk n exchange stands handshake in
-    (told.0, c.accept.ensures psk n exchange stands handshake told.1)
+    (told.0, c.accept.ensures psk n exchange stands handshake told.1 told.2)

@@ -1,5 +1,6 @@
 use Rattle.std.proofs.Common.{◌≡◌, ◌∙◌, ap, subst, sym, List, ℕ}
 use Rattle.std.specs.Prelude.{bytes_eq}
+use Rattle.psk_session.proofs.IdTold.{id_told}
 use Rattle.psk_session.proofs.ToldAnswers.{answer_is, no_answer_is, read_fits, told_is, verified}
 use Rattle.psk_session.specs.Opening.{Seen, StandsFor, accepted}
 use Rattle.requester_machine.specs.Answers.{answer_verify}
@@ -24,5 +25,6 @@ returns-then-same_bytes c = λ psk n exchange stands handshake.
     let fits = read_fits c.size.result terms.choice.hash terms.summary rsp answer (λ i. (c.type_inv.answer i).fits) c.size.ensures c.in-Ok.ensures in (
       answer_is psk n exchange answer terms inside.terms c.size.result c.size.ensures rsp c.same_bytes.result c.in-Ok.ensures right
           ∙ verified c.same_bytes.result c.if-same_bytes.true,
+      id_told c.size.result terms.summary rsp answer c.in-Ok.ensures,
       told_is psk n exchange answer terms inside.terms c.size.result c.size.ensures rsp _ c.in-Ok.ensures (c.of.ensures fits),
     )
