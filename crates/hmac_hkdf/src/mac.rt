@@ -61,7 +61,7 @@ fn pad_key(hash: HashAlg, key: &[u8]) -> ArrayVec<u8, 128>
 }
 
 // XORs each byte with `pad`.
-fn mask_all(bytes: &mut [u8], pad: u8)
+fn mask(bytes: &mut [u8], pad: u8)
     ensures { bytes.new ≡ masked pad bytes.old }
 {
     for x in bytes.iter_mut() {
@@ -69,15 +69,11 @@ fn mask_all(bytes: &mut [u8], pad: u8)
     }
 }
 
-// Each byte of the padded key XORed with `pad`.
-fn mask(block: &[u8], pad: u8) -> ArrayVec<u8, 128>
-    requires { length block.now ≤ 128 }
-    ensures { result.items ≡ masked pad block.now }
+// Masks a key with opad, 5c, that was masked with ipad, 36: 6a is both XORed.
+fn mask_again(bytes: &mut [u8])
+    ensures { (key : List ℕ) → bytes.old ≡ masked 0x36 key → bytes.new ≡ masked 0x5c key }
 {
-    let mut masked_key = ArrayVec::new();
-    let _ = masked_key.try_extend_from_slice(block);
-    mask_all(masked_key.as_mut_slice(), pad);
-    masked_key
+    mask(bytes, 0x6a);
 }
 
 // An HMAC whose text comes piece by piece.
@@ -100,11 +96,13 @@ impl RunningMac {
         ensures runs { Runs result hash }
         ensures given { HoldsMac hash result key.now [] }
     {
-        let block = pad_key(hash, key);
+        let mut block = pad_key(hash, key);
+        mask(block.as_mut_slice(), 0x36);
         let mut inner = RunningHash::new(hash);
-        inner.push(mask(block.as_slice(), 0x36).as_slice());
+        inner.push(block.as_slice());
+        mask_again(block.as_mut_slice());
         let mut outer = RunningHash::new(hash);
-        outer.push(mask(block.as_slice(), 0x5c).as_slice());
+        outer.push(block.as_slice());
         RunningMac { inner, outer }
     }
 
