@@ -1,5 +1,6 @@
 -- What is written of an input, and why it is not. This project's own.
-use Rattle.std.specs.Prelude.{◌≡◌, ◌<◌, ◌⊎◌, ℕ, List, length, Bool, true, false, is_ok, Result, Ok, Err}
+use Rattle.std.specs.Prelude.{◌≡◌, ◌<◌, ◌⊎◌, ℕ, List, length, Bool, true, false, is_ok, Option, Result, Ok, Err}
+use Rattle.capture_difference.specs.Written as judged
 use Rattle.capture_pcap.specs.Captures as captures
 use Rattle.capture_pcap.specs.Files as files
 use Rattle.capture_pcap.specs.declared.into_file.ToPcapFault.{ToPcapFault}
@@ -18,6 +19,7 @@ use Rattle.script_picture.specs.declared.fault.DrawFault.{DrawFault}
 use Rattle.script_picture.specs.declared.fault.DrawFault.TheVariants as to_picture
 use Rattle.script_text.specs.ScriptText.{capture_in, script_in}
 use Rattle.script_text.specs.declared.texts.faults.LineFault.{LineFault}
+use Rattle.spdm_basis.specs.Stream.{Takes, TakesPrefix}
 use Rattle.spdm_view.specs.declared.outcome.Outcome.{Outcome}
 use Rattle.spdm_view.specs.declared.outcome.Outcome.TheVariants.{Done, Usage, BadText, LinkFull, TooMany, BadFile, ReadFault, WriteFault, OutOfMemory, TooLong}
 use Rattle.spdm_view.specs.declared.words.Word.{Word}
@@ -29,16 +31,28 @@ use Rattle.spdm_view.specs.declared.words.Word.TheVariants.{FromPcap, OfText}
 abbrev pub text_limit : ℕ
 text_limit = 4194304
 
--- What a word writes of a text, and of an input.
-abbrev pub output_of_text : TextWord → List ℕ → List ℕ
-output_of_text (Packets style) text = packets.packets_text style text
-output_of_text Pcap text = files.pcap_of text
-output_of_text Capture text = scripts.capture_text text
-output_of_text (Picture form) text = pictures.drawn_text form text
+-- What a word writes of a text, all of it.
+abbrev pub IsOutputOfText : TextWord → List ℕ → (old new : Option (List ℕ)) → Type 0
+IsOutputOfText (Packets style) text old new = judged.IsWritten style text old new
+IsOutputOfText Pcap text old new = Takes old (files.pcap_of text) new
+IsOutputOfText Capture text old new = Takes old (scripts.capture_text text) new
+IsOutputOfText (Picture form) text old new = Takes old (pictures.drawn_text form text) new
 
-abbrev pub output_of : Word → List ℕ → List ℕ
-output_of (OfText word) input = output_of_text word input
-output_of FromPcap input = captures.capture_of input
+-- Of an input.
+abbrev pub IsOutput : Word → List ℕ → (old new : Option (List ℕ)) → Type 0
+IsOutput (OfText word) input old new = IsOutputOfText word input old new
+IsOutput FromPcap input old new = Takes old (captures.capture_of input) new
+
+-- A beginning of it, or nothing.
+abbrev pub IsBegunOfText : TextWord → List ℕ → (old new : Option (List ℕ)) → Type 0
+IsBegunOfText (Packets style) text old new = judged.IsBegun style text old new
+IsBegunOfText Pcap text old new = TakesPrefix old (files.pcap_of text) new
+IsBegunOfText Capture text old new = TakesPrefix old (scripts.capture_text text) new
+IsBegunOfText (Picture form) text old new = TakesPrefix old (pictures.drawn_text form text) new
+
+abbrev pub IsBegun : Word → List ℕ → (old new : Option (List ℕ)) → Type 0
+IsBegun (OfText word) input old new = (new ≡ old) ⊎ IsBegunOfText word input old new
+IsBegun FromPcap input old new = TakesPrefix old (captures.capture_of input) new
 
 -- ---- Outcomes.
 

@@ -1,7 +1,7 @@
-//! The program `spdm_view`: it writes the packets of a capture in words or as JSON, the capture of a script, a capture
-//! or a script as a picture, a capture as a pcap file, and a pcap file as a capture.
+//! The program `spdm_view`: it writes the packets of a capture, and the first that does not conform, in words or as JSON,
+//! the capture of a script, a capture or a script as a picture, a capture as a pcap file, and a pcap file as a capture.
 //!
-//! Read first: `output_of` in `specs/Answer.antt`, what is written of an input. The call is `run`.
+//! Read first: `IsOutput` in `specs/Answer.antt`, what is written of an input. The call is `run`.
 #![tactic(auto)]
 
 mod outcome;

@@ -1,14 +1,15 @@
 ghost use Rattle.std.specs.Prelude.{◌≡◌, ◌≤◌, ◌<◌, ◌↔◌, ◌⊎◌, ℕ, List, [], Some, None, true, map, length, string_bytes};
-ghost use Rattle.spdm_basis.specs.Stream.{HasFault, Takes, TakesPrefix};
-ghost use Rattle.spdm_view.specs.Answer.{IsTold, IsToldOfFile, IsToldOfText, capture_outcome, from_pcap_outcome, output_of, output_of_text, packets_outcome, pcap_outcome, picture_outcome, writes_nothing};
+ghost use Rattle.spdm_basis.specs.Stream.{HasFault};
+ghost use Rattle.spdm_view.specs.Answer.{IsBegun, IsBegunOfText, IsOutput, IsOutputOfText, IsTold, IsToldOfFile, IsToldOfText, capture_outcome, from_pcap_outcome, packets_outcome, pcap_outcome, picture_outcome, writes_nothing};
 ghost use Rattle.spdm_view.specs.Words.{word_of};
 ghost use Rattle.spdm_view.specs.declared.words.Word.{Word};
-ghost use Rattle.spdm_view.specs.declared.words.Word.TheVariants.{FromPcap};
+ghost use Rattle.spdm_view.specs.declared.words.Word.TheVariants.{FromPcap, OfText};
 
 use crate::outcome::Outcome;
 use crate::words::{TextWord, Word, word_of};
+use capture_difference::write_judged;
 use capture_pcap::{FromPcapFault, ToPcapFault, from_pcap, to_pcap};
-use packet_text::{PacketsFault, write_packets};
+use packet_text::PacketsFault;
 use script_capture::{CaptureFault, write_capture};
 use script_picture::{DrawFault, draw_text};
 use script_text::TEXT_LIMIT;
@@ -87,9 +88,9 @@ fn packets_outcome(answer: Result<(), PacketsFault>) -> Outcome
 fn write_text<K: Sink>(alloc: Global, word: TextWord, text: &[u8], sink: &mut K) -> Outcome
     requires { length text.now ≤ TEXT_LIMIT }
     ensures done { result ≡ Outcome.Done
-        → Takes (K.contents sink.old) (output_of_text word text.now) (K.contents sink.new) }
+        → IsOutputOfText word text.now (K.contents sink.old) (K.contents sink.new) }
     ensures part { (result ≡ Outcome.WriteFault) ⊎ (result ≡ Outcome.OutOfMemory)
-        → TakesPrefix (K.contents sink.old) (output_of_text word text.now) (K.contents sink.new) }
+        → IsBegunOfText word text.now (K.contents sink.old) (K.contents sink.new) }
     ensures told { IsToldOfText word text.now result }
     ensures nothing_written { writes_nothing result ≡ true → sink.new ≡ sink.old }
     ensures write_fault { result ≡ Outcome.WriteFault
@@ -99,7 +100,7 @@ fn write_text<K: Sink>(alloc: Global, word: TextWord, text: &[u8], sink: &mut K)
     ensures later { K.faults sink.old ≤ K.faults sink.new }
 {
     match word {
-        TextWord::Packets(style) => packets_outcome(write_packets(alloc, style, text, sink)),
+        TextWord::Packets(style) => packets_outcome(write_judged(alloc, style, text, sink)),
         TextWord::Pcap => pcap_outcome(to_pcap(alloc, text, sink)),
         TextWord::Capture => capture_outcome(write_capture(alloc, text, sink)),
         TextWord::Picture(form) => picture_outcome(draw_text(alloc, form, text, sink)),
@@ -114,10 +115,10 @@ fn answer_text<S: Source, K: Sink>(
     sink: &mut K,
 ) -> Outcome
     ensures done { result ≡ Outcome.Done → (text : List ℕ) → S.remaining source.old ≡ Some text
-        → Takes (K.contents sink.old) (output_of_text word text) (K.contents sink.new) }
+        → IsOutputOfText word text (K.contents sink.old) (K.contents sink.new) }
     ensures part { (result ≡ Outcome.WriteFault) ⊎ (result ≡ Outcome.OutOfMemory) → (text : List ℕ)
         → S.remaining source.old ≡ Some text
-        → TakesPrefix (K.contents sink.old) (output_of_text word text) (K.contents sink.new) }
+        → IsBegun (OfText word) text (K.contents sink.old) (K.contents sink.new) }
     ensures told { (text : List ℕ) → S.remaining source.old ≡ Some text
         → IsToldOfText word text result }
     ensures nothing_written { writes_nothing result ≡ true → sink.new ≡ sink.old }
@@ -141,10 +142,10 @@ fn answer_text<S: Source, K: Sink>(
 // Reads a configuration and a file, and writes the capture.
 fn write_file<S: Source, K: Sink>(alloc: Global, source: &mut S, sink: &mut K) -> Outcome
     ensures done { result ≡ Outcome.Done → (input : List ℕ) → S.remaining source.old ≡ Some input
-        → Takes (K.contents sink.old) (output_of FromPcap input) (K.contents sink.new) }
+        → IsOutput FromPcap input (K.contents sink.old) (K.contents sink.new) }
     ensures part { (result ≡ Outcome.WriteFault) ⊎ (result ≡ Outcome.OutOfMemory) → (input : List ℕ)
         → S.remaining source.old ≡ Some input
-        → TakesPrefix (K.contents sink.old) (output_of FromPcap input) (K.contents sink.new) }
+        → IsBegun FromPcap input (K.contents sink.old) (K.contents sink.new) }
     ensures told { (input : List ℕ) → S.remaining source.old ≡ Some input
         → IsToldOfFile input result }
     ensures nothing_written { writes_nothing result ≡ true → sink.new ≡ sink.old }
@@ -168,11 +169,11 @@ pub fn run<S: Source, K: Sink>(
 ) -> Outcome
     ensures done { result ≡ Outcome.Done → (word : Word) (input : List ℕ)
         → word_of (map string_bytes words.now) ≡ Some word → S.remaining source.old ≡ Some input
-        → Takes (K.contents sink.old) (output_of word input) (K.contents sink.new) }
+        → IsOutput word input (K.contents sink.old) (K.contents sink.new) }
     ensures part { (result ≡ Outcome.WriteFault) ⊎ (result ≡ Outcome.OutOfMemory)
         → (word : Word) (input : List ℕ)
         → word_of (map string_bytes words.now) ≡ Some word → S.remaining source.old ≡ Some input
-        → TakesPrefix (K.contents sink.old) (output_of word input) (K.contents sink.new) }
+        → IsBegun word input (K.contents sink.old) (K.contents sink.new) }
     ensures told { (word : Word) (input : List ℕ) → word_of (map string_bytes words.now) ≡ Some word
         → S.remaining source.old ≡ Some input → IsTold word input result }
     ensures nothing_written { writes_nothing result ≡ true → sink.new ≡ sink.old }

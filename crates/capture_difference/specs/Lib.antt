@@ -1,0 +1,5 @@
+pub mod Spots
+pub mod Changes
+pub mod Difference
+pub mod Texts
+pub mod Written
