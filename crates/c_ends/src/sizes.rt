@@ -1,6 +1,7 @@
 use crate::open_requester::OpenRequester;
 use crate::open_responder::OpenResponder;
 use mctp_framing::Assembler;
+use requester_core::core_blocks;
 use responder::{Known, responder_blocks};
 use responder_core::{Connection, connection_blocks};
 use spdm_grammar::BlockSpec;
@@ -36,6 +37,7 @@ pub fn responder_size(requesters: usize, blocks: usize, bytes: usize) -> usize {
 /// proved.
 pub fn requester_size(bytes: usize) -> usize {
     size_of::<OpenRequester>()
+        .saturating_add(core_blocks())
         .saturating_add(PACKETS)
         .saturating_add(MAX_BODY_SIZE)
         .saturating_add(bytes)

@@ -40,9 +40,10 @@ impl JudgedRequester {
             → IfOk result (λ asker. IsAsker asker q (kept_of (new_dialogue q))) }
     {
         let kept = JudgedSetup::new(alloc, setup, psk)?;
+        let asking = RequesterCore::new(alloc, setup.max)?;
         Ok(JudgedRequester {
             setup: kept,
-            asking: RequesterCore::new(setup.max),
+            asking,
             owes: false,
             room: Body::new(),
             inner: RecordFrame::new(),

@@ -67,7 +67,9 @@ impl Requester {
         let Ok(assembler) = Assembler::new(alloc, part.eid, part.responder, MAX_BODY_SIZE) else {
             return Err(ReqConfigFault::OutOfMemory);
         };
-        let asking = RequesterCore::new(part.max);
+        let Ok(asking) = RequesterCore::new(alloc, part.max) else {
+            return Err(ReqConfigFault::OutOfMemory);
+        };
         let draws = DrawStream::from_number(seed, u64::from(boot) * WEAR_LIMIT);
         Ok(Requester {
             part,

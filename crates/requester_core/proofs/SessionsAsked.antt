@@ -3,6 +3,7 @@ use Rattle.std.proofs.Common.{refl, ◌≡◌, ◌≢◌, ◌∙◌, ◌<◌, �
 use Rattle.std.specs.Prelude.{◌+◌, ◌==◌, ◌||◌, ◌-◌, ◌^◌, not, nat_lt, if◌then◌else◌, Ok, Err, is_some, length, slice_index_or}
 use Rattle.std.specs.Option.{option_map}
 use Rattle.std.proofs.lemmas.Bool.{false≢true}
+use Rattle.std.proofs.lemmas.Bool.Decides.{nat_tests}
 use Rattle.std.proofs.lemmas.Option.{none-some, same_Some}
 use Rattle.requester_core.proofs.Started.{connect_holds}
 use Rattle.requester_core.specs.SessionSteps.{IsToldTo}
@@ -60,9 +61,30 @@ at_any false (suc (suc (suc (suc n)))) = refl
 empty_slots : (x : Sessions) (id : ℕ) → x.slots ≡ slot.Empty ∷ slot.Empty ∷ slot.Empty ∷ slot.Empty ∷ [] → slot_of x id ≡ slot.Empty
 empty_slots x id is = ap (λ (l : List Slot). if id == 0 || nat_lt 4 id then slot.Empty else slice_index_or l (id - 1) slot.Empty) is ∙ at_any (id == 0 || nat_lt 4 id) (id - 1)
 
+pub four_empty : (a b c d : Slot) → a ≡ slot.Empty → b ≡ slot.Empty → c ≡ slot.Empty → d ≡ slot.Empty → (a ∷ b ∷ c ∷ d ∷ []) ≡ (slot.Empty ∷ slot.Empty ∷ slot.Empty ∷ slot.Empty ∷ [])
+four_empty a b c d first second third fourth = rw (first, second, third, fourth) refl
+
+by_tests : (b c : Bool) (x : Slot) → c ≡ true → (if b || c then slot.Empty else x) ≡ slot.Empty
+by_tests true c x h = refl
+by_tests false true x h = refl
+by_tests false false x h = absurd (false≢true h)
+
+five : (n : ℕ) → nat_lt 4 (suc (suc (suc (suc (suc n))))) ≡ true
+five n = grind (arith, nat_tests)
+
+pub all_empty : (x : Sessions) → slot_of x 1 ≡ slot.Empty → slot_of x 2 ≡ slot.Empty → slot_of x 3 ≡ slot.Empty → slot_of x 4 ≡ slot.Empty → (id : ℕ) → slot_of x id ≡ slot.Empty
+all_empty x first second third fourth zero = refl
+all_empty x first second third fourth (suc zero) = first
+all_empty x first second third fourth (suc (suc zero)) = second
+all_empty x first second third fourth (suc (suc (suc zero))) = third
+all_empty x first second third fourth (suc (suc (suc (suc zero)))) = fourth
+all_empty x first second third fourth (suc (suc (suc (suc (suc n))))) =
+    let id : ℕ = suc (suc (suc (suc (suc n)))) in
+    by_tests (id == 0) (nat_lt 4 id) (slice_index_or x.slots (id - 1) slot.Empty) (five n)
+
 -- The sessions of a history in which there is none.
-none_kept : (x : Sessions) (q : ReqSetup) (h : History) → x.slots ≡ slot.Empty ∷ slot.Empty ∷ slot.Empty ∷ slot.Empty ∷ [] → ((id : ℕ) → session_of id h ≡ []) → (id : ℕ) → IsSlotOf (slot_of x id) q.psk (session_of id h)
-none_kept x q h is none id = subst (λ (s : Slot). IsSlotOf s q.psk (session_of id h)) (sym (empty_slots x id is)) (none id)
+none_kept : (x : Sessions) (q : ReqSetup) (h : History) → ((id : ℕ) → slot_of x id ≡ slot.Empty) → ((id : ℕ) → session_of id h ≡ []) → (id : ℕ) → IsSlotOf (slot_of x id) q.psk (session_of id h)
+none_kept x q h is none id = subst (λ (s : Slot). IsSlotOf s q.psk (session_of id h)) (sym (is id)) (none id)
 
 none_orders : (h : History) → ((id : ℕ) → session_of id h ≡ []) → (id : ℕ) → IsInOrder (outstanding h) id (session_of id h)
 none_orders h none id = subst (IsInOrder (outstanding h) id) (sym (none id)) (record { ordered = tt; fits = tt })
@@ -72,14 +94,14 @@ unfolding session_of
 none_yet id = refl
 
 pub no_sessions : (x : Sessions) (q : ReqSetup) → x.slots ≡ slot.Empty ∷ slot.Empty ∷ slot.Empty ∷ slot.Empty ∷ [] → StandsFor x q []
-no_sessions x q is = record { holds = made_holds q [] tt; orders = none_orders [] none_yet; slots = none_kept x q [] is none_yet; named = tt }
+no_sessions x q is = record { holds = made_holds q [] tt; orders = none_orders [] none_yet; slots = none_kept x q [] (λ id. empty_slots x id is) none_yet; named = tt }
 
 none_connected : (h : History) (sent : Sent) (d : Draw) (id : ℕ) → session_of id (Told Connect sent d ∷ h) ≡ []
 unfolding session_of
 none_connected h sent d id = refl
 
 pub cleared : (new : Sessions) (q : ReqSetup) (h : History) (f : Free) (d : Draw) (sent : Sent) → asks false q h Connect f d ≡ Adds (Told Connect sent d)
-    → new.slots ≡ slot.Empty ∷ slot.Empty ∷ slot.Empty ∷ slot.Empty ∷ [] → StandsFor new q (Told Connect sent d ∷ h)
+    → ((id : ℕ) → slot_of new id ≡ slot.Empty) → StandsFor new q (Told Connect sent d ∷ h)
 cleared new q h f d sent adds is =
     let made = entries.asked false q h Connect f d (Told Connect sent d) adds in
     let same : plain_sent h GetVersion ≡ sent = told_sent Connect (plain_sent h GetVersion) sent d made.1 in

@@ -10,6 +10,7 @@ pub mod Gathering
 pub mod Hearing
 pub mod InSession
 pub mod Slot
+pub mod Lending
 pub mod RecordOutcome
 pub mod SlotSteps
 pub mod Sessions

@@ -5,3 +5,4 @@ pub mod record_outcome;
 pub mod session_laws;
 pub mod sessions;
 pub mod slot;
+pub mod slot_place;

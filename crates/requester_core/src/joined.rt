@@ -2,11 +2,12 @@ use crate::{ClearState, Sessions};
 use chunking::Collector;
 use negotiate::Common;
 use psk_session::SessionTold;
-use spdm_basis::Frame;
+use spdm_basis::{Frame, OutOfMemory};
 use spdm_grammar::{Choice, Phase, SessionList, SessionView};
+use std::alloc::Global;
 
 /// A requester (DSP0274, section 10), with every free value handed in: the clear part, the part received so far of a
-/// large response in the clear, and the sessions. Fixed size; never allocates.
+/// large response in the clear, and the sessions. Allocates only when constructed (read, not proved).
 #[derive(Drop)]
 pub struct RequesterCore {
     pub(crate) clear_state: ClearState,
@@ -18,7 +19,7 @@ pub struct RequesterCore {
 
 impl RequesterCore {
     ghost use Rattle.spdm_grammar.specs.declared.names.TheConstants.{MAX_MESSAGE_SIZE};
-    ghost use Rattle.std.specs.Prelude.{replicate, ◌≡◌, ◌≤◌, ◌<◌, ◌^◌, ◌-◌, [], MatchOption, None, Some, length};
+    ghost use Rattle.std.specs.Prelude.{replicate, ◌≡◌, ◌≤◌, ◌<◌, ◌^◌, ◌-◌, [], IfOk, MatchOption, None, Some, length};
     ghost use Rattle.requester_core.specs.Joined.{StandsFor};
     ghost use Rattle.requester_core.specs.Slot.{shown_of};
     ghost use Rattle.requester_core.specs.Wiped.{IsWiped};
@@ -31,15 +32,16 @@ impl RequesterCore {
     ghost use Rattle.requester_machine.specs.Shown.{last_data, views_of};
 
     /// The initial state of a requester with this MaxSPDMmsgSize.
-    pub fn new(max: u32) -> RequesterCore
-        ensures { (q : ReqSetup) → q.max ≡ max → StandsFor result q [] }
+    pub fn new(alloc: Global, max: u32) -> Result<RequesterCore, OutOfMemory>
+        ensures { (q : ReqSetup) → q.max ≡ max → IfOk result (λ core. StandsFor core q []) }
     {
-        RequesterCore {
+        let sessions = Sessions::new(alloc)?;
+        Ok(RequesterCore {
             clear_state: ClearState::new(),
             gathered: Collector::new(max),
-            sessions: Sessions::new(),
+            sessions,
             message: Frame::new(),
-        }
+        })
     }
 
     /// Overwrites the keys and the plaintexts of each session in place, and the data that were brought last. Not to be

@@ -6,6 +6,7 @@
 //! `RequesterCore::command`.
 #![tactic(auto)]
 
+mod blocks;
 mod body;
 mod busy;
 mod clear;
@@ -19,6 +20,7 @@ mod reaction;
 mod setup;
 mod telling;
 
+pub use blocks::core_blocks;
 pub use body::Body;
 pub use clear::body_outcome::BodyOutcome;
 pub use clear::clear_state::ClearState;
@@ -33,6 +35,7 @@ pub use in_sessions::record_outcome::RecordOutcome;
 pub use in_sessions::session_laws::{clear_passes, measure_passes};
 pub use in_sessions::sessions::Sessions;
 pub use in_sessions::slot::Slot;
+pub use in_sessions::slot_place::SlotPlace;
 pub use joined::RequesterCore;
 pub use psk_session::{SessionTold, wipe_psk};
 pub use reaction::Reaction;

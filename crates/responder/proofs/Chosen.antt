@@ -1,15 +1,12 @@
 -- The values that are handed to a connection are those that the responder chooses.
-use Rattle.std.proofs.Common.{◌≡◌, ℕ, List, [], sym}
+use Rattle.std.proofs.Common.{◌≡◌, [], sym}
 use Rattle.responder_core.specs.Free.{IsFree}
 use Rattle.responder_core.specs.declared.free_values.FreeValues.{FreeValues}
-use Rattle.responder_machine.specs.Does.{chosen, clear_chosen, first_queued, record_chosen}
+use Rattle.responder_machine.specs.Does.{chosen, clear_chosen, first_queued}
 use Rattle.responder_machine.specs.History.{History, clear_turns, negotiation_of, queue_of}
 use Rattle.responder_machine.specs.LargeMessages.{next_handle}
 use Rattle.responder_machine.specs.Place.{free_id}
-use Rattle.responder_machine.specs.Session.{id_in_record, session_of, turns_of}
 use Rattle.responder_machine.specs.Setup.{RspSetup}
-use Rattle.responder_session.specs.RequestEffects.{AreFree}
-use Rattle.responder_session.specs.declared.request_effect.ResponseValues.{ResponseValues}
 use Rattle.spdm_machine.specs.Keys.{Draw, context_of}
 use Rattle.spdm_machine.specs.Terms.{terms_of}
 
@@ -26,8 +23,3 @@ clear_is r h d seen id context exchange_opaque nonce measured_opaque handle repl
   reply = sym reply;
   pad = sym pad;
 }
-
-pub record_are : (r : RspSetup) (h : History) (sealed : List ℕ) (d : Draw) (seen : ResponseValues) → seen.nonce.now ≡ d.bytes → seen.opaque.now ≡ [] → seen.handle ≡ next_handle (turns_of (session_of (id_in_record sealed) h))
-    → seen.reply.now ≡ first_queued (queue_of h) → seen.pad.now ≡ [] → AreFree seen (record_chosen r h sealed d)
-unfolding chosen
-record_are r h sealed d seen nonce measured_opaque handle reply pad = record { nonce = sym nonce; opaque = sym measured_opaque; handle = sym handle; reply = sym reply; pad = sym pad }

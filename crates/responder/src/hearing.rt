@@ -12,8 +12,7 @@ ghost use Rattle.spdm_grammar.specs.declared.names.TheConstants.{MAX_OPAQUE_LEN}
 use crate::body::{write_body, write_reply};
 use crate::room::Room;
 use hmac_hkdf::Drawn;
-use responder_core::{Connection, FreeValues, Setup, record_id};
-use responder_session::ResponseValues;
+use responder_core::{Connection, FreeValues, Setup};
 use session_keys::context_of;
 use spdm_basis::Buffer;
 use spdm_grammar::Heard;
@@ -85,15 +84,13 @@ pub(crate) fn hear_record(
         ≡ is_drawn (record_does r h tag sealed.now (draw_as drawn.now)) }
     ensures filled { 0 < length room.new.body }
 {
-    write_next_reply(connection, &mut room.reply);
-    let free = ResponseValues {
-        nonce: &drawn.bytes,
-        opaque: &[],
-        handle: connection.next_handle_in(record_id(sealed).rsp),
-        reply: room.reply.as_slice(),
-        pad: &[],
-    };
-    let heard = connection.on_record(setup, sealed, &free, room.work.as_mut(), &mut room.record);
+    let heard = connection.on_record_chosen(
+        setup,
+        sealed,
+        &drawn.bytes,
+        room.work.as_mut(),
+        &mut room.record,
+    );
     write_reply(heard, room.record.as_slice(), &mut room.body);
     heard
 }

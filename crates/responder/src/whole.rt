@@ -1,26 +1,19 @@
-ghost use Rattle.std.specs.Prelude.{◌≡◌, ◌≤◌, ◌<◌, ◌-◌, ◌^◌, ◌==◌, ◌||◌, [], true, false, length, IfSome, MatchOption};
-ghost use Rattle.responder_core.specs.ClearPart.{is_drawn};
-ghost use Rattle.responder_core.specs.Connected.{IsDone, StandsFor};
+ghost use Rattle.std.specs.Prelude.{◌≡◌, ◌≤◌, ◌<◌, ◌-◌, ◌^◌, [], false, length};
+ghost use Rattle.responder_core.specs.Connected.{StandsFor};
 ghost use Rattle.responder_core.specs.Setup.{IsSetUp};
 ghost use Rattle.mctp_framing.specs.Cutting.{route_of};
 ghost use Rattle.responder.specs.Came.{IsMet, came_whole};
-ghost use Rattle.session_keys.specs.Drawing.{draw_as};
 ghost use Rattle.responder.specs.SetUp.{IsPart};
 ghost use Rattle.responder_machine.specs.BoundLaws.{messages_of};
-ghost use Rattle.responder_machine.specs.Does.{IsMade, responder_does};
-ghost use Rattle.responder_machine.specs.History.{History};
+ghost use Rattle.responder_machine.specs.Does.{IsMade};
 ghost use Rattle.responder_machine.specs.Responding as responding;
-ghost use Rattle.responder_machine.specs.Setup.{Known, RspPart, RspSetup, towards};
+ghost use Rattle.responder_machine.specs.Setup.{Known, RspPart, towards};
 ghost use Rattle.spdm_machine.specs.Keys.{draw_of};
-ghost use Rattle.spdm_machine.specs.Packets.{body_type};
 ghost use Rattle.spdm_grammar.specs.declared.names.TheConstants.{MAX_OPAQUE_LEN};
-ghost use Rattle.spdm_grammar.specs.declared.names.message_type.TheConstants.{SECURED, SPDM};
 
 use crate::hearing::{hear_clear, hear_record};
 use crate::part::Part;
-use crate::room::Room;
 use crate::shared::Shared;
-use hmac_hkdf::Drawn;
 use mctp_framing::{PacketList, Route};
 use responder_core::{Connection, Setup};
 use spdm_grammar::names::message_type::{SECURED, SPDM};
@@ -41,40 +34,6 @@ fn reversed(route: Route) -> Route
         from: route.to,
         owner: false,
         tag: route.tag,
-    }
-}
-
-/// Handles a complete message body with its tag. `drawn` has 32 fresh pseudo-random bytes, for the context of
-/// PSK_EXCHANGE_RSP or the nonce of MEASUREMENTS: they are used up where one of these requests takes effect
-/// (`Connection::is_drawn`). `None` if the message type is neither that of SPDM messages nor that of records. The
-/// response body overwrites the room's `body`.
-fn hear_body(
-    connection: &mut Connection,
-    setup: &Setup<'_>,
-    tag: u8,
-    bytes: &[u8],
-    drawn: &Drawn,
-    room: &mut Room,
-) -> Option<Heard>
-    requires { length setup.now.opaque.now ≤ MAX_OPAQUE_LEN }
-    ensures known { MatchOption result
-        ((body_type bytes.now == SPDM || body_type bytes.now == SECURED) ≡ false
-        × (connection.new ≡ connection.old))
-        (λ heard. (body_type bytes.now == SPDM || body_type bytes.now == SECURED) ≡ true) }
-    ensures done { (r : RspSetup) (h : History) → IsSetUp setup.now r → IsMade r h
-        → messages_of h < 2 ^ 64 - 1 → StandsFor connection.old r h
-        → IfSome result (λ heard. IsDone r h (responder_does r h tag bytes.now (draw_as drawn.now))
-        heard room.new.body connection.new) }
-    ensures drawn { (r : RspSetup) (h : History) → IsSetUp setup.now r → IsMade r h
-        → messages_of h < 2 ^ 64 - 1 → StandsFor connection.old r h
-        → IfSome result (λ heard. connection.new.drawn
-        ≡ is_drawn (responder_does r h tag bytes.now (draw_as drawn.now))) }
-    ensures filled { IfSome result (λ heard. 0 < length room.new.body) }
-{
-    match bytes {
-        [SPDM, message @ ..] => Some(hear_clear(connection, setup, tag, message, drawn, room)),
-        [SECURED, sealed @ ..] => Some(hear_record(connection, setup, sealed, drawn, room)),
-        _ => None,
     }
 }
 
@@ -105,8 +64,10 @@ pub(crate) fn hear_whole(
     }
     let drawn = shared.draws.peek();
     let room = shared.room.as_mut();
-    let Some(heard) = hear_body(connection, setup, route.tag, bytes, &drawn, room) else {
-        return Heard::Ignored(RspIgnored::OtherType);
+    let heard = match bytes {
+        [SPDM, message @ ..] => hear_clear(connection, setup, route.tag, message, &drawn, room),
+        [SECURED, sealed @ ..] => hear_record(connection, setup, sealed, &drawn, room),
+        _ => return Heard::Ignored(RspIgnored::OtherType),
     };
     out.fill(
         room.body.as_slice(),

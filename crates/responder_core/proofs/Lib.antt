@@ -12,6 +12,7 @@ pub mod Waiting
 pub mod Starting
 pub mod NoExchange
 pub mod Outcomes
+pub mod RecordDone
 pub mod Sizes
 pub mod Followed
 pub mod Exchanged

@@ -12,7 +12,7 @@ use Rattle.responder_machine.specs.Handling.{turn_of}
 use Rattle.responder_machine.specs.LargeMessages.{chunks_of}
 use Rattle.responder_machine.specs.Laws.{completed_at}
 use Rattle.responder_machine.specs.Place.{Place, inside}
-use Rattle.responder_machine.specs.Refusal.{refusal, refused_form}
+use Rattle.responder_machine.specs.Refusal.{code_of, refusal, refused_form}
 use Rattle.responder_machine.specs.Setup.{RspSetup}
 use Rattle.responder_machine.specs.Turn.{Turn, takes, takes_draw}
 use Rattle.spdm_grammar.specs.Message.{ChunkMessage, ExchangeMessage}
@@ -76,11 +76,12 @@ pub record IsTurned (r : RspSetup) (p : Place) (m : List ℕ) (f : Free) (new : 
 abbrev pub IsTakenTurn : RspSetup → Place → List ℕ → Free → (new : Seen) → (out : List ℕ) → Type 0
 IsTakenTurn r p m f new out = ((turn_of r p m f).refused ≡ None) × IsTurned r p m f new out
 
--- By what is reported of it: it is refused with this code; it is answered, takes no PSK_EXCHANGE, and takes a draw or
--- none; or it begins a session.
+-- By what is reported of it: it is refused with this code; it is answered, takes no PSK_EXCHANGE, takes a draw or none,
+-- and has this code; or it begins a session.
 abbrev pub IsCome : RspSetup → Place → List ℕ → Free → RequestOutcome → (new : Seen) → (out : List ℕ) → Type 0
 IsCome r p m f (came.Refused code) new out = ((turn_of r p m f).refused ≡ Some code) × IsTurned r p m f new out
-IsCome r p m f (came.Answered drawn) new out = IsTakenTurn r p m f new out × (takes PSK_EXCHANGE (turn_of r p m f) ≡ false) × (drawn ≡ takes_draw (turn_of r p m f))
+IsCome r p m f (came.Answered code drawn) new out =
+    IsTakenTurn r p m f new out × (takes PSK_EXCHANGE (turn_of r p m f) ≡ false) × (drawn ≡ takes_draw (turn_of r p m f)) × (code ≡ code_of m)
 IsCome r p m f (came.Begins begun) new out = IsBegun r p m f begun new
 
 -- The bytes of the PSK_EXCHANGE that begins, and the place that it came to.

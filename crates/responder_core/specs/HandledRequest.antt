@@ -22,14 +22,15 @@ IsUntouched _ old new = Unit {0}
 
 -- By what it is told, with what is kept before it and after it, and what is written: it is refused, nothing changes,
 -- and its ERROR is written; or it is neither a chunk nor PSK_EXCHANGE and is answered, what is kept is that of every
--- turn that takes it with its effect, and what is sent for it is written; or it is a chunk, which is refused for no
--- more than for the chunks before it; or a PSK_EXCHANGE that is not refused. In the last two nothing has changed.
+-- turn that takes it with its effect, what is sent for it is written, and its code is told; or it is a chunk, which is
+-- refused for no more than for the chunks before it; or a PSK_EXCHANGE that is not refused. In the last two nothing has
+-- changed.
 abbrev pub IsHandled : RspSetup → Place → List ℕ → Free → HandledRequest → (old new : Seen) → (out : List ℕ) → Type 0
 IsHandled r p m f (came.Refused code) old new out = (refusal r p m f ≡ Some code) × (new ≡ old) × (out ≡ error_bytes r p m f code)
-IsHandled r p m f came.Answered old new out =
+IsHandled r p m f (came.Answered code) old new out =
     (refusal r p m f ≡ None) × (chunk_in (request_at p m) ≡ None)
     × ((t : Turn) → is_taken t ≡ true → t.effect ≡ request_effect r p m f → StandsFor new (t ∷ p.turns))
-    × (out ≡ request_reply r p m f) × ((code_of m == PSK_EXCHANGE) ≡ false)
+    × (out ≡ request_reply r p m f) × ((code_of m == PSK_EXCHANGE) ≡ false) × (code ≡ code_of m)
 IsHandled r p m f (came.Chunk chunk) old new out =
     (refused_form r p m ≡ None) × (request_at p m ≡ Some (ChunkSend (chunk_message chunk)))
     × (refusal r p m f ≡ chunk_refusal (chunk_fault r p (Some (ChunkSend (chunk_message chunk))))) × (new ≡ old)

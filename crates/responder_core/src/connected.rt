@@ -2,8 +2,9 @@ ghost use Rattle.std.specs.Prelude.{◌≡◌};
 ghost use Rattle.responder_core.specs.Connected.{queue_left, tells_measured};
 ghost use Rattle.spdm_grammar.specs.declared.names.TheConstants.{MAX_APP_DATA_LEN, MAX_OPAQUE_LEN, MAX_PADDING, MAX_SESSIONS};
 
-use crate::clear::clear_part::code_at;
-use crate::{ClearOutcome, ClearPlace, ExchangeOrigin, FreeValues, ReplyQueue, Sessions, Setup};
+use crate::{
+    ClearOutcome, ClearPlace, ExchangeOrigin, FreeValues, ReplyQueue, Sessions, Setup, record_id,
+};
 use responder_session::{QueueFault, ResponseValues, Work};
 use spdm_basis::{Frame, OutOfMemory, RecordFrame};
 use spdm_grammar::Heard;
@@ -45,6 +46,7 @@ impl Connection {
     ghost use Rattle.std.specs.Prelude.{◌≡◌, ◌≤◌, ◌<◌, ◌^◌, ◌-◌, ◌∷◌, [], ℕ, List, None, Some, IfOk, MatchResult, length, replicate};
     ghost use Rattle.responder_machine.specs.Answer.{Free};
     ghost use Rattle.responder_machine.specs.BoundLaws.{messages_of};
+    ghost use Rattle.responder_machine.specs.Does.{record_chosen, record_does};
     ghost use Rattle.responder_machine.specs.History.{History, queue_of};
     ghost use Rattle.responder_machine.specs.History.Entry.{Dropped, Queued, Ticked};
     ghost use Rattle.responder_machine.specs.May.{IsAllowed};
@@ -162,7 +164,7 @@ impl Connection {
             .begin(begun, tag, message, bytes, free.handle, out);
         self.sessions.begin(free.id, session, bytes);
         self.drawn = true;
-        Heard::Answered(code_at(message))
+        Heard::Answered(begun.code())
     }
 
     /// Handles a received record; `free` are the values that its response may use. The response record, or ERROR
@@ -197,6 +199,45 @@ impl Connection {
         let heard = self
             .sessions
             .on_record(phase, sealed, setup.inventory, free, work, out);
+        use_up(&mut self.queue, heard);
+        self.drawn = tells_measured(heard);
+        heard
+    }
+
+    /// Handles a received record as `on_record` does, with the values that a responder chooses: this nonce, the next
+    /// handle of the session, no opaque data and no padding. The reply to application data is the first that waits, lent
+    /// from the queue.
+    pub fn on_record_chosen(
+        &mut self,
+        setup: &Setup<'_>,
+        sealed: &[u8],
+        nonce: &[u8; 32],
+        work: &mut Work,
+        out: &mut RecordFrame,
+    ) -> Heard
+        ensures done { (r : RspSetup) (h : History) (tag : ℕ) (d : Draw) → IsSetUp setup.now r
+            → d.bytes ≡ nonce.now → messages_of h < 2 ^ 64 - 1 → StandsFor self.old r h
+            → IsDone r h (record_does r h tag sealed.now d) result (body_by result out.new)
+            self.new }
+        ensures drawn { (r : RspSetup) (h : History) (tag : ℕ) (d : Draw) → IsSetUp setup.now r
+            → d.bytes ≡ nonce.now → messages_of h < 2 ^ 64 - 1 → StandsFor self.old r h
+            → self.new.drawn ≡ is_drawn (record_does r h tag sealed.now d) }
+        ensures harmless { (r : RspSetup) (h : History) (tag : ℕ) (d : Draw) → IsSetUp setup.now r
+            → d.bytes ≡ nonce.now → messages_of h < 2 ^ 64 - 1 → StandsFor self.old r h
+            → IsRecordHarmless r h tag sealed.now (record_chosen r h sealed.now d) d result
+            out.new }
+    {
+        let phase = self.clear.standing().phase();
+        let free = ResponseValues {
+            nonce,
+            opaque: &[],
+            handle: self.sessions.next_handle(record_id(sealed).rsp),
+            reply: self.queue.first(),
+            pad: &[],
+        };
+        let heard = self
+            .sessions
+            .on_record(phase, sealed, setup.inventory, &free, work, out);
         use_up(&mut self.queue, heard);
         self.drawn = tells_measured(heard);
         heard

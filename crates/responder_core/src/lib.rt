@@ -3,7 +3,8 @@
 //! data to send in reply.
 //!
 //! Read first: `StandsFor` in `specs/Connected.antt`, which history a connection stands for. Calls are
-//! `Connection::on_clear` and `Connection::on_record`.
+//! `Connection::on_clear` and `Connection::on_record`; `Connection::on_record_chosen` is the latter with the values that
+//! this project's responder chooses.
 #![tactic(auto)]
 
 mod blocks;

@@ -17,7 +17,7 @@ impl Connection {
     ghost use Rattle.responder_machine.specs.Place.{clear_place, free_id, held_of};
     ghost use Rattle.responder_machine.specs.Refusal.{has_pending};
     ghost use Rattle.responder_machine.specs.Responder.{is_repeat};
-    ghost use Rattle.responder_machine.specs.Session.{session_of, turns_of};
+    ghost use Rattle.responder_machine.specs.Session.{session_of};
     ghost use Rattle.responder_machine.specs.Setup.{RspSetup};
     ghost use Rattle.responder_session.specs.Data.{data_of};
     ghost use Rattle.spdm_basis.specs.Sizes.{hash_size};
@@ -95,14 +95,6 @@ impl Connection {
             → result ≡ has_pending (clear_place h) }
     {
         self.clear.standing().is_pending()
-    }
-
-    /// The handle of the next chunked response in the session with this RspSessionID.
-    pub fn next_handle_in(&self, id: u16) -> u8
-        ensures { (r : RspSetup) (h : History) → StandsFor self.now r h
-            → result ≡ next_handle (turns_of (session_of id h)) }
-    {
-        self.sessions.next_handle(id)
     }
 
     /// The next application data to send in reply; empty if the queue is.

@@ -1,11 +1,8 @@
 ghost use Rattle.std.specs.Prelude.{◌≡◌};
-ghost use Rattle.std.specs.Option.{option_map};
-ghost use Rattle.responder_machine.specs.Answer.{request_at};
 ghost use Rattle.responder_machine.specs.Place as places;
 ghost use Rattle.responder_machine.specs.Refusal as refusal;
 ghost use Rattle.responder_machine.specs.Refusal.{limit_of};
 ghost use Rattle.responder_machine.specs.Setup.{RspSetup};
-ghost use Rattle.spdm_grammar.specs.Message.{request_message};
 ghost use Rattle.responder_rules.specs.Place.{IsPlace, IsRead};
 
 use crate::{Place, Where};
@@ -108,15 +105,7 @@ impl Place {
         if message[0] != version_for(code) {
             return Err(ErrorCode::VersionMismatch);
         }
-        self.request_in(message).ok_or(ErrorCode::InvalidRequest)
-    }
-
-    // The request that a message is at this place.
-    fn request_in<'a>(&self, message: &'a [u8]) -> Option<Request<'a>>
-        ensures { (p : places.Place) → IsPlace self.now p
-            → option_map request_message result ≡ request_at p message.now }
-    {
-        read_request(message, self.choice.hash.size()).ok()
+        read_request(message, self.choice.hash.size()).map_err(|_| ErrorCode::InvalidRequest)
     }
 
     /// Whether what a request with this code needs was not negotiated.

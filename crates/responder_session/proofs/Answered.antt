@@ -13,7 +13,7 @@ use Rattle.responder_session.specs.Exchange.{AreAnswered, AreParts, answer_with}
 use Rattle.responder_session.specs.declared.parts.ExchangeParts.{ExchangeParts}
 
 -- Verify data stand at the end.
-answer_split : (parts : ExchangeParts) (verify : List ℕ) → answer_with parts verify ≡ answer_with parts [] ++ verify
+pub answer_split : (parts : ExchangeParts) (verify : List ℕ) → answer_with parts verify ≡ answer_with parts [] ++ verify
 answer_split parts verify = simp (append_assoc, append-nil)
 
 pub unverified : (hash : HashAlg) (parts : ExchangeParts) (verify : List ℕ) → length verify ≡ hash_size hash → without_verify (hash_of hash) (answer_with parts verify) ≡ answer_with parts []

@@ -22,7 +22,7 @@ impl RspEnded {
         let free = ResponseValues::padding(&[]);
         let told = self
             .session
-            .take_given(sealed, None, &free, &mut Work::new());
+            .take_with(sealed, None, &free, &mut Work::new());
         RspTook::of(self.session, told)
     }
 }

@@ -6,7 +6,7 @@ ghost use Rattle.spdm_machine.specs.Terms.{terms_of};
 ghost use Rattle.transcript.specs.Lane as lanes;
 ghost use Rattle.transcript.specs.Lane.{lane_hash};
 ghost use Rattle.transcript.specs.Transcripts.{Negotiation, vca_of};
-ghost use Rattle.responder_session.specs.Exchange.{AreAnswered, AreParts, answer_with, t1_with};
+ghost use Rattle.responder_session.specs.Exchange.{AreAnswered, AreParts, answer_for, answer_with, t1_with};
 
 use crate::ExchangeParts;
 use byte_compare::same_bytes;
@@ -17,12 +17,7 @@ use spdm_grammar::{ExchangeRsp, Response};
 use transcript::Lane;
 
 // Overwrites `out` with PSK_EXCHANGE_RSP with these verify data; one that passes 4,096 bytes is not whole.
-pub fn write_answer(
-    parts: &ExchangeParts<'_>,
-    terms: SessionTerms,
-    verify: &HashBytes,
-    out: &mut Frame,
-)
+fn write_answer(parts: &ExchangeParts<'_>, terms: SessionTerms, verify: &HashBytes, out: &mut Frame)
     requires parts { AreParts terms parts.now }
     requires verify { length verify.now ≡ hash_size terms.choice.hash }
     ensures { AreAnswered terms parts.now → out.new ≡ answer_with parts.now verify.now }
@@ -62,13 +57,33 @@ fn blank(hash: HashAlg) -> HashBytes
     }
 }
 
-// The handshake that PSK_EXCHANGE and the parts of its answer fix; the lane was given VCA and PSK_EXCHANGE.
-pub fn handshake_with(
+// Overwrites the end of a text; one that is shorter than the end stays.
+fn overwrite_end(text: &mut [u8], end: &[u8])
+    ensures { (front old : List ℕ) → text.old ≡ front ++ old → length old ≡ length end.now
+        → text.new ≡ front ++ end.now }
+{
+    if let Some(at) = text.len().checked_sub(end.len()) {
+        text[at..].copy_from_slice(end);
+    }
+}
+
+// Puts verify data in the place of the blank ones at the end of a message.
+fn put_verify(verify: &HashBytes, out: &mut Frame)
+    ensures { (front old : List ℕ) → out.old ≡ front ++ old → length old ≡ length verify.now
+        → out.new ≡ front ++ verify.now }
+{
+    overwrite_end(out.as_mut_slice(), verify.as_slice());
+}
+
+// Overwrites `out` with PSK_EXCHANGE_RSP with these parts, and gives the handshake that it fixes; the lane was given
+// VCA and PSK_EXCHANGE. The verify data come last into the answer, since the key they are made with is that of what
+// stands before them.
+pub fn answer_exchange(
     lane: &Lane,
     psk: &Psk,
     terms: SessionTerms,
     parts: &ExchangeParts<'_>,
-    scratch: &mut Frame,
+    out: &mut Frame,
 ) -> Handshake
     requires lane { lane_hash lane.now ≡ terms.choice.hash }
     requires parts { AreParts terms parts.now }
@@ -76,11 +91,16 @@ pub fn handshake_with(
     ensures value { (n : Negotiation) (exchange : List ℕ) → AreTermsOf terms n exchange
         → AreAnswered terms parts.now → lanes.StandsFor lane.now (vca_of n ++ exchange)
         → IsHandshakeOf result (terms_of n).choice psk.now (t1_with n exchange parts.now) }
+    ensures answer { (n : Negotiation) (exchange : List ℕ) → AreTermsOf terms n exchange
+        → AreAnswered terms parts.now → lanes.StandsFor lane.now (vca_of n ++ exchange)
+        → out.new ≡ answer_for psk.now n exchange parts.now }
 {
     let choice = terms.choice;
-    write_answer(parts, terms, &blank(choice.hash), scratch);
-    let lane = lane_with(lane, without_verify(choice.hash, scratch.as_slice()));
-    Handshake::new(choice.hash, choice.aead, psk, lane.finish())
+    write_answer(parts, terms, &blank(choice.hash), out);
+    let lane = lane_with(lane, without_verify(choice.hash, out.as_slice()));
+    let handshake = Handshake::new(choice.hash, choice.aead, psk, lane.finish());
+    put_verify(&handshake.responder_verify(), out);
+    handshake
 }
 
 // What PSK_EXCHANGE and its answer fix: the running hash of the transcript up to PSK_EXCHANGE_RSP,

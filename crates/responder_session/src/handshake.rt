@@ -74,7 +74,7 @@ impl RspHandshake {
         let free = ResponseValues::padding(pad);
         let told = self
             .session
-            .take_given(sealed, None, &free, &mut Work::new());
+            .take_with(sealed, None, &free, &mut Work::new());
         RspTook::of(self.session, told)
     }
 }

@@ -51,7 +51,7 @@ impl RspOpen {
     {
         let told = self
             .session
-            .take_with(sealed, inventory, free, &mut Work::new());
+            .take_with(sealed, Some(inventory), free, &mut Work::new());
         RspTook::of(self.session, told)
     }
 

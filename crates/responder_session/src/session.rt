@@ -5,7 +5,7 @@ ghost use Rattle.spdm_grammar.specs.declared.names.TheConstants.{MAX_APP_DATA_LE
 ghost use Rattle.secured_record.specs.declared.TheConstants.{MAX_RECORD_SIZE, MIN_RECORD_SIZE};
 
 use crate::applying::Opened;
-use crate::exchange::{Exchange, handshake_with, write_answer};
+use crate::exchange::{Exchange, answer_exchange};
 use crate::kept::Kept;
 use crate::{ExchangeParts, ResponseValues, RspTold, Work};
 use measurements::Inventory;
@@ -92,8 +92,7 @@ impl RspSession {
         let mut lane = Lane::new(terms.choice.hash);
         lane.push(vca.as_slice());
         lane.push(exchange);
-        let handshake = handshake_with(&lane, psk, terms, parts, out);
-        write_answer(parts, terms, &handshake.responder_verify(), out);
+        let handshake = answer_exchange(&lane, psk, terms, parts, out);
         lane.push(out.as_slice());
         RspSession {
             stage: Some(Stage::Handshake),
@@ -170,32 +169,11 @@ impl RspSession {
         self.kept.place(stage, self.large.is_pending())
     }
 
-    /// Handles a record from the requester, whose response has these free values: an open session needs all of them,
-    /// any other the padding alone. The nonce has 32 bytes, the opaque data and the reply at most 1,024, and the
-    /// padding at most 16. The definitions fix the outcome while both epochs of an open session are below 2^64 - 1.
+    /// Handles a record from the requester, whose response is about this inventory and has these free values: an open
+    /// session needs an inventory and all values, any other no inventory and the padding alone. The nonce has 32 bytes,
+    /// the opaque data and the reply at most 1,024, and the padding at most 16. The definitions fix the outcome while
+    /// both epochs of an open session are below 2^64 - 1.
     pub fn take_with(
-        &mut self,
-        sealed: &[u8],
-        inventory: &Inventory,
-        free: &ResponseValues<'_>,
-        work: &mut Work,
-    ) -> RspTold
-        requires nonce { length free.now.nonce.now ≡ 32 }
-        requires opaque { length free.now.opaque.now ≤ MAX_OPAQUE_LEN }
-        requires reply { length free.now.reply.now ≤ MAX_APP_DATA_LEN }
-        requires pad { length free.now.pad.now ≤ MAX_PADDING }
-        ensures live { (r : RspSetup) (s : Events) (f : Free) → HasSizes r (session_terms s).common
-            → f.pad ≡ free.now.pad.now → (stage_of s ≡ Open → inventory_of r ≡ inventory.now)
-            → (stage_of s ≡ Open → AreGiven free.now f s)
-            → StandsFor self.old r.psk s → IsTold r s f sealed.now self.new result }
-        ensures ended { (id old answer : List ℕ) → IsEnded self.old id old answer
-            → IsEndedTold id old answer sealed.now self.new result }
-    {
-        self.take_given(sealed, Some(inventory), free, work)
-    }
-
-    // The same, with an inventory wherever it is open.
-    pub(crate) fn take_given(
         &mut self,
         sealed: &[u8],
         inventory: Option<&Inventory>,

@@ -43,7 +43,7 @@ impl RspVerifying {
         let free = ResponseValues::padding(pad);
         let told = self
             .session
-            .take_given(sealed, None, &free, &mut Work::new());
+            .take_with(sealed, None, &free, &mut Work::new());
         RspTook::of(self.session, told)
     }
 }

@@ -106,7 +106,12 @@ impl Talk {
         };
         let inventory = Inventory::new(alloc, &[]).map_err(|_| BenchError::OutOfMemory)?;
         let mut work = Work::new();
-        responder.take_with(finishing.again(), &inventory, &sent_back(&[]), &mut work);
+        responder.take_with(
+            finishing.again(),
+            Some(&inventory),
+            &sent_back(&[]),
+            &mut work,
+        );
         let reply = responder.reply().ok_or(BenchError::NoSession)?;
         let FinishTook::Open(open) = finishing.take(reply) else {
             return Err(BenchError::NoSession);
@@ -131,9 +136,12 @@ impl Talk {
             .ask(SessionRequest::Data(text), &[])
             .map_err(|_| BenchError::Refused)?;
         let free = sent_back(text);
-        let told = self
-            .responder
-            .take_with(requester.again(), &self.inventory, &free, &mut self.work);
+        let told = self.responder.take_with(
+            requester.again(),
+            Some(&self.inventory),
+            &free,
+            &mut self.work,
+        );
         if told != RspTold::Moved(RspAct::Data) {
             return Err(BenchError::Refused);
         }

@@ -3,17 +3,18 @@ ghost use Rattle.spdm_machine.specs.Sessions as sessions;
 ghost use Rattle.spdm_grammar.specs.declared.names.TheConstants.{MAX_PADDING, MAX_SESSIONS};
 ghost use Rattle.secured_record.specs.declared.TheConstants.{MAX_RECORD_SIZE};
 
-use crate::{ClearState, RecordOutcome, Slot};
+use crate::{ClearState, RecordOutcome, Slot, SlotPlace};
 use psk_session::{OpenFault, Opening, SessionRequest, SessionTerms, SessionTold};
-use spdm_basis::{Psk, RecordFault};
+use spdm_basis::{OutOfMemory, Psk, RecordFault};
 use spdm_grammar::names::{MAX_SESSIONS, SESSION_PLACES};
 use spdm_grammar::{CommandFault, ReqIgnored, SessionView};
+use std::alloc::Global;
 
 /// The sessions of a requester: a slot for each ReqSessionID from 1 to 4, and the ReqSessionID of the session that the
-/// outstanding message begins or belongs to. Fixed size; never allocates.
+/// outstanding message begins or belongs to. Allocates only when constructed (read, not proved).
 #[derive(Drop)]
 pub struct Sessions {
-    pub(crate) slots: [Slot; SESSION_PLACES],
+    pub(crate) slots: [SlotPlace; SESSION_PLACES],
     pub(crate) id: u16,
 }
 
@@ -52,7 +53,7 @@ fn least_free(first: bool, second: bool, third: bool) -> u16
 }
 
 impl Sessions {
-    ghost use Rattle.std.specs.Prelude.{◌≡◌, ◌≢◌, ◌≤◌, ◌<◌, ◌^◌, ◌-◌, ◌∷◌, [], MatchOption, None, Some, Bool, false, true, ℕ, List, drop, length};
+    ghost use Rattle.std.specs.Prelude.{◌≡◌, ◌≢◌, ◌≤◌, ◌<◌, ◌^◌, ◌-◌, ◌∷◌, [], MatchOption, None, Some, Bool, false, true, ℕ, List, IfOk, drop, length};
     ghost use Rattle.requester_core.specs.RecordOutcome.{IsStepped};
     ghost use Rattle.requester_core.specs.SessionSteps.{BringsExchange, IsBegunBy, IsRecordOf, IsRecorded, IsToldTo};
     ghost use Rattle.requester_core.specs.Sessions.{IsNamed, StandsFor, session_for, slot_of};
@@ -89,20 +90,17 @@ impl Sessions {
     ghost use Rattle.transcript.specs.Transcripts.{Negotiation};
 
     /// No sessions.
-    pub fn new() -> Sessions
-        ensures { (q : ReqSetup) → StandsFor result q [] }
+    pub fn new(alloc: Global) -> Result<Sessions, OutOfMemory>
+        ensures { (q : ReqSetup) → IfOk result (λ sessions. StandsFor sessions q []) }
     {
-        Sessions::none()
-    }
-
-    // Four empty slots.
-    fn none() -> Sessions
-        ensures { result.slots ≡ slot.Empty ∷ slot.Empty ∷ slot.Empty ∷ slot.Empty ∷ [] }
-    {
-        Sessions {
-            slots: [Slot::Empty, Slot::Empty, Slot::Empty, Slot::Empty],
+        let first = SlotPlace::empty(alloc)?;
+        let second = SlotPlace::empty(alloc)?;
+        let third = SlotPlace::empty(alloc)?;
+        let fourth = SlotPlace::empty(alloc)?;
+        Ok(Sessions {
+            slots: [first, second, third, fourth],
             id: 0,
-        }
+        })
     }
 
     /// Whether a session has this ReqSessionID.
@@ -113,7 +111,7 @@ impl Sessions {
         if id == 0 || id > MAX_SESSIONS as u16 {
             return false;
         }
-        self.slots[usize::from(id) - 1].is_live()
+        self.slots[usize::from(id) - 1].get().is_live()
     }
 
     /// How many sessions are live.
@@ -144,8 +142,10 @@ impl Sessions {
             → asks false q h Connect f d ≡ Adds (Told Connect sent d)
             → StandsFor self.new q (Told Connect sent d ∷ h) }
     {
-        self.wipe();
-        *self = Sessions::none();
+        self.empty(1);
+        self.empty(2);
+        self.empty(3);
+        self.empty(4);
     }
 
     /// Overwrites the keys and the plaintexts of each session in place. Not to be gone on with, but to be cleared.
@@ -164,7 +164,7 @@ impl Sessions {
         ensures others { (i : ℕ) → i ≢ id → slot_of self.new i ≡ slot_of self.old i }
     {
         if id >= 1 && id <= MAX_SESSIONS as u16 {
-            self.slots[usize::from(id) - 1].wipe();
+            self.slots[usize::from(id) - 1].get_mut().wipe();
         }
     }
 
@@ -181,7 +181,7 @@ impl Sessions {
         if id == 0 || id > MAX_SESSIONS as u16 {
             return Err(CommandFault::NoSuchSession);
         }
-        self.slots[usize::from(id) - 1].ask(ask, pad)
+        self.slots[usize::from(id) - 1].get_mut().ask(ask, pad)
     }
 
     /// Sends a request in the session with this ReqSessionID, in a record with this padding of at most 16 bytes, while
@@ -215,7 +215,7 @@ impl Sessions {
         if id == 0 || id > MAX_SESSIONS as u16 {
             return RecordOutcome::Ignored(RecordFault::KeySpent);
         }
-        self.slots[usize::from(id) - 1].take(sealed, pad)
+        self.slots[usize::from(id) - 1].get_mut().take(sealed, pad)
     }
 
     /// Handles a record while one of a session is outstanding. A further record that is sent has this padding, of at
@@ -253,7 +253,7 @@ impl Sessions {
         if id == 0 || id > MAX_SESSIONS as u16 {
             return &[];
         }
-        self.slots[usize::from(id) - 1].record()
+        self.slots[usize::from(id) - 1].get().record()
     }
 
     /// The ReqSessionID of the session that the outstanding message begins or asks something of.
@@ -273,7 +273,7 @@ impl Sessions {
         if id == 0 || id > MAX_SESSIONS as u16 {
             return &[];
         }
-        self.slots[usize::from(id) - 1].data()
+        self.slots[usize::from(id) - 1].get().data()
     }
 
     /// A view of the session with this ReqSessionID, from its PSK_EXCHANGE_RSP on.
@@ -292,7 +292,7 @@ impl Sessions {
         if id == 0 || id > MAX_SESSIONS as u16 {
             return None;
         }
-        self.slots[usize::from(id) - 1].view()
+        self.slots[usize::from(id) - 1].get().view()
     }
 
     /// What PSK_EXCHANGE_RSP told of the session with this ReqSessionID.
@@ -313,7 +313,7 @@ impl Sessions {
         if id == 0 || id > MAX_SESSIONS as u16 {
             return None;
         }
-        self.slots[usize::from(id) - 1].told()
+        self.slots[usize::from(id) - 1].get().told()
     }
 
     // Puts a session into the slot with this ReqSessionID.
@@ -324,7 +324,7 @@ impl Sessions {
         ensures others { (i : ℕ) → i ≢ id → slot_of self.new i ≡ slot_of self.old i }
         ensures id { self.new.id ≡ id }
     {
-        self.slots[usize::from(id) - 1] = slot;
+        self.slots[usize::from(id) - 1].put(slot);
         self.id = id;
     }
 
@@ -366,7 +366,9 @@ impl Sessions {
         if id == 0 || id > MAX_SESSIONS as u16 {
             return Err(OpenFault::Malformed(1));
         }
-        self.slots[usize::from(id) - 1].accept(answer, pad)
+        self.slots[usize::from(id) - 1]
+            .get_mut()
+            .accept(answer, pad)
     }
 
     /// Handles the awaited PSK_EXCHANGE_RSP. If its verify data are right, PSK_FINISH is sent, in a record with this
@@ -392,7 +394,7 @@ impl Sessions {
         ensures id { self.new.id ≡ self.old.id }
     {
         if id >= 1 && id <= MAX_SESSIONS as u16 {
-            self.slots[usize::from(id) - 1].clear();
+            self.slots[usize::from(id) - 1].get_mut().clear();
         }
     }
 

@@ -70,7 +70,7 @@ impl Sessions {
         if id == 0 || id > MAX_SESSIONS as u16 {
             return Err(RecordFault::KeySpent);
         }
-        self.slots[usize::from(id) - 1].open_next(sealed, out)
+        self.slots[usize::from(id) - 1].get().open_next(sealed, out)
     }
 
     // Opens a record in place of the one that the session with this ReqSessionID sent last.
@@ -82,7 +82,7 @@ impl Sessions {
         if id == 0 || id > MAX_SESSIONS as u16 {
             return Err(RecordFault::KeySpent);
         }
-        self.slots[usize::from(id) - 1].open_last(sealed, out)
+        self.slots[usize::from(id) - 1].get().open_last(sealed, out)
     }
 
     /// Whether a record opens as the next one of the session that it names; its inner message then overwrites `out`.
@@ -142,7 +142,9 @@ impl Sessions {
         if id == 0 || id > MAX_SESSIONS as u16 {
             return false;
         }
-        self.slots[usize::from(id) - 1].take_padded(sealed, pair)
+        self.slots[usize::from(id) - 1]
+            .get_mut()
+            .take_padded(sealed, pair)
     }
 
     /// Takes bytes as the outstanding record, where that was sent by itself in response to the last message or by a

@@ -1,4 +1,4 @@
-ghost use Rattle.std.specs.Prelude.{◌≡◌, ◌≤◌, [], ℕ, List, IfSome, is_some, true, false, length, slice_index};
+ghost use Rattle.std.specs.Prelude.{◌≡◌, ◌≤◌, [], IfSome, is_some, true, false, length};
 ghost use Rattle.responder_machine.specs.Answer.{Free, answer_bytes};
 ghost use Rattle.responder_machine.specs.History.{History};
 ghost use Rattle.responder_machine.specs.Place.{clear_place, held_of};
@@ -32,16 +32,6 @@ impl Model for ClearPart {
     ghost Value = { Seen };
 
     ghost view = { λ c. record { requests = c.requests; kept = c.kept } };
-}
-
-// The request code of a message of at least two bytes; 0 for a shorter one.
-pub fn code_at(message: &[u8]) -> u8
-    ensures { result ≡ refusals.code_of message.now }
-{
-    match message {
-        [_, code, ..] => *code,
-        _ => 0,
-    }
 }
 
 impl ClearPart {
@@ -105,9 +95,8 @@ impl ClearPart {
         }
         match self.requests.on_request(setup, held, message, free, out) {
             RequestOutcome::Refused(code) => ClearOutcome::Refused(code),
-            RequestOutcome::Answered { drawn } => {
+            RequestOutcome::Answered { code, drawn } => {
                 self.kept.keep(tag, message, out.as_slice());
-                let code = code_at(message);
                 ClearOutcome::Answered { code, drawn }
             }
             RequestOutcome::Begins(begun) => ClearOutcome::Begins(begun),

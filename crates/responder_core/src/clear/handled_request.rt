@@ -5,8 +5,8 @@ use spdm_grammar::{ChunkView, ErrorCode, Exchange};
 pub enum HandledRequest<'a> {
     /// It is refused with this code.
     Refused(ErrorCode),
-    /// It is answered.
-    Answered,
+    /// The request with this code is answered.
+    Answered(u8),
     /// It is CHUNK_SEND with this chunk, which is refused for no more than for the chunks before it.
     Chunk(ChunkView<'a>),
     /// It is PSK_EXCHANGE and begins a session.

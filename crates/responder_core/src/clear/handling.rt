@@ -15,6 +15,7 @@ ghost use Rattle.responder_core.specs.Setup.{IsSetUp};
 ghost use Rattle.responder_core.specs.ClearState.{StandsFor, place_at};
 ghost use Rattle.responder_core.specs.Taking.{IsTaking};
 
+use crate::clear::contents::code_of;
 use crate::{ClearState, FreeValues, HandledRequest, Setup};
 use responder_rules::{Place, Where, write_large_response};
 use spdm_basis::Frame;
@@ -93,7 +94,7 @@ impl ClearState {
             Request::PskExchange(exchange) => HandledRequest::Exchange(exchange),
             _ => {
                 self.answer(&place, setup, &request, message, free.handle, out);
-                HandledRequest::Answered
+                HandledRequest::Answered(code_of(&request))
             }
         }
     }

@@ -20,13 +20,12 @@ ghost use Rattle.responder_core.specs.ClearState as standings;
 ghost use Rattle.responder_core.specs.ClearState.{place_at};
 
 use crate::clear::answers::write_acknowledgement;
-use crate::clear::clear_part::code_at;
 use crate::clear::gathering::{Gathered, gather};
 use crate::{ClearState, ExchangeOrigin, FreeValues, HandledRequest, RequestOutcome, Setup};
 use chunking::Collector;
 use responder_rules::Where;
 use spdm_basis::Frame;
-use spdm_grammar::names::request_code::GET_MEASUREMENTS;
+use spdm_grammar::names::request_code::{CHUNK_SEND, GET_MEASUREMENTS};
 use spdm_grammar::{ChunkFault, ChunkView, ErrorCode};
 use std::marker::Model;
 
@@ -145,19 +144,27 @@ impl Requests {
             HandledRequest::Refused(_) => {
                 self.standing.take_chunk();
                 write_acknowledgement(chunk.handle, chunk.number, response.as_slice(), out);
-                RequestOutcome::Answered { drawn: false }
+                RequestOutcome::Answered {
+                    code: CHUNK_SEND,
+                    drawn: false,
+                }
             }
-            HandledRequest::Answered => {
-                let drawn = code_at(whole) == GET_MEASUREMENTS;
+            HandledRequest::Answered(code) => {
                 write_acknowledgement(chunk.handle, chunk.number, response.as_slice(), out);
-                RequestOutcome::Answered { drawn }
+                RequestOutcome::Answered {
+                    code: CHUNK_SEND,
+                    drawn: code == GET_MEASUREMENTS,
+                }
             }
             HandledRequest::Exchange(_) => RequestOutcome::Begins(ExchangeOrigin::InChunks {
                 handle: chunk.handle,
                 number: chunk.number,
             }),
             // No chunk comes inside a large request.
-            HandledRequest::Chunk(_) => RequestOutcome::Answered { drawn: false },
+            HandledRequest::Chunk(_) => RequestOutcome::Answered {
+                code: CHUNK_SEND,
+                drawn: false,
+            },
         }
     }
 
@@ -191,7 +198,10 @@ impl Requests {
             Gathered::More => {
                 self.standing.take_chunk();
                 write_acknowledgement(chunk.handle, chunk.number, &[], out);
-                RequestOutcome::Answered { drawn: false }
+                RequestOutcome::Answered {
+                    code: CHUNK_SEND,
+                    drawn: false,
+                }
             }
             Gathered::Whole => self.on_whole(setup, held, chunk, free, out),
         }
@@ -217,11 +227,10 @@ impl Requests {
             .handle(Where::InClear, setup, held, message, free, out)
         {
             HandledRequest::Refused(code) => RequestOutcome::Refused(code),
-            HandledRequest::Answered => {
+            HandledRequest::Answered(code) => {
                 self.collector.clear();
-                RequestOutcome::Answered {
-                    drawn: code_at(message) == GET_MEASUREMENTS,
-                }
+                let drawn = code == GET_MEASUREMENTS;
+                RequestOutcome::Answered { code, drawn }
             }
             HandledRequest::Exchange(_) => RequestOutcome::Begins(ExchangeOrigin::InClear),
             HandledRequest::Chunk(chunk) => self.on_chunk(setup, held, chunk, message, free, out),

@@ -112,7 +112,7 @@ impl LiveSession {
             → inventory_of r ≡ inventory.now → StandsFor self.old r s
             → IsTaken r s f sealed.now self.new result out.new }
     {
-        match self.session.take_with(sealed, inventory, free, work) {
+        match self.session.take_with(sealed, Some(inventory), free, work) {
             RspTold::Moved(act) => {
                 self.idle = 0;
                 self.write_reply(out);

@@ -1,10 +1,7 @@
-ghost use Rattle.std.specs.Prelude.{◌≡◌, ◌≤◌, length};
-ghost use Rattle.spdm_grammar.specs.declared.names.TheConstants.{MAX_APP_DATA_LEN, MAX_OPAQUE_LEN, MAX_PADDING};
+ghost use Rattle.std.specs.Prelude.{◌≡◌};
 
 use crate::LiveSession;
-use measurements::Inventory;
-use responder_session::{ResponseValues, RspTold, Work};
-use spdm_basis::{OutOfMemory, RecordFrame};
+use spdm_basis::OutOfMemory;
 use std::alloc::Global;
 use std::marker::Model;
 
@@ -30,13 +27,10 @@ impl Model for SessionSlot {
 }
 
 impl SessionSlot {
-    ghost use Rattle.std.specs.Prelude.{◌≡◌, ◌≤◌, None, Some, IfOk, MatchOption, length};
-    ghost use Rattle.responder_machine.specs.Answer.{Free};
+    ghost use Rattle.std.specs.Prelude.{◌≡◌, None, Some, IfOk, MatchOption};
     ghost use Rattle.responder_machine.specs.Session.{Events, after_tick};
-    ghost use Rattle.responder_machine.specs.Setup.{RspSetup, inventory_of};
-    ghost use Rattle.responder_session.specs.RequestEffects.{AreFree};
-    ghost use Rattle.responder_session.specs.Updates.{HasEpochs};
-    ghost use Rattle.responder_core.specs.LiveSession.{IsSlotOf, IsTakenIn};
+    ghost use Rattle.responder_machine.specs.Setup.{RspSetup};
+    ghost use Rattle.responder_core.specs.LiveSession.{IsSlotOf};
 
     /// A slot without a session.
     pub fn empty(alloc: Global) -> Result<SessionSlot, OutOfMemory>
@@ -100,29 +94,6 @@ impl SessionSlot {
             Some(live) => self.put(live),
             None => self.clear(),
         }
-    }
-
-    // A record for the session; none where there is none.
-    pub(crate) fn take(
-        &mut self,
-        sealed: &[u8],
-        inventory: &Inventory,
-        free: &ResponseValues<'_>,
-        work: &mut Work,
-        out: &mut RecordFrame,
-    ) -> Option<RspTold>
-        requires nonce { length free.now.nonce.now ≡ 32 }
-        requires opaque { length free.now.opaque.now ≤ MAX_OPAQUE_LEN }
-        requires reply { length free.now.reply.now ≤ MAX_APP_DATA_LEN }
-        requires pad { length free.now.pad.now ≤ MAX_PADDING }
-        ensures { (r : RspSetup) (s : Events) (f : Free) → AreFree free.now f → HasEpochs s
-            → inventory_of r ≡ inventory.now → IsSlotOf self.old r s
-            → IsTakenIn r s f sealed.now self.new result out.new }
-    {
-        if !self.is_there {
-            return None;
-        }
-        Some(self.live.take(sealed, inventory, free, work, out))
     }
 
     // Advances the clock: a session that has waited for too long is gone, and overwritten.

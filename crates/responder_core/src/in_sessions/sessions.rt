@@ -106,7 +106,11 @@ impl Sessions {
         if id == 0 || id > MAX_SESSIONS as u16 {
             return None;
         }
-        self.slots[usize::from(id) - 1].take(sealed, inventory, free, work, out)
+        let slot = &mut self.slots[usize::from(id) - 1];
+        if !slot.is_there {
+            return None;
+        }
+        Some(slot.live.take(sealed, inventory, free, work, out))
     }
 
     // Where END_SESSION ended the session with this RspSessionID, its last record and reply are kept apart, and its

@@ -1,4 +1,3 @@
-use crate::clear::clear_part::code_at;
 use crate::{ClearOutcome, ClearPart, Connection, DryRun, FreeValues, Setup};
 use spdm_basis::Frame;
 use spdm_grammar::Heard;
@@ -40,7 +39,7 @@ impl ClearPart {
                 let mut answer = Frame::new();
                 let _session = self.start(begun, setup, message, free, &mut answer);
                 self.begin(begun, tag, message, answer.as_slice(), free.handle, out);
-                Heard::Answered(code_at(message))
+                Heard::Answered(begun.code())
             }
         }
     }

@@ -5,6 +5,6 @@ pub returns : goal.returns
 returns c = λ q set_up limits key. record {
   kept = c.in_ok-kept.ensures q set_up limits key;
   setup = refl;
-  stands = c.new-2.ensures q set_up.max;
+  stands = c.in_ok-asking.ensures q set_up.max;
   owes = refl;
 }

@@ -3,7 +3,7 @@ use Rattle.requester_core.proofs.joined.RequesterCore.new.Goals as goal
 
 pub returns : goal.returns
 returns c = λ q is. record {
-  clear_state = c.new.ensures q;
-  sessions = c.new-3.ensures q;
-  gathers = record { max = c.new-2.ensures.max ∙ sym is; chunks = tt };
+  clear_state = c.new-2.ensures q;
+  sessions = c.in_ok-sessions.ensures q;
+  gathers = record { max = c.new-3.ensures.max ∙ sym is; chunks = tt };
 }

@@ -29,7 +29,7 @@ returns-clause-done c = λ r h f d setup free allowed beginning beside.
     let here = subst (λ (id : ℕ). IsBeginningAt r h t id c.start-session.result c.as_slice-bytes.result.now) free.id starts in
     let now = c.begin-2.ensures r h tag t d here beside.sessions in
     record {
-      told = ap heard.Answered c.code_at.ensures ∙ told.told;
+      told = ap heard.Answered (c.code.ensures r (clear_place h) m f c.args.self.now.clear.requests beginning.begins) ∙ told.told;
       body = told.body;
       stands = record {
         clear = told.stands;

@@ -1,36 +1,19 @@
-use Rattle.std.proofs.Common.{◌∙◌, subst, ap, List, ℕ}
+use Rattle.std.proofs.Common.{◌∙◌, ap, List, ℕ}
 use Rattle.responder_core.proofs.Draws.{record_tells}
 use Rattle.responder_core.proofs.Harmless.{record_harmless}
-use Rattle.responder_core.proofs.Outcomes.{kept_after_record, queue_after_record, turns_after_record}
+use Rattle.responder_core.proofs.RecordDone.{record_done}
 use Rattle.responder_core.proofs.connected.Connection.on_record.Goals as goal
-use Rattle.responder_core.specs.Coming as coming
 use Rattle.responder_core.specs.Sessions.{body_by}
-use Rattle.responder_core.specs.Connected.{HasSizesAt, queue_left, tells_measured}
-use Rattle.responder_machine.specs.History.{clear_turns, queue_of}
-use Rattle.responder_machine.specs.Turn.{Turn}
+use Rattle.responder_core.specs.Connected.{tells_measured}
+use Rattle.responder_machine.specs.History.{clear_turns}
 use Rattle.spdm_grammar.specs.declared.told.heard.Heard.{Heard}
 
 pub returns-clause-done : goal.returns-clause-done
 returns-clause-done c = λ r h tag f d setup free few stands.
     let sealed : List ℕ = c.args.sealed.now in
-    let turns = turns_after_record r h tag sealed f d in
     let phase = c.phase-phase.ensures (clear_turns h) (c.standing.ensures.stands r h stands.clear) in
     let done = c.on_record-heard.ensures r h tag f d free few setup.inventory phase stands.sessions in
-    record {
-      told = done.told;
-      body = done.body;
-      stands = record {
-        clear = record {
-          requests = subst (λ (ts : List Turn). coming.StandsFor c.args.self.now.clear.requests r ts) turns stands.clear.requests;
-          kept = stands.clear.kept ∙ kept_after_record r h tag sealed f d;
-        };
-        sessions = done.stands;
-        queue =
-            c.use_up.ensures ∙ ap (queue_left c.on_record-heard.result) stands.queue ∙ ap (λ (x : Heard). queue_left x (queue_of h)) done.told
-            ∙ queue_after_record r h tag sealed f d;
-        sizes = subst (HasSizesAt r) turns stands.sizes;
-      };
-    }
+    record_done r h tag sealed f d c.args.self.now c.on_record-heard.result c.on_record-heard.new.self c.use_up.new.queue c.tells_measured-self.result c.on_record-heard.new.out stands done c.use_up.ensures
 
 pub returns-clause-harmless : goal.returns-clause-harmless
 returns-clause-harmless c = λ r h tag f d setup free few stands.

@@ -2,6 +2,7 @@
 use Rattle.std.proofs.Common.{◌∙◌, sym, subst, ap, List, ℕ}
 use Rattle.responder_core.specs.ClearPart.{IsAnswered}
 use Rattle.responder_core.specs.Starting.{IsStartedAt}
+use Rattle.responder_machine.specs.Place.{clear_place}
 use Rattle.responder_core.proofs.clear.clear_part.ClearPart.answer.Goals as goal
 use Rattle.spdm_grammar.specs.declared.told.heard.Heard.TheVariants as heard
 
@@ -23,4 +24,4 @@ returns-in-Begins c = λ r h f d setup free allowed stands held.
     let bytes = c.as_slice.ensures.value in
     let started = subst (λ (a : List ℕ). IsStartedAt r h m f c.in-Begins.begun c.on_clear.new.self.requests c.start-session.result a) (sym bytes) (c.start-session.ensures r h tag f setup free allowed beginning) in
     let told = c.begin.ensures r h f d free.handle setup.ordered setup.most beginning started.answer_is in
-    record { told = ap heard.Answered c.code_at.ensures ∙ told.told; body = told.body; stands = told.stands }
+    record { told = ap heard.Answered (c.code.ensures r (clear_place h) m f c.on_clear.new.self.requests beginning.begins) ∙ told.told; body = told.body; stands = told.stands }

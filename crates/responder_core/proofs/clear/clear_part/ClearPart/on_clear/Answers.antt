@@ -48,10 +48,10 @@ returns-in-Answered-clause-told c = λ r h f d setup free stands held.
     let stood = subst (λ (s : Seen). StandsFor s r h) same stands in
     let anew : is_repeat (kept_of h) tag m ≡ false = ap (λ (k : Option Kept). is_repeat k tag m) (sym stood.kept) ∙ sym c.if-is_repeat.ensures in
     let now : Seen = record { requests = c.on_request.new.self; kept = c.keep.new.self } in
-    let come = subst (λ (n : ℕ). IsCome r (place_at InClear (clear_turns h) n) m f (came.Answered c.in-Answered.drawn) c.on_request.new.self c.on_request.new.out) (sym held) (c.in-Answered.ensures.come r (clear_turns h) f setup free stood.requests) in
+    let come = subst (λ (n : ℕ). IsCome r (place_at InClear (clear_turns h) n) m f (came.Answered c.in-Answered.code c.in-Answered.drawn) c.on_request.new.self c.on_request.new.out) (sym held) (c.in-Answered.ensures.come r (clear_turns h) f setup free stood.requests) in
     let short = turn_short r h m f setup.ordered setup.most come.0.0 in
     let kept = c.keep.ensures short (subst (λ (a : List ℕ). length a ≤ MAX_MESSAGE_SIZE) (sym c.as_slice.ensures.value) c.as_slice.ensures.fits) ∙ ap (λ (reply : List ℕ). Some (record { tag = tag; message = m; reply = reply })) c.as_slice.ensures.value in (
-      subst (λ (n : ℕ). IsAnswered r h tag m f d (hearing.Answered n) now c.on_request.new.out) (sym c.code_at-code.ensures) (taken_answered r h tag m f d now c.on_request.new.out anew come.0.0 come.0.1 kept),
+      subst (λ (n : ℕ). IsAnswered r h tag m f d (hearing.Answered n) now c.on_request.new.out) (sym come.3) (taken_answered r h tag m f d now c.on_request.new.out anew come.0.0 come.0.1 kept),
       begins_none r h tag m f d anew come.1,
       come.2 ∙ sym (drawn_anew r h tag m f d anew),
     )

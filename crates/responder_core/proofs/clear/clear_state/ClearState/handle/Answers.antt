@@ -81,4 +81,5 @@ returns-in_default-clause-handled c = λ r turns f setup free stands clear.
           }))),
       c.answer.ensures.sent p f place free.handle ∙ ap (sent_for p f) answered,
       ap (λ (n : ℕ). n == PSK_EXCHANGE) (sym (asked-code p m asked passed.asked_is)) ∙ other_request asked plain.here,
+      c.code_of.ensures ∙ asked-code p m asked passed.asked_is,
     )

@@ -8,7 +8,9 @@ use Rattle.responder_core.specs.Refused.{chunk_refusal}
 use Rattle.responder_core.specs.ClearState.{place_at}
 use Rattle.responder_machine.specs.Place.{Place}
 use Rattle.responder_machine.specs.Place.Where.{InClear}
+use Rattle.responder_machine.proofs.Codes.{asked-code}
 use Rattle.spdm_grammar.specs.Message.{ChunkMessage, chunk_message}
+use Rattle.spdm_grammar.specs.Message.RequestMessage.{ChunkSend}
 use Rattle.chunking.specs.Collecting.{accepted_unless, broken_rule, joined_with, under_way}
 use Rattle.responder_core.proofs.clear.requests.Requests.on_chunk.Goals as goal
 use Rattle.responder_machine.specs.LargeMessages.{chunks_of}
@@ -54,6 +56,7 @@ returns-in-More-clause-come c = λ r turns f setup free stands form asked_is ref
           (λ t taken nothing. c.take_chunk.ensures turns t stood.standing taken nothing) collector (c.in-More.ensures.max ∙ stood.max) (c.write_acknowledgement.ensures (omega arith)),
       more_takes_none r p m f chunk asked_is taken_is more.1,
       sym (more_draws r p m f chunk asked_is taken_is more.1),
+      asked-code p m (ChunkSend chunk) asked_is,
     )
 
 pub returns-in-Whole-clause-come : goal.returns-in-Whole-clause-come

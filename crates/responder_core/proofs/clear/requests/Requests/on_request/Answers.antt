@@ -48,5 +48,6 @@ returns-in-Answered-clause-come c = λ r turns f setup free stands.
     let now : Seen = record { standing = c.handle.new.self; collector = c.clear.new.self; whole = c.self.inside.whole } in (
       turned_plain r InClear turns c.args.held m f now c.handle.new.out handled.0 handled.1 (handled.2 (plain_turn r p m f) refl refl) c.clear.ensures.stands (c.clear.ensures.max ∙ stood.max) handled.3,
       plain_takes_none r p m f handled.0 handled.1 handled.4,
-      ap (λ (n : ℕ). n == GET_MEASUREMENTS) c.code_at.ensures ∙ sym (plain_draws r p m f handled.0 handled.1 ∙ draws_beside (code_of m) handled.4),
+      ap (λ (n : ℕ). n == GET_MEASUREMENTS) handled.5 ∙ sym (plain_draws r p m f handled.0 handled.1 ∙ draws_beside (code_of m) handled.4),
+      handled.5,
     )

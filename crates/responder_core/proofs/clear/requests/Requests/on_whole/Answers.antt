@@ -7,6 +7,7 @@ use Rattle.responder_core.proofs.Passing.{settled_at}
 use Rattle.responder_core.specs.Coming.{Completes, Seen}
 use Rattle.responder_core.specs.ClearState as standing
 use Rattle.responder_core.specs.ClearState.{place_at}
+use Rattle.responder_machine.proofs.Codes.{asked-code}
 use Rattle.responder_machine.specs.Answer.{request_at}
 use Rattle.responder_machine.specs.Handling.{acknowledged, error_bytes, request_effect, request_reply}
 use Rattle.responder_machine.specs.Place.{Place}
@@ -14,7 +15,7 @@ use Rattle.responder_machine.specs.Place.Where.{InChunks, InClear}
 use Rattle.responder_machine.specs.Refusal.{code_of, refusal, refused_form}
 use Rattle.responder_machine.specs.Turn.{Turn, is_taken}
 use Rattle.spdm_grammar.specs.Message.{ChunkMessage, chunk_message}
-use Rattle.spdm_grammar.specs.Message.RequestMessage.{PskExchange}
+use Rattle.spdm_grammar.specs.Message.RequestMessage.{ChunkSend, PskExchange}
 use Rattle.spdm_grammar.specs.declared.names.TheConstants.{MAX_MESSAGE_SIZE}
 use Rattle.spdm_grammar.specs.declared.names.request_code.TheConstants.{GET_MEASUREMENTS, PSK_EXCHANGE}
 use Rattle.responder_core.proofs.clear.requests.Requests.on_whole.Goals as goal
@@ -42,6 +43,7 @@ returns-in-Refused-clause-come c = λ r turns m f setup free completes.
           (c.write_acknowledgement.ensures fits ∙ ap (acknowledged chunk) response),
       last_refused_takes_none r p m f chunk before code done refused,
       sym (last_refused_draws r p m f chunk before code done refused),
+      asked-code p m (ChunkSend chunk) done.asked_is,
     )
 
 pub returns-in-Answered-clause-come : goal.returns-in-Answered-clause-come
@@ -65,7 +67,8 @@ returns-in-Answered-clause-come c = λ r turns m f setup free completes.
       turned_last_taken r InClear turns c.args.held m f chunk before c.handle.new.self c.write_acknowledgement-in-Answered.new.out done taken takes
           (c.write_acknowledgement-in-Answered.ensures fits ∙ ap (acknowledged chunk) response),
       last_taken_takes_none r p m f chunk before done taken other,
-      ap (λ (n : ℕ). n == GET_MEASUREMENTS) (c.code_at-drawn.ensures ∙ ap code_of bytes) ∙ sym (last_taken_draws r p m f chunk before done taken ∙ draws_beside (code_of before.whole) other),
+      ap (λ (n : ℕ). n == GET_MEASUREMENTS) (handled.5 ∙ ap code_of bytes) ∙ sym (last_taken_draws r p m f chunk before done taken ∙ draws_beside (code_of before.whole) other),
+      asked-code p m (ChunkSend chunk) done.asked_is,
     )
 
 pub returns-in-Exchange-clause-come : goal.returns-in-Exchange-clause-come

@@ -3,7 +3,7 @@ use Rattle.std.proofs.lemmas.Option.{same_Some}
 use Rattle.responder_machine.specs.Session.{stage_of}
 use Rattle.responder_session.specs.RequestEffects.{IsInnerDeed, turn_for}
 use Rattle.responder_session.proofs.Taken.{repeats_kept, taken}
-use Rattle.responder_session.proofs.session.RspSession.take_given.Goals as goal
+use Rattle.responder_session.proofs.session.RspSession.take_with.Goals as goal
 
 pub returns-clause-live : goal.returns-clause-live
 returns-clause-live c = λ r s f sizes padded blocks given stands.
