@@ -1,5 +1,5 @@
 -- What packets show of a session, and the purposes of the keys of its records. This project's own.
-use Rattle.std.specs.Prelude.{ℕ, List, Bool, length, drop, ◌==◌, if◌then◌else◌}
+use Rattle.std.specs.Prelude.{ℕ, List, Bool, length, drop, slice_index, ◌==◌, ◌&&◌, if◌then◌else◌}
 use Rattle.capture_records.specs.declared.opening.RecordKeys.{RecordKeys}
 use Rattle.capture_records.specs.declared.opening.RecordKeys.TheVariants as keys
 use Rattle.key_schedule.specs.Purpose.{Purpose, application_record, handshake_record}
@@ -8,6 +8,9 @@ use Rattle.key_schedule.specs.declared.direction.Direction.TheVariants.{Request,
 use Rattle.running_hash.specs.Hash.{hash_of}
 use Rattle.spdm_basis.specs.declared.SessionId.{SessionId}
 use Rattle.spdm_grammar.specs.declared.messages.choice.Choice.{Choice}
+use Rattle.spdm_grammar.specs.declared.names.message_type.TheConstants.{SPDM}
+use Rattle.spdm_grammar.specs.declared.names.request_code.TheConstants.{PSK_FINISH}
+use Rattle.spdm_grammar.specs.declared.names.response_code.TheConstants.{PSK_FINISH_RSP}
 use Rattle.transcript.specs.Transcripts.{t1_of, t2_of}
 
 -- The messages of its transcript, each as it was sent. PSK_FINISH and PSK_FINISH_RSP come in records, and are empty before
@@ -59,10 +62,17 @@ abbrev pub with_epoch : Keyed → Direction → (epoch : ℕ) → Keyed
 with_epoch s Request epoch = record s { request_epoch = epoch }
 with_epoch s Response epoch = record s { response_epoch = epoch }
 
-abbrev pub shown_by : Keyed → Direction → (message : List ℕ) → Keyed
-shown_by s Request message = record s { finish = message }
-shown_by s Response message = record s { finished = message }
+-- An inner message is an SPDM message with this code, behind its type.
+abbrev pub has_code : (inner : List ℕ) → (code : ℕ) → Bool
+has_code inner code = (slice_index inner 0 == SPDM) && (slice_index inner 2 == code)
 
+-- A record of the handshake. T2 has the PSK_FINISH that PSK_FINISH_RSP answered: the last one before it, since a PSK_FINISH
+-- that was refused is answered by ERROR, which adds nothing.
+abbrev pub shown_by : Keyed → Direction → (inner : List ℕ) → Keyed
+shown_by s Request inner = if has_code inner PSK_FINISH then record s { finish = drop 1 inner } else s
+shown_by s Response inner = if has_code inner PSK_FINISH_RSP then record s { finished = drop 1 inner } else s
+
+-- After PSK_FINISH_RSP no record of the handshake adds anything.
 abbrev pub noted : Keyed → Direction → RecordKeys → (inner : List ℕ) → Keyed
-noted s direction keys.Handshake inner = shown_by s direction (drop 1 inner)
+noted s direction keys.Handshake inner = if is_early s then shown_by s direction inner else s
 noted s direction (keys.Data epoch) inner = with_epoch s direction epoch

@@ -1,17 +1,30 @@
-ghost use Rattle.std.specs.Prelude.{◌≡◌, OnOk};
+ghost use Rattle.std.specs.Prelude.{◌≡◌};
+ghost use Rattle.spdm_grammar.specs.Message.{offer_message, reply_message};
+ghost use Rattle.spdm_machine.specs.Terms.{choice_from, offer_in, reply_in, request_value, response_value};
+ghost use Rattle.std.specs.Option.{option_map};
 
+use crate::opening::number_at;
+use crate::session::set;
 use crate::{KeyedSession, Opening};
 use key_schedule::Direction;
 use negotiate::agrees;
 use session_keys::byte_at;
-use spdm_basis::{Bytes, OutOfMemory, Psk, RecordFrame, SessionId};
+use spdm_basis::{AeadAlg, Bytes, HashAlg, OutOfMemory, Psk, RecordFrame, SessionId};
 use spdm_codec::{read_request, read_response};
 use spdm_grammar::names::{request_code, response_code};
-use spdm_grammar::{Choice, Request, Response};
+use spdm_grammar::{AlgOffer, AlgReply, Choice, Request, Response};
 use std::alloc::Global;
+use std::marker::Model;
 
 // How long a hash is taken to be where messages of a negotiation are read, on which none depends.
 const ANY_HASH: usize = 32;
+
+// The choice that stands where none was settled.
+const NO_CHOICE: Choice = Choice {
+    hash: HashAlg::Sha256,
+    aead: AeadAlg::Aes128Gcm,
+    measure: false,
+};
 
 /// What is told of a record: the session that it names, and whether it opens there; or that no session of its id was shown.
 #[derive(Clone, Copy, Debug, PartialEq, Eq)]
@@ -21,7 +34,7 @@ pub enum RecordTold {
 }
 
 /// What the messages between a requester and the responder show: the last negotiation, the last PSK_EXCHANGE, and the
-/// sessions.
+/// sessions, the newest first. In contracts, their lists.
 #[derive(Drop)]
 pub struct Dialogue {
     psk: Psk,
@@ -35,34 +48,71 @@ pub struct Dialogue {
     sessions: Vec<KeyedSession>,
 }
 
-// Two bytes of a message as a number, and 0 where they are not there.
-fn number_at(message: &[u8], at: usize) -> u16 {
-    u16::from(byte_at(message, at)) | (u16::from(byte_at(message, at.saturating_add(1))) << 8)
+impl Model for Dialogue {
+    ghost use Rattle.capture_records.specs.Heard.{Heard};
+
+    ghost Value = { Heard };
+
+    ghost view = { λ s. record {
+      psk = s.psk;
+      get_version = s.get_version;
+      version = s.version;
+      get_capabilities = s.get_capabilities;
+      capabilities = s.capabilities;
+      negotiate_algorithms = s.negotiate_algorithms;
+      algorithms = s.algorithms;
+      exchange = s.exchange;
+      sessions = s.sessions.items;
+    } };
 }
 
-// Overwrites a message.
-fn set(kept: &mut Bytes, message: &[u8]) -> Result<(), OutOfMemory>
-    ensures { OnOk result (kept.new ≡ message.now) }
+// The offer of NEGOTIATE_ALGORITHMS, if the message is one.
+fn offer_of(message: &[u8]) -> Option<AlgOffer<'_>>
+    ensures { option_map offer_message result ≡ offer_in (request_value message.now) }
 {
-    kept.clear();
-    kept.extend(message)
+    match read_request(message, ANY_HASH) {
+        Ok(Request::NegotiateAlgorithms(offer)) => Some(offer),
+        _ => None,
+    }
 }
 
-// The algorithms that a responder chose, if the two messages tell them.
-fn choice_in(negotiate_algorithms: &[u8], algorithms: &[u8]) -> Option<Choice> {
-    let Ok(Request::NegotiateAlgorithms(offer)) = read_request(negotiate_algorithms, ANY_HASH)
-    else {
-        return None;
+// The reply of ALGORITHMS, if the message is one.
+fn reply_of(message: &[u8]) -> Option<AlgReply<'_>>
+    ensures { option_map reply_message result ≡ reply_in (response_value message.now) }
+{
+    match read_response(message, ANY_HASH, false) {
+        Ok(Response::Algorithms(reply)) => Some(reply),
+        _ => None,
+    }
+}
+
+// The algorithms that a responder chose.
+fn choice_of(negotiate_algorithms: &[u8], algorithms: &[u8]) -> Choice
+    ensures { result ≡ choice_from (offer_in (request_value negotiate_algorithms.now))
+        (reply_in (response_value algorithms.now)) }
+{
+    let Some(offer) = offer_of(negotiate_algorithms) else {
+        return NO_CHOICE;
     };
-    let Ok(Response::Algorithms(reply)) = read_response(algorithms, ANY_HASH, false) else {
-        return None;
+    let Some(reply) = reply_of(algorithms) else {
+        return NO_CHOICE;
     };
-    agrees(&offer, &reply).ok()
+    match agrees(&offer, &reply) {
+        Ok(choice) => choice,
+        Err(_) => NO_CHOICE,
+    }
 }
 
 impl Dialogue {
+    ghost use Rattle.std.specs.Prelude.{◌≡◌, ◌∷◌, ◌<◌, ℕ, Some, length, IfOk, IfSome, OnOk};
+    ghost use Rattle.capture_records.specs.Heard.{IsTold, IsToldIn, after_answer, after_request, begun_by, negotiation_in, nothing_heard, place_in};
+    ghost use Rattle.spdm_machine.specs.Terms.{terms_of};
+    ghost use Rattle.transcript.specs.Transcripts.{vca_of};
+
     /// Under this key, where no message came yet.
-    pub fn new(alloc: Global, psk: Psk) -> Dialogue {
+    pub fn new(alloc: Global, psk: Psk) -> Dialogue
+        ensures { result ≡ nothing_heard psk }
+    {
         Dialogue {
             psk,
             get_version: Bytes::new(alloc),
@@ -77,7 +127,9 @@ impl Dialogue {
     }
 
     /// A request in the clear, whole.
-    pub fn hear_request(&mut self, message: &[u8]) -> Result<(), OutOfMemory> {
+    pub fn hear_request(&mut self, message: &[u8]) -> Result<(), OutOfMemory>
+        ensures { OnOk result (self.new ≡ after_request self.old message.now) }
+    {
         match byte_at(message, 1) {
             request_code::GET_VERSION => set(&mut self.get_version, message),
             request_code::GET_CAPABILITIES => set(&mut self.get_capabilities, message),
@@ -87,8 +139,10 @@ impl Dialogue {
         }
     }
 
-    /// An answer in the clear, whole. PSK_EXCHANGE_RSP begins a session, where the algorithms are known.
-    pub fn hear_answer(&mut self, alloc: Global, message: &[u8]) -> Result<(), OutOfMemory> {
+    /// An answer in the clear, whole. PSK_EXCHANGE_RSP begins a session.
+    pub fn hear_answer(&mut self, alloc: Global, message: &[u8]) -> Result<(), OutOfMemory>
+        ensures { OnOk result (self.new ≡ after_answer self.old message.now) }
+    {
         match byte_at(message, 1) {
             response_code::VERSION => set(&mut self.version, message),
             response_code::CAPABILITIES => set(&mut self.capabilities, message),
@@ -98,69 +152,97 @@ impl Dialogue {
         }
     }
 
+    // The algorithms that the last negotiation settled.
+    #[tactic(auto, unfolding(spdm_machine::specs::Terms::terms_of))]
+    fn choice(&self) -> Choice
+        ensures { result ≡ (terms_of (negotiation_in self.now)).choice }
+    {
+        choice_of(
+            self.negotiate_algorithms.as_slice(),
+            self.algorithms.as_slice(),
+        )
+    }
+
     // The six messages of the negotiation, one behind the other.
-    fn set_vca(&self, vca: &mut Bytes) -> Result<(), OutOfMemory> {
-        vca.clear();
+    fn vca(&self, alloc: Global) -> Result<Bytes, OutOfMemory>
+        ensures { IfOk result (λ vca. vca ≡ vca_of (negotiation_in self.now)) }
+    {
+        let mut vca = Bytes::new(alloc);
         vca.extend(self.get_version.as_slice())?;
         vca.extend(self.version.as_slice())?;
         vca.extend(self.get_capabilities.as_slice())?;
         vca.extend(self.capabilities.as_slice())?;
         vca.extend(self.negotiate_algorithms.as_slice())?;
-        vca.extend(self.algorithms.as_slice())
+        vca.extend(self.algorithms.as_slice())?;
+        Ok(vca)
     }
 
     // The session that PSK_EXCHANGE_RSP begins.
-    fn begin(&mut self, alloc: Global, answer: &[u8]) -> Result<(), OutOfMemory> {
-        let algorithms = self.algorithms.as_slice();
-        let Some(choice) = choice_in(self.negotiate_algorithms.as_slice(), algorithms) else {
-            return Ok(());
-        };
-        let exchange = self.exchange.as_slice();
+    fn begun(&self, alloc: Global, answer: &[u8]) -> Result<KeyedSession, OutOfMemory>
+        ensures { IfOk result (λ s. s ≡ begun_by self.now answer.now) }
+    {
         let id = SessionId {
-            req: number_at(exchange, 4),
+            req: number_at(self.exchange.as_slice(), 4),
             rsp: number_at(answer, 4),
         };
-        let mut vca = Bytes::new(alloc);
-        self.set_vca(&mut vca)?;
-        let session = KeyedSession::new(alloc, choice, id, vca.as_slice(), exchange, answer)?;
-        match self.sessions.push(session) {
+        let vca = self.vca(alloc)?;
+        let exchange = self.exchange.as_slice();
+        KeyedSession::new(alloc, self.choice(), id, vca.as_slice(), exchange, answer)
+    }
+
+    // PSK_EXCHANGE_RSP begins a session.
+    fn begin(&mut self, alloc: Global, answer: &[u8]) -> Result<(), OutOfMemory>
+        ensures { OnOk result (self.new
+            ≡ record self.old { sessions = begun_by self.old answer.now ∷ self.old.sessions }) }
+    {
+        let session = self.begun(alloc, answer)?;
+        match self.sessions.insert(0, session) {
             Ok(()) => Ok(()),
             Err(_) => Err(OutOfMemory),
         }
     }
 
-    // The place of the last session with the id that a record names.
-    fn place_of(&self, sealed: &[u8]) -> Option<usize> {
-        let mut found = None;
-        let mut place: usize = 0;
-        for session in self.sessions.as_slice() {
-            let id = session.id();
-            if id.req == number_at(sealed, 0) && id.rsp == number_at(sealed, 2) {
-                found = Some(place);
-            }
-            place = place.saturating_add(1);
-        }
-        found
+    // The place of the newest session with the id that a record names.
+    fn place_of(&self, sealed: &[u8]) -> Option<usize>
+        ensures place { result ≡ place_in self.now sealed.now }
+        ensures inside { IfSome result (λ place. place < length self.now.sessions) }
+    {
+        let req = number_at(sealed, 0);
+        let rsp = number_at(sealed, 2);
+        self.sessions.iter().position(|session| session.id().req == req && session.id().rsp == rsp)
     }
 
-    /// A record of a direction: opens it in the last session with its id, overwrites `inner` with its inner message, and
+    // A record of a direction, whose session stands at this place.
+    fn open_at(
+        &mut self,
+        place: usize,
+        direction: Direction,
+        sealed: &[u8],
+        inner: &mut RecordFrame,
+    ) -> Result<RecordTold, OutOfMemory>
+        requires { place < length self.old.sessions }
+        ensures { IfOk result
+            (λ told. IsToldIn self.old direction sealed.now place told inner.new self.new) }
+    {
+        let session = &mut self.sessions[place];
+        let told = session.take(&self.psk, direction, sealed, inner)?;
+        Ok(RecordTold::InSession(session.id(), told))
+    }
+
+    /// A record of a direction: opens it in the newest session with its id, overwrites `inner` with its inner message, and
     /// keeps what it shows of the session's transcript and keys.
     pub fn open(
         &mut self,
         direction: Direction,
         sealed: &[u8],
         inner: &mut RecordFrame,
-    ) -> Result<RecordTold, OutOfMemory> {
-        let Some(place) = self.place_of(sealed) else {
-            return Ok(RecordTold::NoSession);
-        };
-        let Some(session) = self.sessions.get_mut(place) else {
-            return Ok(RecordTold::NoSession);
-        };
-        let told = session.open(&self.psk, direction, sealed, inner);
-        if let Opening::Opened(keys) = told {
-            session.note(direction, keys, inner.as_slice())?;
+    ) -> Result<RecordTold, OutOfMemory>
+        ensures { IfOk result (λ told. IsTold self.old direction sealed.now
+            (place_in self.old sealed.now) told inner.new self.new) }
+    {
+        match self.place_of(sealed) {
+            Some(place) => self.open_at(place, direction, sealed, inner),
+            None => Ok(RecordTold::NoSession),
         }
-        Ok(RecordTold::InSession(session.id(), told))
     }
 }

@@ -1,9 +1,11 @@
-ghost use Rattle.std.specs.Prelude.{◌≡◌, length};
+ghost use Rattle.std.specs.Prelude.{◌≡◌, ◌<◌, ◌+◌, ◌-◌, ◌^◌, length};
 ghost use Rattle.capture_records.specs.Keyed.{data_purpose, handshake_purpose, t1_in, t2_in};
+ghost use Rattle.key_schedule.specs.Purpose.{Purpose};
 ghost use Rattle.running_hash.specs.Hash.{hash_of};
 ghost use Rattle.session_keys.specs.Handshake.{IsHandshakeOf};
 ghost use Rattle.session_keys.specs.Keys.{IsKeyOf};
 ghost use Rattle.spdm_basis.specs.Sizes.{hash_size};
+ghost use Rattle.spdm_grammar.specs.declared.messages.choice.Choice.{Choice};
 
 use crate::KeyedSession;
 use key_schedule::{Direction, DirectionKey};
@@ -61,6 +63,15 @@ fn first_key(session: &KeyedSession, psk: &Psk, direction: Direction) -> Directi
     }
 }
 
+// Steps to the key after a key update, which is that of the next epoch.
+fn step(key: &mut DirectionKey)
+    requires { key.old.epoch < 2 ^ 64 - 1 }
+    ensures { (choice : Choice) (p : Purpose) → IsKeyOf key.old choice p
+        → IsKeyOf key.new choice (record p { epoch = p.epoch + 1 }) }
+{
+    key.update();
+}
+
 /// The key of a direction's records after the handshake and so many key updates.
 pub(crate) fn data_key(
     session: &KeyedSession,
@@ -73,7 +84,7 @@ pub(crate) fn data_key(
 {
     let mut key = first_key(session, psk, direction);
     for _ in 0..epoch {
-        key.update();
+        step(&mut key);
     }
     RecordKey::new(key)
 }

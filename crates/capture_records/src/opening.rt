@@ -1,5 +1,5 @@
-ghost use Rattle.std.specs.Prelude.{◌≡◌};
-ghost use Rattle.capture_records.specs.Opening.{IsTried, number_in};
+ghost use Rattle.std.specs.Prelude.{◌≡◌, ◌<◌};
+ghost use Rattle.capture_records.specs.Opening.{IsTried, number_at};
 ghost use Rattle.session_keys.specs.Keys.{IsKeyOf};
 ghost use Rattle.key_schedule.specs.Purpose.{Purpose};
 ghost use Rattle.spdm_grammar.specs.declared.messages.choice.Choice.{Choice};
@@ -10,7 +10,7 @@ use byteorder::{ByteOrder, LittleEndian};
 use key_schedule::Direction;
 use secured_record::{RecordFault, RecordKey};
 use session_keys::open_record;
-use spdm_basis::{Psk, RecordFrame, SessionId};
+use spdm_basis::{OutOfMemory, Psk, RecordFrame, SessionId};
 
 /// Under which keys of its session a record opens.
 #[derive(Clone, Copy, Debug, PartialEq, Eq)]
@@ -30,14 +30,15 @@ pub enum Opening {
     Shut(RecordFault),
 }
 
-// The number that a record tells, and 0 of what is too short for one.
-fn number_in(sealed: &[u8]) -> u16
-    ensures { result ≡ number_in sealed.now }
+/// The two bytes at a place as a number, and 0 where they are not there.
+pub(crate) fn number_at(bytes: &[u8], at: usize) -> u16
+    requires { at < 1024 }
+    ensures { result ≡ number_at bytes.now at }
 {
-    if sealed.len() < 6 {
+    if bytes.len() < at + 2 {
         0
     } else {
-        LittleEndian::read_u16(&sealed[4..6])
+        LittleEndian::read_u16(&bytes.split_at(at).1[..2])
     }
 }
 
@@ -51,11 +52,12 @@ fn try_key(
     ensures { (choice : Choice) (p : Purpose) → IsKeyOf key.now choice p
         → IsTried choice p id sealed.now result out.new }
 {
-    open_record(key, id, number_in(sealed), sealed, out)
+    open_record(key, id, number_at(sealed, 4), sealed, out)
 }
 
 impl KeyedSession {
-    ghost use Rattle.capture_records.specs.Opening.{IsOpenedBy, IsOpening};
+    ghost use Rattle.std.specs.Prelude.{◌≡◌, IfOk};
+    ghost use Rattle.capture_records.specs.Opening.{IsOpenedBy, IsOpening, IsTaken};
 
     // Under the keys of the handshake.
     fn open_early(
@@ -124,5 +126,23 @@ impl KeyedSession {
             return early;
         }
         told
+    }
+
+    /// The next record of a direction: opens it, and keeps what it shows.
+    pub fn take(
+        &mut self,
+        psk: &Psk,
+        direction: Direction,
+        sealed: &[u8],
+        out: &mut RecordFrame,
+    ) -> Result<Opening, OutOfMemory>
+        ensures { IfOk result
+            (λ told. IsTaken self.old psk.now direction sealed.now told out.new self.new) }
+    {
+        let told = self.open(psk, direction, sealed, out);
+        if let Opening::Opened(keys) = told {
+            self.note(direction, keys, out.as_slice())?;
+        }
+        Ok(told)
     }
 }

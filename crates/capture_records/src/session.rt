@@ -1,10 +1,29 @@
+ghost use Rattle.std.specs.Prelude.{◌≡◌, OnOk};
+ghost use Rattle.capture_records.specs.Keyed.{has_code};
+
 use crate::RecordKeys;
 use key_schedule::Direction;
-use session_keys::behind_type;
+use session_keys::{behind_type, byte_at};
 use spdm_basis::{Bytes, OutOfMemory, SessionId};
 use spdm_grammar::Choice;
+use spdm_grammar::names::{message_type, request_code, response_code};
 use std::alloc::Global;
 use std::marker::Model;
+
+/// Overwrites a message.
+pub(crate) fn set(kept: &mut Bytes, message: &[u8]) -> Result<(), OutOfMemory>
+    ensures { OnOk result (kept.new ≡ message.now) }
+{
+    kept.clear();
+    kept.extend(message)
+}
+
+// Whether an inner message is an SPDM message with this code, behind its type.
+fn has_code(inner: &[u8], code: u8) -> bool
+    ensures { result ≡ has_code inner.now code }
+{
+    byte_at(inner, 0) == message_type::SPDM && byte_at(inner, 2) == code
+}
 
 /// How many key updates of each direction the records of a session show.
 #[derive(Clone, Copy, Debug, PartialEq, Eq)]
@@ -149,24 +168,26 @@ impl KeyedSession {
         }
     }
 
-    // A record of the handshake showed this message, behind its type.
-    fn set_message(&mut self, direction: Direction, message: &[u8]) -> Result<(), OutOfMemory>
-        ensures { OnOk result (self.new ≡ shown_by self.old direction message.now) }
+    // A record of the handshake, before PSK_FINISH_RSP, showed this inner message.
+    fn set_message(&mut self, direction: Direction, inner: &[u8]) -> Result<(), OutOfMemory>
+        ensures { OnOk result (self.new ≡ shown_by self.old direction inner.now) }
     {
         match direction {
             Direction::Request => {
-                self.finish.clear();
-                self.finish.extend(message)
+                if has_code(inner, request_code::PSK_FINISH) {
+                    set(&mut self.finish, behind_type(inner))?;
+                }
             }
             Direction::Response => {
-                self.finished.clear();
-                self.finished.extend(message)
+                if has_code(inner, response_code::PSK_FINISH_RSP) {
+                    set(&mut self.finished, behind_type(inner))?;
+                }
             }
         }
+        Ok(())
     }
 
-    /// A record of a direction opened under these keys, and holds this inner message: of the handshake, PSK_FINISH or
-    /// PSK_FINISH_RSP behind its type.
+    /// A record of a direction opened under these keys, and holds this inner message.
     pub fn note(
         &mut self,
         direction: Direction,
@@ -176,11 +197,13 @@ impl KeyedSession {
         ensures { OnOk result (self.new ≡ noted self.old direction keys inner.now) }
     {
         match keys {
-            RecordKeys::Handshake => self.set_message(direction, behind_type(inner)),
-            RecordKeys::Data { epoch } => {
-                self.set_epoch(direction, epoch);
-                Ok(())
+            RecordKeys::Handshake => {
+                if self.finished.as_slice().is_empty() {
+                    self.set_message(direction, inner)?;
+                }
             }
+            RecordKeys::Data { epoch } => self.set_epoch(direction, epoch),
         }
+        Ok(())
     }
 }
