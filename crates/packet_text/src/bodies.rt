@@ -83,7 +83,7 @@ fn add_response(lengths: Lengths, message: &[u8], text: &mut Bytes) -> Result<()
 }
 
 /// Appends a message in the clear.
-pub(crate) fn add_clear(owner: bool, message: &[u8], text: &mut Bytes) -> Result<(), OutOfMemory>
+pub fn add_clear(owner: bool, message: &[u8], text: &mut Bytes) -> Result<(), OutOfMemory>
     ensures { OnOk result (text.new ≡ with_clear text.old owner message.now) }
 {
     if owner {

@@ -37,8 +37,8 @@ fn eids_of(alloc: Global, config: &ScriptConfig) -> Result<Vec<Eid>, OutOfMemory
     Ok(eids)
 }
 
-// The ends of a configuration, between which no packet came yet.
-fn gathering_of(alloc: Global, config: &ScriptConfig) -> Result<Gathering, OutOfMemory>
+/// The ends of a configuration, between which no packet came yet.
+pub fn gathering_of(alloc: Global, config: &ScriptConfig) -> Result<Gathering, OutOfMemory>
     ensures { IfOk result (λ seen. Keeps seen (own_of config.now) (eids_of config.now) []) }
 {
     let eids = eids_of(alloc, config)?;

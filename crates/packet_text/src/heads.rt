@@ -36,7 +36,7 @@ fn add_place(eid: u8, place: Option<usize>, text: &mut Bytes) -> Result<(), OutO
 }
 
 /// The place of the requester with this endpoint, if there is one.
-pub(crate) fn place_of(config: &ScriptConfig, eid: u8) -> Option<usize>
+pub fn place_of(config: &ScriptConfig, eid: u8) -> Option<usize>
     ensures { result ≡ position_from (has_eid eid) 0 config.now.requesters }
 {
     config
@@ -82,7 +82,7 @@ fn add_route(config: &ScriptConfig, packet: &[u8], text: &mut Bytes) -> Result<(
 }
 
 /// Appends the first line of a packet.
-pub(crate) fn add_head(
+pub fn add_head(
     config: &ScriptConfig,
     number: usize,
     packet: &[u8],

@@ -17,6 +17,9 @@ mod shown;
 mod style;
 mod writing;
 
+pub use bodies::add_clear;
+pub use following::gathering_of;
+pub use heads::{add_head, place_of};
 pub use readings::{Lengths, request_hash, response_lengths};
 pub use shown::Shown;
 pub use style::Style;

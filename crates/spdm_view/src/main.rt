@@ -1,5 +1,5 @@
 //! The program `spdm_view`: it writes the packets of a capture, and the first that does not conform, in words or as JSON,
-//! the capture of a script, a capture or a script as a picture, a capture as a pcap file, and a pcap file as a capture.
+//! its records opened, the capture of a script, a capture or a script as a picture, a capture as a pcap file, and a pcap file as a capture.
 //!
 //! Read first: `IsOutput` in `specs/Answer.antt`, what is written of an input. The call is `run`.
 #![tactic(auto)]
@@ -45,7 +45,7 @@ fn tell(rt: &HostRuntime, outcome: Outcome) {
     let _ = match outcome {
         Outcome::Done => Ok(()),
         Outcome::Usage => eprintln!(rt;
-            "one of the words: packets pcap capture picture from-pcap, or packets --json, or picture --mermaid"
+            "one of the words: packets records pcap capture picture from-pcap, or packets --json, or picture --mermaid"
         ),
         Outcome::BadText { line, fault } => eprintln!(rt; "line {line}: {fault:?}\n{fault}"),
         Outcome::LinkFull { line } => {

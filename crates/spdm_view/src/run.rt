@@ -9,6 +9,7 @@ use crate::outcome::Outcome;
 use crate::words::{TextWord, Word, word_of};
 use capture_difference::write_judged;
 use capture_pcap::{FromPcapFault, ToPcapFault, from_pcap, to_pcap};
+use opened_text::write_records;
 use packet_text::PacketsFault;
 use script_capture::{CaptureFault, write_capture};
 use script_picture::{DrawFault, draw_text};
@@ -101,6 +102,7 @@ fn write_text<K: Sink>(alloc: Global, word: TextWord, text: &[u8], sink: &mut K)
 {
     match word {
         TextWord::Packets(style) => packets_outcome(write_judged(alloc, style, text, sink)),
+        TextWord::Records => packets_outcome(write_records(alloc, text, sink)),
         TextWord::Pcap => pcap_outcome(to_pcap(alloc, text, sink)),
         TextWord::Capture => capture_outcome(write_capture(alloc, text, sink)),
         TextWord::Picture(form) => picture_outcome(draw_text(alloc, form, text, sink)),

@@ -9,6 +9,8 @@ use sequence_picture::Form;
 pub enum TextWord {
     /// The packets of a capture, in a style.
     Packets(Style),
+    /// The records of a capture, opened.
+    Records,
     /// The pcap file of a capture.
     Pcap,
     /// The capture of a script.
@@ -31,6 +33,8 @@ fn named(word: &str) -> Option<Word>
 {
     if word == "packets" {
         Some(Word::OfText(TextWord::Packets(Style::Words)))
+    } else if word == "records" {
+        Some(Word::OfText(TextWord::Records))
     } else if word == "pcap" {
         Some(Word::OfText(TextWord::Pcap))
     } else if word == "capture" {
