@@ -2,7 +2,7 @@
 use Rattle.std.specs.Prelude.{◌≡◌, ℕ, List, [], ◌∷◌, Bool, ◌==◌, ◌&&◌, slice_index, slice_index_or, slice_set, if◌then◌else◌, Option, Some, None}
 use Rattle.std.specs.List.{position_from}
 use Rattle.capture_records.specs.Keyed.{Keyed}
-use Rattle.capture_records.specs.Opening.{IsOpening, after_opening, number_at}
+use Rattle.capture_records.specs.Opening.{IsInner, after_opening, number_at, opening_of}
 use Rattle.capture_records.specs.declared.dialogue.RecordTold.{RecordTold}
 use Rattle.capture_records.specs.declared.dialogue.RecordTold.TheVariants.{InSession, NoSession}
 use Rattle.key_schedule.specs.declared.direction.Direction.{Direction}
@@ -91,7 +91,7 @@ place_in h sealed = position_from (has_id sealed) 0 h.sessions
 -- What the newest one tells of it.
 abbrev pub IsToldBy : Keyed → (psk : List ℕ) → Direction → (sealed : List ℕ) → RecordTold → (out : List ℕ) → Type 0
 IsToldBy s psk direction sealed NoSession out = ⊥
-IsToldBy s psk direction sealed (InSession id told) out = (id ≡ s.id) × IsOpening s psk direction sealed told out
+IsToldBy s psk direction sealed (InSession id told) out = (id ≡ s.id) × (told ≡ opening_of s psk direction sealed) × IsInner s psk direction sealed told out
 
 abbrev pub after_told : Keyed → Direction → RecordTold → (out : List ℕ) → Keyed
 after_told s direction NoSession out = s

@@ -53,9 +53,6 @@ epoch_of s Response = s.response_epoch
 abbrev pub is_early : Keyed → Bool
 is_early s = length s.finished == 0
 
-abbrev pub keys_in_use : Keyed → Direction → RecordKeys
-keys_in_use s direction = if is_early s then keys.Handshake else keys.Data (epoch_of s direction)
-
 -- ---- What a record that opens adds.
 
 abbrev pub with_epoch : Keyed → Direction → (epoch : ℕ) → Keyed

@@ -57,7 +57,7 @@ fn try_key(
 
 impl KeyedSession {
     ghost use Rattle.std.specs.Prelude.{◌≡◌, IfOk};
-    ghost use Rattle.capture_records.specs.Opening.{IsOpenedBy, IsOpening, IsTaken};
+    ghost use Rattle.capture_records.specs.Opening.{IsInner, IsTaken, opening_of, told_under};
 
     // Under the keys of the handshake.
     fn open_early(
@@ -67,7 +67,9 @@ impl KeyedSession {
         sealed: &[u8],
         out: &mut RecordFrame,
     ) -> Opening
-        ensures { IsOpenedBy self.now psk.now direction RecordKeys.Handshake sealed.now result out.new }
+        ensures told { result
+            ≡ told_under self.now psk.now direction RecordKeys.Handshake sealed.now }
+        ensures inner { IsInner self.now psk.now direction sealed.now result out.new }
     {
         match try_key(&handshake_key(self, psk, direction), self.id(), sealed, out) {
             Ok(()) => Opening::Opened(RecordKeys::Handshake),
@@ -84,8 +86,9 @@ impl KeyedSession {
         sealed: &[u8],
         out: &mut RecordFrame,
     ) -> Opening
-        ensures { IsOpenedBy self.now psk.now direction (RecordKeys.Data epoch) sealed.now result
-            out.new }
+        ensures told { result
+            ≡ told_under self.now psk.now direction (RecordKeys.Data epoch) sealed.now }
+        ensures inner { IsInner self.now psk.now direction sealed.now result out.new }
     {
         match try_key(
             &data_key(self, psk, direction, epoch),
@@ -107,7 +110,8 @@ impl KeyedSession {
         sealed: &[u8],
         out: &mut RecordFrame,
     ) -> Opening
-        ensures { IsOpening self.now psk.now direction sealed.now result out.new }
+        ensures told { result ≡ opening_of self.now psk.now direction sealed.now }
+        ensures inner { IsInner self.now psk.now direction sealed.now result out.new }
     {
         if self.finished().is_empty() {
             return self.open_early(psk, direction, sealed, out);
