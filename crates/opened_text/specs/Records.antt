@@ -20,8 +20,8 @@ use Rattle.trace_text.specs.Spelling.{hex_word}
 
 -- ---- The inner message: an SPDM message, application data, or bytes of another type.
 
-abbrev pub with_data : List ℕ → (data : List ℕ) → List ℕ
-with_data text data = with_line text (codes "  data" ∷ decimal (length data) ∷ codes "bytes" ∷ []) ++ fields_text [] data
+abbrev pub with_data : List ℕ → (bytes : List ℕ) → List ℕ
+with_data text bytes = with_line text (codes "  data" ∷ decimal (length bytes) ∷ codes "bytes" ∷ []) ++ fields_text [] bytes
 
 abbrev pub with_inner : List ℕ → (owner : Bool) → (inner : List ℕ) → List ℕ
 with_inner text owner [] = text
