@@ -1,4 +1,4 @@
-ghost use Rattle.std.specs.Prelude.{◌≡◌, ◌<◌};
+ghost use Rattle.std.specs.Prelude.{◌≡◌, ◌≤◌};
 ghost use Rattle.capture_records.specs.Opening.{IsTried, number_at};
 ghost use Rattle.session_keys.specs.Keys.{IsKeyOf};
 ghost use Rattle.key_schedule.specs.Purpose.{Purpose};
@@ -32,7 +32,7 @@ pub enum Opening {
 
 /// The two bytes at a place as a number, and 0 where they are not there.
 pub(crate) fn number_at(bytes: &[u8], at: usize) -> u16
-    requires { at < 1024 }
+    requires { at ≤ 4 }
     ensures { result ≡ number_at bytes.now at }
 {
     if bytes.len() < at + 2 {
