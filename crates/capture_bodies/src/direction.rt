@@ -52,8 +52,9 @@ fn gather(assembler: &mut Assembler, view: PacketView<'_>, body: &mut BodyBuffer
     }
 }
 
-// Gives the chunk in a body, if it has one, to a collector.
-fn collect_of(came: Came, body: &[u8], collector: &mut Collector, whole: &mut Frame) -> LargePart
+/// Gives the chunk in a body, if it has one, to a collector of messages of at most 4,096 bytes. A large message that is whole with it
+/// overwrites `whole`.
+pub fn collect(came: Came, body: &[u8], collector: &mut Collector, whole: &mut Frame) -> LargePart
     requires { collector.old.max ≡ MAX_MESSAGE_SIZE }
     ensures answer { (accepted : List ChunkMessage) → keeping.StandsFor collector.old accepted
         → part_as result whole.new ≡ large_by accepted (chunk_of (came_as came body.now)) }
@@ -114,7 +115,7 @@ impl Direction {
             → StandsFor self.new to from (packet ∷ older) }
     {
         let came = gather(&mut self.assembler, view, body);
-        let part = collect_of(came, body.as_slice(), &mut self.collector, whole);
+        let part = collect(came, body.as_slice(), &mut self.collector, whole);
         (came, part)
     }
 }

@@ -11,5 +11,5 @@ mod direction;
 mod gathering;
 
 pub use came::{Came, LargePart};
-pub use direction::{BodyBuffer, Direction};
+pub use direction::{BodyBuffer, Direction, collect};
 pub use gathering::{Gathering, Pair};

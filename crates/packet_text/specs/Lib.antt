@@ -1,6 +1,13 @@
 pub mod Readings
+pub mod Bodies
+pub mod Chunks
+pub mod Records
 pub mod Blocks
+pub mod JsonBodies
+pub mod JsonChunks
+pub mod JsonRecords
 pub mod JsonBlocks
 pub mod Styles
 pub mod Shown
+pub mod Following
 pub mod Told

@@ -1,16 +1,17 @@
-ghost use Rattle.std.specs.Prelude.{◌≡◌, true, OnOk, take};
+ghost use Rattle.std.specs.Prelude.{◌≡◌, OnOk, take};
 ghost use Rattle.mctp_framing.specs.Packet.{parsed, view_of};
-ghost use Rattle.capture_bodies.specs.Answers.{came_as, part_as};
-ghost use Rattle.capture_bodies.specs.Collecting.Large.{Awaiting, Whole};
+ghost use Rattle.capture_bodies.specs.Answers.{came_as};
 ghost use Rattle.capture_bodies.specs.Completing.Completed.{Dropped};
-ghost use Rattle.packet_text.specs.Blocks.{block_of, with_completed, with_gathered, with_inside, with_large, with_part, with_payload};
-ghost use Rattle.packet_text.specs.Shown.{done_in, large_shown};
+ghost use Rattle.packet_text.specs.Blocks.{block_of, with_completed, with_gathered, with_inside, with_part, with_payload};
+ghost use Rattle.packet_text.specs.Shown.{contents_in};
 
 use crate::Shown;
-use crate::bodies::{add_body, add_clear};
+use crate::bodies::add_body;
+use crate::chunks::add_large;
 use crate::heads::{add_head, add_header};
-use crate::names::{cause_word, chunk_fault_word};
-use capture_bodies::{Came, LargePart};
+use crate::names::cause_word;
+use crate::records::add_seen;
+use capture_bodies::Came;
 use mctp_framing::{Packet, PacketView};
 use message_fields::add_fields;
 use script_text::ScriptConfig;
@@ -77,61 +78,18 @@ fn add_completed(
     }
 }
 
-// Appends how many bytes of a large message are there.
-fn add_awaiting(held: usize, told: u32, text: &mut Bytes) -> Result<(), OutOfMemory>
-    ensures { OnOk result (text.new ≡ with_large text.old true (Awaiting held told)) }
-{
-    text.extend(b"  chunks")?;
-    add_number(held as u64, text)?;
-    add_word(b"of", text)?;
-    add_number(u64::from(told), text)?;
-    add_word(b"bytes", text)?;
-    end_text_line(text)
-}
-
-// Appends a large message that is whole.
-fn add_whole(owner: bool, message: &[u8], text: &mut Bytes) -> Result<(), OutOfMemory>
-    ensures { OnOk result (text.new ≡ with_large text.old owner (Whole message.now)) }
-{
-    text.extend(b"  large")?;
-    add_number(message.len() as u64, text)?;
-    add_word(b"bytes", text)?;
-    end_text_line(text)?;
-    add_clear(owner, message, text)
-}
-
-// Appends what the chunk of a packet does.
-fn add_large(
-    owner: bool,
-    part: LargePart,
-    whole: &[u8],
-    text: &mut Bytes,
-) -> Result<(), OutOfMemory>
-    ensures { OnOk result (text.new ≡ with_large text.old owner (part_as part whole.now)) }
-{
-    match part {
-        LargePart::NoChunk => Ok(()),
-        LargePart::Awaiting { held, told } => add_awaiting(held, told, text),
-        LargePart::Whole => add_whole(owner, whole, text),
-        LargePart::Refused(fault) => {
-            text.extend(b"  refused")?;
-            add_word(chunk_fault_word(fault), text)?;
-            end_text_line(text)
-        }
-    }
-}
-
 // Appends what follows the header of a packet.
 fn add_payload(
     view: &PacketView<'_>,
     shown: &Shown<'_>,
     text: &mut Bytes,
 ) -> Result<(), OutOfMemory>
-    ensures { OnOk result (text.new ≡ with_payload text.old (view_of view.now)
-        (done_in shown.now) (large_shown shown.now)) }
+    ensures { OnOk result (text.new
+        ≡ with_payload text.old (view_of view.now) (contents_in shown.now)) }
 {
     add_completed(view, shown.came, shown.body, text)?;
-    add_large(view.owner, shown.part, shown.whole, text)
+    add_large(view.owner, shown.part, shown.whole, text)?;
+    add_seen(view.owner, shown, text)
 }
 
 /// The first four bytes of a packet, or all where there are fewer.
@@ -148,7 +106,7 @@ pub(crate) fn header_of(packet: &[u8]) -> &[u8]
 // Appends what is inside a packet.
 fn add_inside(packet: &[u8], shown: &Shown<'_>, text: &mut Bytes) -> Result<(), OutOfMemory>
     ensures { OnOk result (text.new ≡ with_inside text.old packet.now (parsed packet.now)
-        (done_in shown.now) (large_shown shown.now)) }
+        (contents_in shown.now)) }
 {
     match Packet::parse(packet) {
         Ok(view) => {
@@ -168,8 +126,8 @@ pub(crate) fn set_block(
     shown: &Shown<'_>,
     text: &mut Bytes,
 ) -> Result<(), OutOfMemory>
-    ensures { OnOk result (text.new ≡ block_of config.now number packet.now (done_in shown.now)
-        (large_shown shown.now)) }
+    ensures { OnOk result (text.new ≡ block_of config.now number packet.now
+        (contents_in shown.now)) }
 {
     text.clear();
     add_head(config, number, packet, text)?;

@@ -1,11 +1,11 @@
 ghost use Rattle.std.specs.Prelude.{◌≡◌, ◌∷◌, Ok, Err, OnOk};
 ghost use Rattle.spdm_grammar.specs.Message.{request_message, response_message};
-ghost use Rattle.packet_text.specs.Blocks.{with_body, with_clear, with_request, with_response, with_response_by};
+ghost use Rattle.packet_text.specs.Bodies.{with_body, with_clear, with_request, with_response, with_response_by};
 ghost use Rattle.packet_text.specs.Readings.{request_hash, response_lengths};
 ghost use Rattle.spdm_grammar.specs.Requests.{request_reading};
 ghost use Rattle.spdm_grammar.specs.Responses.{response_reading};
 ghost use Rattle.script_text.specs.Printing.{with_line};
-ghost use Rattle.packet_text.specs.Blocks.{type_words};
+ghost use Rattle.packet_text.specs.Bodies.{type_words};
 
 use crate::readings::{Lengths, request_hash, response_lengths};
 use message_fields::{add_fields, record_fields, request_fields, response_fields};
@@ -93,8 +93,8 @@ pub(crate) fn add_clear(owner: bool, message: &[u8], text: &mut Bytes) -> Result
     }
 }
 
-// Appends the line of the type of a body.
-fn add_type(body_type: u8, word: &[u8], text: &mut Bytes) -> Result<(), OutOfMemory>
+/// Appends the line of the type of a body.
+pub(crate) fn add_type(body_type: u8, word: &[u8], text: &mut Bytes) -> Result<(), OutOfMemory>
     ensures { OnOk result (text.new ≡ with_line text.old (type_words body_type word.now)) }
 {
     text.extend(b"  type")?;

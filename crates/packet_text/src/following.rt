@@ -1,23 +1,29 @@
 ghost use Rattle.std.specs.Prelude.{◌≡◌, [], map, IfOk, OnOk};
 ghost use Rattle.capture_bodies.specs.Keeping.{Keeps, number_of};
-ghost use Rattle.packet_text.specs.Shown.{done_in, large_shown};
-ghost use Rattle.packet_text.specs.Styles.{eids_of, own_of, written_by};
+ghost use Rattle.capture_records.specs.Ends.{eids_of, own_of};
+ghost use Rattle.packet_text.specs.Shown.{contents_in};
+ghost use Rattle.packet_text.specs.Styles.{written_by};
 
 use crate::blocks::set_block;
 use crate::json_blocks::set_object;
 use crate::{Shown, Style};
 use capture_bodies::{BodyBuffer, Gathering};
+use capture_records::{Gathered, Hearing, Inside, way_of};
 use script_text::ScriptConfig;
-use spdm_basis::{Bytes, Eid, Frame, OutOfMemory};
+use spdm_basis::{Bytes, Eid, Frame, OutOfMemory, RecordFrame};
 use std::alloc::Global;
 
 /// What goes between the ends of a capture, and the last packet as it is written.
 #[derive(Drop)]
 pub(crate) struct Following {
     pub(crate) gathering: Gathering,
-    // The last body that was whole, and the last large message.
+    pub(crate) hearing: Hearing,
+    pub(crate) inside: Inside,
+    // The last body that was whole, the last large message, the last inner message, and the last large message of records.
     body: BodyBuffer,
     whole: Frame,
+    inner: RecordFrame,
+    inner_whole: Frame,
     pub(crate) text: Bytes,
 }
 
@@ -55,7 +61,7 @@ fn set_written(
     text: &mut Bytes,
 ) -> Result<(), OutOfMemory>
     ensures { OnOk result (text.new ≡ written_by style config.now number packet.now
-        (done_in shown.now) (large_shown shown.now)) }
+        (contents_in shown.now)) }
 {
     match style {
         Style::Words => set_block(config, number, packet, shown, text),
@@ -65,21 +71,21 @@ fn set_written(
 
 impl Following {
     ghost use Rattle.std.specs.Prelude.{◌≡◌, ◌∷◌, [], ℕ, List, IfOk, OnOk};
-    ghost use Rattle.capture_bodies.specs.Collecting.{large_in};
-    ghost use Rattle.capture_bodies.specs.Completing.{completed_in};
-    ghost use Rattle.capture_bodies.specs.Keeping.{Keeps};
-    ghost use Rattle.mctp_framing.specs.Packet.{parsed};
-    ghost use Rattle.packet_text.specs.Styles.{eids_of, own_of, written_by};
+    ghost use Rattle.packet_text.specs.Following.{Follows};
+    ghost use Rattle.packet_text.specs.Styles.{contents_of, written_by};
 
     /// Where no packet came yet.
     pub(crate) fn new(alloc: Global, config: &ScriptConfig) -> Result<Following, OutOfMemory>
-        ensures { IfOk result
-            (λ seen. Keeps seen.gathering (own_of config.now) (eids_of config.now) []) }
+        ensures { IfOk result (λ following. Follows following config.now []) }
     {
         Ok(Following {
             gathering: gathering_of(alloc, config)?,
+            hearing: Hearing::new(alloc, config)?,
+            inside: Inside::new(alloc, config)?,
             body: BodyBuffer::new(),
             whole: Frame::new(),
+            inner: RecordFrame::new(),
+            inner_whole: Frame::new(),
             text: Bytes::new(alloc),
         })
     }
@@ -87,28 +93,44 @@ impl Following {
     /// Overwrites the text with what is written of the next packet.
     pub(crate) fn follow(
         &mut self,
+        alloc: Global,
         style: Style,
         config: &ScriptConfig,
         number: usize,
         packet: &[u8],
     ) -> Result<(), OutOfMemory>
-        ensures text { (own : ℕ) (eids : List ℕ) (older : List (List ℕ))
-            → Keeps self.old.gathering own eids older
+        ensures text { (older : List (List ℕ)) → Follows self.old config.now older
             → OnOk result (self.new.text ≡ written_by style config.now number packet.now
-            (completed_in own eids older (parsed packet.now))
-            (large_in own eids older (parsed packet.now))) }
-        ensures keeps { (own : ℕ) (eids : List ℕ) (older : List (List ℕ))
-            → Keeps self.old.gathering own eids older
-            → Keeps self.new.gathering own eids (packet.now ∷ older) }
+            (contents_of config.now older packet.now)) }
+        ensures follows { (older : List (List ℕ)) → Follows self.old config.now older
+            → OnOk result (Follows self.new config.now (packet.now ∷ older)) }
     {
         let (came, part) = self
             .gathering
             .follow(packet, &mut self.body, &mut self.whole);
+        let gathered = Gathered {
+            came,
+            body: self.body.as_slice(),
+            part,
+            whole: self.whole.as_slice(),
+        };
+        let way = way_of(config, packet);
+        let sealed = self
+            .hearing
+            .follow(alloc, way, &gathered, &mut self.inner)?;
+        let inner = self.inner.as_slice();
+        let inner_part = self
+            .inside
+            .follow(way, sealed, inner, &mut self.inner_whole);
         let shown = Shown {
             came,
             body: self.body.as_slice(),
             part,
             whole: self.whole.as_slice(),
+            sealed,
+            inner,
+            inner_part,
+            inner_whole: self.inner_whole.as_slice(),
         };
         set_written(style, config, number, packet, &shown, &mut self.text)
     }

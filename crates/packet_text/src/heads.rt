@@ -1,11 +1,11 @@
 ghost use Rattle.std.specs.Prelude.{◌≡◌, None, OnOk};
 ghost use Rattle.std.specs.Fmt.{decimal};
 ghost use Rattle.trace_text.specs.Spelling.{with_word};
-ghost use Rattle.std.specs.List.{position_from};
 ghost use Rattle.mctp_framing.specs.Packet.{bit, parsed, view_of};
-ghost use Rattle.packet_text.specs.Blocks.{fault_word, has_eid, header_words, with_end, with_head, with_requester, with_route};
+ghost use Rattle.packet_text.specs.Blocks.{fault_word, header_words, with_end, with_head, with_requester, with_route};
 ghost use Rattle.script_text.specs.Printing.{with_line};
 
+use capture_records::place_of;
 use mctp_framing::{Packet, PacketView};
 use script_text::ScriptConfig;
 use spdm_basis::{Bytes, OutOfMemory, PacketFault};
@@ -33,17 +33,6 @@ fn add_place(eid: u8, place: Option<usize>, text: &mut Bytes) -> Result<(), OutO
             }
         }
     }
-}
-
-/// The place of the requester with this endpoint, if there is one.
-pub(crate) fn place_of(config: &ScriptConfig, eid: u8) -> Option<usize>
-    ensures { result ≡ position_from (has_eid eid) 0 config.now.requesters }
-{
-    config
-        .requesters
-        .as_slice()
-        .iter()
-        .position(|q| q.eid.number() == eid)
 }
 
 // Puts an end after the words of a line.

@@ -2,7 +2,7 @@ ghost use Rattle.std.specs.Prelude.{◌≡◌, ◌∷◌, length, Ok, OnOk};
 ghost use Rattle.message_fields.specs.Tables.{record_fields};
 ghost use Rattle.spdm_grammar.specs.Message.{request_message, response_message};
 ghost use Rattle.spdm_grammar.specs.Requests.{request_reading};
-ghost use Rattle.packet_text.specs.JsonBlocks.{with_fields_member, with_json_body, with_json_clear, with_json_malformed, with_json_message, with_json_request, with_json_response, with_json_response_by, with_json_type, with_json_typed};
+ghost use Rattle.packet_text.specs.JsonBodies.{with_fields_member, with_json_body, with_json_clear, with_json_malformed, with_json_message, with_json_request, with_json_response, with_json_response_by, with_json_type, with_json_typed};
 ghost use Rattle.packet_text.specs.Readings.{request_hash, response_lengths};
 
 use crate::names::{part_word, request_name, response_name};
@@ -136,7 +136,7 @@ fn add_record(message: &[u8], text: &mut Bytes) -> Result<(), OutOfMemory>
 }
 
 // Appends the members of a body of a type.
-#[tactic(auto, unfolding(crate::specs::JsonBlocks::with_json_typed))]
+#[tactic(auto, unfolding(crate::specs::JsonBodies::with_json_typed))]
 fn add_typed(
     owner: bool,
     body_type: u8,

@@ -4,7 +4,8 @@ ghost use Rattle.packet_text.specs.JsonBlocks.{with_json_eid, with_json_end, wit
 ghost use Rattle.message_fields.specs.Json.{with_string};
 ghost use Rattle.trace_text.specs.Spelling.{requester_word};
 
-use crate::heads::{bit, fault_word, place_of};
+use crate::heads::{bit, fault_word};
+use capture_records::place_of;
 use mctp_framing::{Packet, PacketView};
 use message_fields::{
     add_bytes_member, add_name, add_next_name, add_number_member, add_string, add_string_member,

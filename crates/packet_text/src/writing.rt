@@ -1,6 +1,6 @@
 ghost use Rattle.std.specs.Prelude.{◌≡◌, ◌≤◌, ◌+◌, ◌∷◌, [], ℕ, List, Err, length, is_ok, true, IsErrOf, OnErr, OnOk};
-ghost use Rattle.capture_bodies.specs.Keeping.{Keeps};
-ghost use Rattle.packet_text.specs.Styles.{eids_of, own_of, written_from, written_of};
+ghost use Rattle.packet_text.specs.Following.{Follows};
+ghost use Rattle.packet_text.specs.Styles.{written_from, written_of};
 ghost use Rattle.packet_text.specs.Told.{IsBad, packets_text, told_of};
 ghost use Rattle.script_text.specs.ScriptText.{capture_in};
 ghost use Rattle.script_text.specs.declared.texts.faults.LineFault.{LineFault};
@@ -41,6 +41,7 @@ impl From<ScriptFault> for PacketsFault {
 
 // Writes the next packet.
 fn write_packet<K: Sink>(
+    alloc: Global,
     style: Style,
     config: &ScriptConfig,
     number: usize,
@@ -49,23 +50,21 @@ fn write_packet<K: Sink>(
     sink: &mut K,
 ) -> Result<(), PacketsFault>
     ensures whole { (older : List (List ℕ)) → number ≡ length older + 1
-        → Keeps following.old.gathering (own_of config.now) (eids_of config.now) older
+        → Follows following.old config.now older
         → OnOk result (Takes (K.contents sink.old)
         (written_of style config.now older packet.now) (K.contents sink.new)) }
     ensures prefix { (older : List (List ℕ)) → number ≡ length older + 1
-        → Keeps following.old.gathering (own_of config.now) (eids_of config.now) older
+        → Follows following.old config.now older
         → OnErr result (TakesPrefix (K.contents sink.old)
         (written_of style config.now older packet.now) (K.contents sink.new)) }
-    ensures keeps { (older : List (List ℕ))
-        → Keeps following.old.gathering (own_of config.now) (eids_of config.now) older
-        → Keeps following.new.gathering (own_of config.now) (eids_of config.now)
-        (packet.now ∷ older) }
+    ensures follows { (older : List (List ℕ)) → Follows following.old config.now older
+        → OnOk result (Follows following.new config.now (packet.now ∷ older)) }
     ensures fault { IsErrOf result PacketsFault.WriteFault
         → HasFault (K.faults sink.old) (K.faults sink.new) }
     ensures no_line { (line : ℕ) (f : LineFault) → result ≡ Err (PacketsFault.Line line f) → ⊥ }
     ensures later { K.faults sink.old ≤ K.faults sink.new }
 {
-    let Ok(()) = following.follow(style, config, number, packet) else {
+    let Ok(()) = following.follow(alloc, style, config, number, packet) else {
         return Err(PacketsFault::OutOfMemory);
     };
     match write_all(sink, following.text.as_slice()) {
@@ -96,6 +95,7 @@ fn write_each<K: Sink>(
     };
     for (index, packet) in packets.iter().enumerate() {
         match write_packet(
+            alloc,
             style,
             config,
             index + 1,

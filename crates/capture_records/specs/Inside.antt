@@ -1,0 +1,57 @@
+-- Large messages that come in records: the chunks of a requester's answers, of all its sessions, and what each leads to
+-- (DSP0274, "CHUNK_RESPONSE"). CHUNK_SEND goes in no record. Packets and chunks stand with the newest first. This project's
+-- own.
+use Rattle.std.specs.Prelude.{◌≡◌, ◌<◌, ℕ, List, [], ◌∷◌, length, ◌==◌, if◌then◌else◌, slice_index_or, Bool, true, false, Option, Some, None, Result, Ok, Err}
+use Rattle.capture_bodies.specs.Collecting.{Large, chunk_of, large_by, with_chunk}
+use Rattle.capture_bodies.specs.Collecting.Large.{NoChunk}
+use Rattle.capture_bodies.specs.Completing.Completed.{Body}
+use Rattle.capture_records.specs.Ends.{way_in}
+use Rattle.capture_records.specs.Hearing.{record_in}
+use Rattle.capture_records.specs.Showing.{Seen}
+use Rattle.capture_records.specs.Showing.Seen.{Open}
+use Rattle.capture_records.specs.declared.ends.Way.{Way}
+use Rattle.chunking.specs.Collecting.{accepted_of}
+use Rattle.chunking.specs.Keeping.{Kept, StandsFor}
+use Rattle.key_schedule.specs.declared.direction.Direction.TheVariants.{Request, Response}
+use Rattle.mctp_framing.specs.Packet.{parsed}
+use Rattle.script_text.specs.declared.configuration.config.ScriptConfig.{ScriptConfig}
+use Rattle.spdm_grammar.specs.Message.{ChunkMessage}
+use Rattle.spdm_grammar.specs.declared.names.TheConstants.{MAX_MESSAGE_SIZE}
+
+-- The requester to which a way leads.
+abbrev pub answered : Option Way → Option ℕ
+answered None = None
+answered (Some (record { direction = Request; place = place })) = None
+answered (Some (record { direction = Response; place = place })) = Some place
+
+-- The chunk in the inner message of a record that opens.
+abbrev pub chunk_inside : Seen → Option ChunkMessage
+chunk_inside (Open keys padding inner) = chunk_of (Body false inner)
+chunk_inside _ = None
+
+abbrev pub chunk_if : (place : ℕ) → Option ℕ → Seen → Option ChunkMessage
+chunk_if place None seen = None
+chunk_if place (Some at) seen = if at == place then chunk_inside seen else None
+
+-- The chunks that came in records to the requester at a place.
+abbrev pub chunks_to : ScriptConfig → (place : ℕ) → List (List ℕ) → List ChunkMessage
+chunks_to config place [] = []
+chunks_to config place (packet ∷ older) = with_chunk (chunk_if place (answered (way_in config (parsed packet))) (record_in config older packet)) (chunks_to config place older)
+
+-- What the record that a packet completes does to a large message of its requester.
+abbrev pub inside_at : ScriptConfig → List (List ℕ) → Option ℕ → Seen → Large
+inside_at config older None seen = NoChunk
+inside_at config older (Some place) seen = large_by (accepted_of MAX_MESSAGE_SIZE (chunks_to config place older)) (chunk_inside seen)
+
+unfoldable pub inside_in : ScriptConfig → List (List ℕ) → (packet : List ℕ) → Large
+inside_in config older packet = inside_at config older (answered (way_in config (parsed packet))) (record_in config older packet)
+
+-- ---- What is kept: a collector for each requester.
+
+pub record Stands (seen : Kept) (config : ScriptConfig) (place : ℕ) (older : List (List ℕ)) : Type 0 where
+  pub most : seen.max ≡ MAX_MESSAGE_SIZE
+  pub collects : StandsFor seen (accepted_of MAX_MESSAGE_SIZE (chunks_to config place older))
+
+pub record Collects (collectors : List Kept) (config : ScriptConfig) (older : List (List ℕ)) : Type 0 where
+  pub count : length collectors ≡ length config.requesters
+  pub stand : (place : ℕ) (d : Kept) → place < length collectors → Stands (slice_index_or collectors place d) config place older
