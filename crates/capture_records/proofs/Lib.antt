@@ -1,1 +1,4 @@
 pub mod Tried
+mod Shown
+mod Nobody
+mod Answered

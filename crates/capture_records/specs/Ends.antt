@@ -33,8 +33,8 @@ abbrev pub way_at : Direction → Option ℕ → Option Way
 way_at direction None = None
 way_at direction (Some place) = Some (record { direction = direction; place = place })
 
-abbrev pub way : ScriptConfig → PacketFields → Option Way
-way config p =
+abbrev pub way_by : ScriptConfig → PacketFields → Option Way
+way_by config p =
     if p.to == p.from then None
     else (if p.to == own_of config then way_at Request (place_of config p.from)
     else (if p.from == own_of config then way_at Response (place_of config p.to)
@@ -42,5 +42,5 @@ way config p =
 
 -- Bytes that are no packet have none.
 abbrev pub way_in : ScriptConfig → Result PacketFields PacketFault → Option Way
-way_in config (Ok p) = way config p
+way_in config (Ok p) = way_by config p
 way_in config (Err fault) = None

@@ -1,17 +1,18 @@
 -- What the messages between a requester and the responder show of their sessions, and what each adds. This project's own.
-use Rattle.std.specs.Prelude.{◌≡◌, ℕ, List, [], ◌∷◌, Bool, ◌==◌, ◌&&◌, slice_index, slice_index_or, slice_set, if◌then◌else◌, Option, Some, None}
-use Rattle.std.specs.List.{position_from}
+use Rattle.std.specs.Prelude.{◌≡◌, ℕ, List, [], ◌∷◌, take, Bool, bytes_eq, ◌==◌, ◌&&◌, slice_index, slice_index_or, slice_set, if◌then◌else◌, Option, Some, None}
+use Rattle.std.specs.List.{list_any, position_from}
 use Rattle.capture_records.specs.Keyed.{Keyed}
 use Rattle.capture_records.specs.Opening.{IsInner, after_opening, number_at, opening_of}
 use Rattle.capture_records.specs.declared.dialogue.RecordTold.{RecordTold}
 use Rattle.capture_records.specs.declared.dialogue.RecordTold.TheVariants.{InSession, NoSession}
+use Rattle.capture_records.specs.declared.dialogue.TheConstants.{MAX_SESSIONS}
 use Rattle.key_schedule.specs.declared.direction.Direction.{Direction}
 use Rattle.spdm_grammar.specs.declared.names.request_code.TheConstants.{GET_VERSION, GET_CAPABILITIES, NEGOTIATE_ALGORITHMS, PSK_EXCHANGE}
 use Rattle.spdm_grammar.specs.declared.names.response_code.TheConstants.{VERSION, CAPABILITIES, ALGORITHMS, PSK_EXCHANGE_RSP}
 use Rattle.spdm_machine.specs.Terms.{terms_of}
 use Rattle.transcript.specs.Transcripts.{Negotiation, vca_of}
 
--- The last message of each kind, whole, and the sessions, the newest first.
+-- The last message of each kind, whole, and the newest sessions, the newest first.
 pub record Heard : Type 0 where
   pub psk : List ℕ
   pub get_version : List ℕ
@@ -70,12 +71,26 @@ begun_by h answer = record {
   response_epoch = 0;
 }
 
+-- A session began with this answer.
+abbrev pub began_with : (answer : List ℕ) → Keyed → Bool
+began_with answer s = bytes_eq s.answer answer
+
+-- PSK_EXCHANGE_RSP came before. Its verify data are those of one exchange.
+abbrev pub is_repeat : Heard → (answer : List ℕ) → Bool
+is_repeat h answer = list_any (began_with answer) h.sessions
+
+-- Of the sessions the newest are kept. An answer that comes again begins none.
+abbrev pub after_exchange : Heard → (answer : List ℕ) → Heard
+after_exchange h answer =
+    if is_repeat h answer then h
+    else record h { sessions = take MAX_SESSIONS (begun_by h answer ∷ h.sessions) }
+
 abbrev pub after_answer : Heard → (message : List ℕ) → Heard
 after_answer h message =
     if slice_index message 1 == VERSION then record h { version = message }
     else (if slice_index message 1 == CAPABILITIES then record h { capabilities = message }
     else (if slice_index message 1 == ALGORITHMS then record h { algorithms = message }
-    else (if slice_index message 1 == PSK_EXCHANGE_RSP then record h { sessions = begun_by h message ∷ h.sessions }
+    else (if slice_index message 1 == PSK_EXCHANGE_RSP then after_exchange h message
     else h)))
 
 -- ---- Records.

@@ -10,8 +10,10 @@ use Rattle.capture_records.specs.Hearing.{record_in}
 use Rattle.capture_records.specs.Showing.{Seen}
 use Rattle.capture_records.specs.Showing.Seen.{Open}
 use Rattle.capture_records.specs.declared.ends.Way.{Way}
+use Rattle.capture_records.specs.declared.inner_chunks.InnerChunks.{InnerChunks}
 use Rattle.chunking.specs.Collecting.{accepted_of}
-use Rattle.chunking.specs.Keeping.{Kept, StandsFor}
+use Rattle.chunking.specs.Keeping.{StandsFor}
+use Rattle.key_schedule.specs.declared.direction.Direction.{Direction}
 use Rattle.key_schedule.specs.declared.direction.Direction.TheVariants.{Request, Response}
 use Rattle.mctp_framing.specs.Packet.{parsed}
 use Rattle.script_text.specs.declared.configuration.config.ScriptConfig.{ScriptConfig}
@@ -19,10 +21,13 @@ use Rattle.spdm_grammar.specs.Message.{ChunkMessage}
 use Rattle.spdm_grammar.specs.declared.names.TheConstants.{MAX_MESSAGE_SIZE}
 
 -- The requester to which a way leads.
+abbrev pub answered_by : Direction → (place : ℕ) → Option ℕ
+answered_by Request place = None
+answered_by Response place = Some place
+
 abbrev pub answered : Option Way → Option ℕ
 answered None = None
-answered (Some (record { direction = Request; place = place })) = None
-answered (Some (record { direction = Response; place = place })) = Some place
+answered (Some way) = answered_by way.direction way.place
 
 -- The chunk in the inner message of a record that opens.
 abbrev pub chunk_inside : Seen → Option ChunkMessage
@@ -46,12 +51,8 @@ inside_at config older (Some place) seen = large_by (accepted_of MAX_MESSAGE_SIZ
 unfoldable pub inside_in : ScriptConfig → List (List ℕ) → (packet : List ℕ) → Large
 inside_in config older packet = inside_at config older (answered (way_in config (parsed packet))) (record_in config older packet)
 
--- ---- What is kept: a collector for each requester.
+-- ---- What is kept of all requesters.
 
-pub record Stands (seen : Kept) (config : ScriptConfig) (place : ℕ) (older : List (List ℕ)) : Type 0 where
-  pub most : seen.max ≡ MAX_MESSAGE_SIZE
-  pub collects : StandsFor seen (accepted_of MAX_MESSAGE_SIZE (chunks_to config place older))
-
-pub record Collects (collectors : List Kept) (config : ScriptConfig) (older : List (List ℕ)) : Type 0 where
-  pub count : length collectors ≡ length config.requesters
-  pub stand : (place : ℕ) (d : Kept) → place < length collectors → Stands (slice_index_or collectors place d) config place older
+pub record Collects (all : List InnerChunks) (config : ScriptConfig) (older : List (List ℕ)) : Type 0 where
+  pub count : length all ≡ length config.requesters
+  pub stand : (place : ℕ) (d : InnerChunks) → place < length all → StandsFor (slice_index_or all place d).collector (accepted_of MAX_MESSAGE_SIZE (chunks_to config place older))

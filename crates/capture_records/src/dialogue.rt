@@ -1,4 +1,5 @@
 ghost use Rattle.std.specs.Prelude.{◌≡◌};
+ghost use Rattle.capture_records.specs.Heard.{began_with};
 ghost use Rattle.spdm_grammar.specs.Message.{offer_message, reply_message};
 ghost use Rattle.spdm_machine.specs.Terms.{choice_from, offer_in, reply_in, request_value, response_value};
 ghost use Rattle.std.specs.Option.{option_map};
@@ -15,6 +16,9 @@ use spdm_grammar::names::{request_code, response_code};
 use spdm_grammar::{AlgOffer, AlgReply, Choice, Request, Response};
 use std::alloc::Global;
 use std::marker::Model;
+
+/// How many sessions of a requester are kept: the newest.
+pub const MAX_SESSIONS: usize = 256;
 
 // How long a hash is taken to be where messages of a negotiation are read, on which none depends.
 const ANY_HASH: usize = 32;
@@ -34,7 +38,7 @@ pub enum RecordTold {
 }
 
 /// What the messages between a requester and the responder show: the last negotiation, the last PSK_EXCHANGE, and the
-/// sessions, the newest first. In contracts, their lists.
+/// newest 256 sessions, the newest first. In contracts, their lists.
 #[derive(Drop)]
 pub struct Dialogue {
     psk: Psk,
@@ -103,9 +107,16 @@ fn choice_of(negotiate_algorithms: &[u8], algorithms: &[u8]) -> Choice
     }
 }
 
+// Whether a session began with this answer.
+fn began_with(session: &KeyedSession, answer: &[u8]) -> bool
+    ensures { result ≡ began_with answer.now session.now }
+{
+    session.answer() == answer
+}
+
 impl Dialogue {
-    ghost use Rattle.std.specs.Prelude.{◌≡◌, ◌∷◌, ◌<◌, ℕ, Some, length, IfOk, IfSome, OnOk};
-    ghost use Rattle.capture_records.specs.Heard.{IsTold, IsToldIn, after_answer, after_request, begun_by, negotiation_in, nothing_heard, place_in};
+    ghost use Rattle.std.specs.Prelude.{◌≡◌, ◌<◌, ℕ, Some, length, IfOk, IfSome, OnOk};
+    ghost use Rattle.capture_records.specs.Heard.{IsTold, IsToldIn, after_answer, after_exchange, after_request, begun_by, is_repeat, negotiation_in, nothing_heard, place_in};
     ghost use Rattle.spdm_machine.specs.Terms.{terms_of};
     ghost use Rattle.transcript.specs.Transcripts.{vca_of};
 
@@ -190,14 +201,28 @@ impl Dialogue {
         KeyedSession::new(alloc, self.choice(), id, vca.as_slice(), exchange, answer)
     }
 
-    // PSK_EXCHANGE_RSP begins a session.
-    fn begin(&mut self, alloc: Global, answer: &[u8]) -> Result<(), OutOfMemory>
-        ensures { OnOk result (self.new
-            ≡ record self.old { sessions = begun_by self.old answer.now ∷ self.old.sessions }) }
+    // Whether PSK_EXCHANGE_RSP came before.
+    fn is_repeat(&self, answer: &[u8]) -> bool
+        ensures { result ≡ is_repeat self.now answer.now }
     {
+        self.sessions
+            .iter()
+            .any(|session| began_with(session, answer))
+    }
+
+    // PSK_EXCHANGE_RSP begins a session, unless it came before.
+    fn begin(&mut self, alloc: Global, answer: &[u8]) -> Result<(), OutOfMemory>
+        ensures { OnOk result (self.new ≡ after_exchange self.old answer.now) }
+    {
+        if self.is_repeat(answer) {
+            return Ok(());
+        }
         let session = self.begun(alloc, answer)?;
         match self.sessions.insert(0, session) {
-            Ok(()) => Ok(()),
+            Ok(()) => {
+                self.sessions.truncate(MAX_SESSIONS);
+                Ok(())
+            }
             Err(_) => Err(OutOfMemory),
         }
     }

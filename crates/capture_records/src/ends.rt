@@ -1,5 +1,5 @@
 ghost use Rattle.std.specs.Prelude.{◌≡◌, ◌<◌, length, IfSome, Some};
-ghost use Rattle.capture_records.specs.Ends.{place_of, way, way_at, way_in};
+ghost use Rattle.capture_records.specs.Ends.{place_of, way_at, way_by, way_in};
 ghost use Rattle.mctp_framing.specs.Packet.{parsed, view_of};
 
 use key_schedule::Direction;
@@ -36,8 +36,8 @@ fn way_at(direction: Direction, place: Option<usize>) -> Option<Way>
 }
 
 // The way of a packet with these fields.
-fn way(config: &ScriptConfig, view: &PacketView<'_>) -> Option<Way>
-    ensures { result ≡ way config.now (view_of view.now) }
+fn way_by(config: &ScriptConfig, view: &PacketView<'_>) -> Option<Way>
+    ensures { result ≡ way_by config.now (view_of view.now) }
 {
     let own = config.responder.eid.number();
     if view.to == view.from {
@@ -56,7 +56,7 @@ pub fn way_of(config: &ScriptConfig, packet: &[u8]) -> Option<Way>
     ensures { result ≡ way_in config.now (parsed packet.now) }
 {
     match Packet::parse(packet) {
-        Ok(view) => way(config, &view),
+        Ok(view) => way_by(config, &view),
         Err(_) => None,
     }
 }

@@ -1,4 +1,4 @@
-ghost use Rattle.std.specs.Prelude.{◌≡◌, ◌∷◌, ◌<◌, map, length, IfOk, OnOk};
+ghost use Rattle.std.specs.Prelude.{◌≡◌, ℕ, List, map, IfOk, OnOk};
 ghost use Rattle.capture_bodies.specs.Answers.{came_as, part_as};
 ghost use Rattle.capture_records.specs.Hearing.{after_body, after_large, after_message, after_packet, after_typed, answer_in, fresh, seen_by, seen_typed, unheard};
 ghost use Rattle.capture_records.specs.Showing.{seen_as};
@@ -8,7 +8,7 @@ use crate::{Dialogue, RecordShown, Way};
 use capture_bodies::{Came, LargePart};
 use key_schedule::Direction;
 use script_text::{ReqPart, ScriptConfig};
-use spdm_basis::{OutOfMemory, Psk, RecordFrame};
+use spdm_basis::{OutOfMemory, RecordFrame};
 use spdm_codec::read_response;
 use spdm_grammar::Response;
 use spdm_grammar::names::message_type::{SECURED, SPDM};
@@ -48,9 +48,9 @@ impl Model for Hearing {
 fn fresh(alloc: Global, q: &ReqPart) -> Result<Dialogue, OutOfMemory>
     ensures { IfOk result (λ dialogue. dialogue ≡ fresh q.now) }
 {
-    match Psk::new(q.psk.as_slice()) {
-        Some(psk) => Ok(Dialogue::new(alloc, psk)),
-        None => Err(OutOfMemory),
+    match q.psk.clone() {
+        Ok(psk) => Ok(Dialogue::new(alloc, psk)),
+        Err(_) => Err(OutOfMemory),
     }
 }
 
@@ -58,8 +58,9 @@ fn fresh(alloc: Global, q: &ReqPart) -> Result<Dialogue, OutOfMemory>
 fn all_fresh(alloc: Global, config: &ScriptConfig) -> Result<Vec<Dialogue>, OutOfMemory>
     ensures { IfOk result (λ all. all.items ≡ map fresh config.now.requesters) }
 {
+    let requesters = config.requesters.as_slice();
     let mut all = Vec::new(alloc);
-    for q in config.requesters.as_slice() {
+    for q in requesters {
         let dialogue = fresh(alloc, q)?;
         let Ok(()) = all.push(dialogue) else {
             return Err(OutOfMemory);
@@ -224,9 +225,10 @@ impl Hearing {
         let Some(way) = way else {
             return Ok(unheard(gathered.came, gathered.body));
         };
-        let Some(dialogue) = self.dialogues.get_mut(way.place) else {
+        if way.place >= self.dialogues.len() {
             return Ok(unheard(gathered.came, gathered.body));
-        };
+        }
+        let dialogue = &mut self.dialogues[way.place];
         hear_packet(alloc, dialogue, way.direction, gathered, inner)
     }
 }

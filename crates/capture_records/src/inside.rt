@@ -1,38 +1,28 @@
-ghost use Rattle.std.specs.Prelude.{◌≡◌, [], IfOk, length};
+ghost use Rattle.std.specs.Prelude.{◌≡◌, [], IfOk};
 ghost use Rattle.capture_records.specs.Inside.{Collects, answered};
 
+use crate::inner_chunks::InnerChunks;
 use crate::{RecordShown, Way};
-use capture_bodies::{Came, LargePart, collect};
-use chunking::Collector;
+use capture_bodies::LargePart;
 use key_schedule::Direction;
 use script_text::ScriptConfig;
 use spdm_basis::{Frame, OutOfMemory};
-use spdm_grammar::names::MAX_MESSAGE_SIZE;
 use std::alloc::Global;
-use std::marker::Model;
 
-/// The large messages that come in records, of each requester. In contracts, what its collectors keep.
+/// The large messages that come in records, of each requester.
 #[derive(Drop)]
 pub struct Inside {
-    collectors: Vec<Collector>,
+    pub(crate) all: Vec<InnerChunks>,
 }
 
-impl Model for Inside {
-    ghost use Rattle.std.specs.Prelude.{List};
-    ghost use Rattle.chunking.specs.Keeping.{Kept};
-
-    ghost Value = { List Kept };
-
-    ghost view = { λ s. s.collectors.items };
-}
-
-// A collector for each requester, to which no chunk came yet.
-fn collectors_of(alloc: Global, config: &ScriptConfig) -> Result<Vec<Collector>, OutOfMemory>
+// Of each requester, to which no chunk came yet.
+fn all_fresh(alloc: Global, config: &ScriptConfig) -> Result<Vec<InnerChunks>, OutOfMemory>
     ensures { IfOk result (λ all. Collects all.items config.now []) }
 {
+    let requesters = config.requesters.as_slice();
     let mut all = Vec::new(alloc);
-    for _ in config.requesters.as_slice() {
-        let Ok(()) = all.push(Collector::new(MAX_MESSAGE_SIZE)) else {
+    for _ in requesters {
+        let Ok(()) = all.push(InnerChunks::new()) else {
             return Err(OutOfMemory);
         };
     }
@@ -44,31 +34,81 @@ fn answered(way: Option<Way>) -> Option<usize>
     ensures { result ≡ answered way }
 {
     match way {
-        Some(Way {
-            direction: Direction::Response,
-            place,
-        }) => Some(place),
-        _ => None,
+        Some(way) => match way.direction {
+            Direction::Request => None,
+            Direction::Response => Some(way.place),
+        },
+        None => None,
     }
 }
 
 impl Inside {
-    ghost use Rattle.std.specs.Prelude.{◌≡◌, ◌<◌, ◌∷◌, [], ℕ, List, IfOk, IfSome, Option, Some, length};
+    ghost use Rattle.std.specs.Prelude.{◌≡◌, ◌<◌, ◌∷◌, [], ℕ, List, false, IfOk, Some, length};
     ghost use Rattle.capture_bodies.specs.Answers.{part_as};
+    ghost use Rattle.capture_bodies.specs.Collecting.{chunk_of, large_by};
+    ghost use Rattle.capture_bodies.specs.Completing.Completed.{Body};
     ghost use Rattle.capture_records.specs.Ends.{way_in};
     ghost use Rattle.capture_records.specs.Hearing.{record_in};
-    ghost use Rattle.capture_records.specs.Inside.{Collects, answered, inside_at, inside_in};
+    ghost use Rattle.capture_records.specs.Inside.{Collects, answered, chunk_inside, chunks_to, inside_in};
     ghost use Rattle.capture_records.specs.Showing.{seen_as};
+    ghost use Rattle.chunking.specs.Collecting.{accepted_of};
     ghost use Rattle.mctp_framing.specs.Packet.{parsed};
     ghost use Rattle.script_text.specs.declared.configuration.config.ScriptConfig.{ScriptConfig};
+    ghost use Rattle.spdm_grammar.specs.declared.names.TheConstants.{MAX_MESSAGE_SIZE};
 
     /// Where no packet came yet.
     pub fn new(alloc: Global, config: &ScriptConfig) -> Result<Inside, OutOfMemory>
-        ensures { IfOk result (λ inside. Collects inside config.now []) }
+        ensures { IfOk result (λ inside. Collects inside.all.items config.now []) }
     {
         Ok(Inside {
-            collectors: collectors_of(alloc, config)?,
+            all: all_fresh(alloc, config)?,
         })
+    }
+
+    // The inner message of an answer to the requester at a place.
+    fn collect_at(&mut self, place: usize, inner: &[u8], whole: &mut Frame) -> LargePart
+        ensures large { (config : ScriptConfig) (older : List (List ℕ))
+            → Collects self.old.all.items config older → place < length config.requesters
+            → part_as result whole.new
+            ≡ large_by (accepted_of MAX_MESSAGE_SIZE (chunks_to config place older))
+            (chunk_of (Body false inner.now)) }
+        ensures collects { (config : ScriptConfig) (older : List (List ℕ)) (packet : List ℕ)
+            → Collects self.old.all.items config older → place < length config.requesters
+            → answered (way_in config (parsed packet)) ≡ Some place
+            → chunk_inside (record_in config older packet) ≡ chunk_of (Body false inner.now)
+            → Collects self.new.all.items config (packet ∷ older) }
+    {
+        if place >= self.all.len() {
+            return LargePart::NoChunk;
+        }
+        self.all[place].take(inner, whole)
+    }
+
+    // An answer to the requester at a place, of which this is shown.
+    fn take_answer(
+        &mut self,
+        place: usize,
+        shown: RecordShown,
+        inner: &[u8],
+        whole: &mut Frame,
+    ) -> LargePart
+        ensures large { (config : ScriptConfig) (older : List (List ℕ))
+            → Collects self.old.all.items config older → place < length config.requesters
+            → part_as result whole.new
+            ≡ large_by (accepted_of MAX_MESSAGE_SIZE (chunks_to config place older))
+            (chunk_inside (seen_as shown inner.now)) }
+        ensures collects { (config : ScriptConfig) (older : List (List ℕ)) (packet : List ℕ)
+            → Collects self.old.all.items config older → place < length config.requesters
+            → answered (way_in config (parsed packet)) ≡ Some place
+            → seen_as shown inner.now ≡ record_in config older packet
+            → Collects self.new.all.items config (packet ∷ older) }
+    {
+        match shown {
+            RecordShown::Open { .. } => self.collect_at(place, inner, whole),
+            RecordShown::NoRecord => LargePart::NoChunk,
+            RecordShown::NoSession => LargePart::NoChunk,
+            RecordShown::Closed(_) => LargePart::NoChunk,
+        }
     }
 
     /// The next packet, of which this is shown: what its record does to a large message. One that is whole overwrites `whole`.
@@ -80,25 +120,17 @@ impl Inside {
         whole: &mut Frame,
     ) -> LargePart
         ensures large { (config : ScriptConfig) (older : List (List ℕ)) (packet : List ℕ)
-            → Collects self.old config older
-            → way ≡ way_in config (parsed packet)
+            → Collects self.old.all.items config older → way ≡ way_in config (parsed packet)
             → seen_as shown inner.now ≡ record_in config older packet
             → part_as result whole.new ≡ inside_in config older packet }
         ensures collects { (config : ScriptConfig) (older : List (List ℕ)) (packet : List ℕ)
-            → Collects self.old config older
-            → way ≡ way_in config (parsed packet)
+            → Collects self.old.all.items config older → way ≡ way_in config (parsed packet)
             → seen_as shown inner.now ≡ record_in config older packet
-            → Collects self.new config (packet ∷ older) }
+            → Collects self.new.all.items config (packet ∷ older) }
     {
-        let Some(place) = answered(way) else {
-            return LargePart::NoChunk;
-        };
-        let RecordShown::Open { .. } = shown else {
-            return LargePart::NoChunk;
-        };
-        let Some(collector) = self.collectors.get_mut(place) else {
-            return LargePart::NoChunk;
-        };
-        collect(Came::Body(false), inner, collector, whole)
+        match answered(way) {
+            Some(place) => self.take_answer(place, shown, inner, whole),
+            None => LargePart::NoChunk,
+        }
     }
 }

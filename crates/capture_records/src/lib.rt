@@ -8,15 +8,17 @@
 mod dialogue;
 mod ends;
 mod hearing;
+mod inner_chunks;
 mod inside;
 mod keys;
 mod opening;
 mod session;
 mod showing;
 
-pub use dialogue::{Dialogue, RecordTold};
+pub use dialogue::{Dialogue, MAX_SESSIONS, RecordTold};
 pub use ends::{Way, place_of, way_of};
 pub use hearing::{Gathered, Hearing};
+pub use inner_chunks::InnerChunks;
 pub use inside::Inside;
 pub use opening::{Opening, RecordKeys};
 pub use session::{KeyedSession, RecordCount};

@@ -124,9 +124,9 @@ impl Following {
             .follow(way, sealed, inner, &mut self.inner_whole);
         let shown = Shown {
             came,
-            body: self.body.as_slice(),
+            body: gathered.body,
             part,
-            whole: self.whole.as_slice(),
+            whole: gathered.whole,
             sealed,
             inner,
             inner_part,

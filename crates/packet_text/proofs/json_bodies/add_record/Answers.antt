@@ -1,7 +1,7 @@
 use Rattle.std.proofs.Common.{◌≡◌, ◌∙◌, List, subst}
 use Rattle.std.specs.Prelude.{OnOk}
 use Rattle.message_fields.specs.declared.field.Field.{Field}
-use Rattle.packet_text.specs.JsonBlocks.{with_fields_member}
+use Rattle.packet_text.specs.JsonBodies.{with_fields_member}
 use Rattle.packet_text.proofs.json_bodies.add_record.Goals as goal
 
 pub returns : goal.returns
