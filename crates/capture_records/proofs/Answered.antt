@@ -1,8 +1,8 @@
 -- An answer goes to one of the requesters.
-use Rattle.std.proofs.Common.{◌≡◌, ◌+◌, ◌<◌, ◌==◌, ℕ, List, [], ◌∷◌, length, Bool, true, false, cond, Option, Some, None, Err, Ok, arith}
+use Rattle.std.proofs.Common.{◌≡◌, ◌+◌, ◌<◌, ◌==◌, ◌&&◌, ℕ, List, [], ◌∷◌, length, Bool, true, false, cond, Option, Some, None, Err, Ok, arith}
 use Rattle.std.proofs.lemmas.Option.{none-some, same_Some}
 use Rattle.std.specs.List.{position_from}
-use Rattle.std.specs.Prelude.{Result}
+use Rattle.std.specs.Prelude.{Result, not}
 use Rattle.capture_records.specs.Ends.{has_eid, own_of, place_of, way_at, way_in}
 use Rattle.capture_records.specs.Inside.{answered}
 use Rattle.key_schedule.specs.declared.direction.Direction.TheVariants.{Request, Response}
@@ -34,5 +34,5 @@ by_way n place false false false asks gets inside is = absurd (none-some place i
 pub answered_inside : (config : ScriptConfig) (r : Result PacketFields PacketFault) (place : ℕ) → answered (way_in config r) ≡ Some place → place < length config.requesters
 answered_inside config (Err fault) place is = absurd (none-some place is)
 answered_inside config (Ok p) place is =
-    by_way (length config.requesters) place (p.to == p.from) (p.to == own_of config) (p.from == own_of config) (place_of config p.from) (place_of config p.to)
+    by_way (length config.requesters) place (p.to == p.from) (p.to == own_of config && p.owner) (p.from == own_of config && not p.owner) (place_of config p.from) (place_of config p.to)
     (inside_all (has_eid p.to) place config.requesters) is

@@ -1,5 +1,5 @@
 -- The ends of a capture, and the way of a packet between them. This project's own.
-use Rattle.std.specs.Prelude.{ℕ, List, map, Bool, ◌==◌, if◌then◌else◌, Option, Some, None, Result, Ok, Err}
+use Rattle.std.specs.Prelude.{ℕ, List, map, Bool, not, ◌==◌, ◌&&◌, if◌then◌else◌, Option, Some, None, Result, Ok, Err}
 use Rattle.std.specs.List.{position_from}
 use Rattle.capture_records.specs.declared.ends.Way.{Way}
 use Rattle.key_schedule.specs.declared.direction.Direction.{Direction}
@@ -27,7 +27,8 @@ has_eid eid q = q.eid.number == eid
 abbrev pub place_of : ScriptConfig → (eid : ℕ) → Option ℕ
 place_of config eid = position_from (has_eid eid) 0 config.requesters
 
--- ---- The way of a packet: from a requester to the responder, or from the responder to one. None goes from an end to itself.
+-- ---- The way of a packet: from a requester to the responder, with the tag owner bit, or from the responder to one, without
+-- it. None goes from an end to itself.
 
 abbrev pub way_at : Direction → Option ℕ → Option Way
 way_at direction None = None
@@ -36,8 +37,8 @@ way_at direction (Some place) = Some (record { direction = direction; place = pl
 abbrev pub way_by : ScriptConfig → PacketFields → Option Way
 way_by config p =
     if p.to == p.from then None
-    else (if p.to == own_of config then way_at Request (place_of config p.from)
-    else (if p.from == own_of config then way_at Response (place_of config p.to)
+    else (if p.to == own_of config && p.owner then way_at Request (place_of config p.from)
+    else (if p.from == own_of config && not p.owner then way_at Response (place_of config p.to)
     else None))
 
 -- Bytes that are no packet have none.

@@ -11,6 +11,7 @@ use Rattle.capture_records.specs.Showing.{Seen}
 use Rattle.capture_records.specs.Showing.Seen.{Open}
 use Rattle.capture_records.specs.declared.ends.Way.{Way}
 use Rattle.capture_records.specs.declared.inner_chunks.InnerChunks.{InnerChunks}
+use Rattle.capture_records.specs.declared.inside.Inside.{Inside}
 use Rattle.chunking.specs.Collecting.{accepted_of}
 use Rattle.chunking.specs.Keeping.{StandsFor}
 use Rattle.key_schedule.specs.declared.direction.Direction.{Direction}
@@ -53,6 +54,7 @@ inside_in config older packet = inside_at config older (answered (way_in config 
 
 -- ---- What is kept of all requesters.
 
-pub record Collects (all : List InnerChunks) (config : ScriptConfig) (older : List (List ℕ)) : Type 0 where
-  pub count : length all ≡ length config.requesters
-  pub stand : (place : ℕ) (d : InnerChunks) → place < length all → StandsFor (slice_index_or all place d).collector (accepted_of MAX_MESSAGE_SIZE (chunks_to config place older))
+pub record Collects (inside : Inside) (config : ScriptConfig) (older : List (List ℕ)) : Type 0 where
+  pub count : length inside.all.items ≡ length config.requesters
+  pub stand : (place : ℕ) (d : InnerChunks) → place < length inside.all.items
+      → StandsFor (slice_index_or inside.all.items place d).collector (accepted_of MAX_MESSAGE_SIZE (chunks_to config place older))

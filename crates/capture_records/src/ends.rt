@@ -42,9 +42,9 @@ fn way_by(config: &ScriptConfig, view: &PacketView<'_>) -> Option<Way>
     let own = config.responder.eid.number();
     if view.to == view.from {
         None
-    } else if view.to == own {
+    } else if view.to == own && view.owner {
         way_at(Direction::Request, place_of(config, view.from))
-    } else if view.from == own {
+    } else if view.from == own && !view.owner {
         way_at(Direction::Response, place_of(config, view.to))
     } else {
         None

@@ -1,5 +1,5 @@
-ghost use Rattle.std.specs.Prelude.{◌≡◌, [], IfOk};
-ghost use Rattle.capture_records.specs.Inside.{Collects, answered};
+ghost use Rattle.std.specs.Prelude.{◌≡◌};
+ghost use Rattle.capture_records.specs.Inside.{answered};
 
 use crate::inner_chunks::InnerChunks;
 use crate::{RecordShown, Way};
@@ -13,20 +13,6 @@ use std::alloc::Global;
 #[derive(Drop)]
 pub struct Inside {
     pub(crate) all: Vec<InnerChunks>,
-}
-
-// Of each requester, to which no chunk came yet.
-fn all_fresh(alloc: Global, config: &ScriptConfig) -> Result<Vec<InnerChunks>, OutOfMemory>
-    ensures { IfOk result (λ all. Collects all.items config.now []) }
-{
-    let requesters = config.requesters.as_slice();
-    let mut all = Vec::new(alloc);
-    for _ in requesters {
-        let Ok(()) = all.push(InnerChunks::new()) else {
-            return Err(OutOfMemory);
-        };
-    }
-    Ok(all)
 }
 
 // The place of the requester to which a way leads.
@@ -58,25 +44,30 @@ impl Inside {
 
     /// Where no packet came yet.
     pub fn new(alloc: Global, config: &ScriptConfig) -> Result<Inside, OutOfMemory>
-        ensures { IfOk result (λ inside. Collects inside.all.items config.now []) }
+        ensures { IfOk result (λ inside. Collects inside config.now []) }
     {
-        Ok(Inside {
-            all: all_fresh(alloc, config)?,
-        })
+        let requesters = config.requesters.as_slice();
+        let mut all = Vec::new(alloc);
+        for _ in requesters {
+            let Ok(()) = all.push(InnerChunks::new()) else {
+                return Err(OutOfMemory);
+            };
+        }
+        Ok(Inside { all })
     }
 
     // The inner message of an answer to the requester at a place.
     fn collect_at(&mut self, place: usize, inner: &[u8], whole: &mut Frame) -> LargePart
         ensures large { (config : ScriptConfig) (older : List (List ℕ))
-            → Collects self.old.all.items config older → place < length config.requesters
+            → Collects self.old config older → place < length config.requesters
             → part_as result whole.new
             ≡ large_by (accepted_of MAX_MESSAGE_SIZE (chunks_to config place older))
             (chunk_of (Body false inner.now)) }
         ensures collects { (config : ScriptConfig) (older : List (List ℕ)) (packet : List ℕ)
-            → Collects self.old.all.items config older → place < length config.requesters
+            → Collects self.old config older → place < length config.requesters
             → answered (way_in config (parsed packet)) ≡ Some place
             → chunk_inside (record_in config older packet) ≡ chunk_of (Body false inner.now)
-            → Collects self.new.all.items config (packet ∷ older) }
+            → Collects self.new config (packet ∷ older) }
     {
         if place >= self.all.len() {
             return LargePart::NoChunk;
@@ -93,15 +84,15 @@ impl Inside {
         whole: &mut Frame,
     ) -> LargePart
         ensures large { (config : ScriptConfig) (older : List (List ℕ))
-            → Collects self.old.all.items config older → place < length config.requesters
+            → Collects self.old config older → place < length config.requesters
             → part_as result whole.new
             ≡ large_by (accepted_of MAX_MESSAGE_SIZE (chunks_to config place older))
             (chunk_inside (seen_as shown inner.now)) }
         ensures collects { (config : ScriptConfig) (older : List (List ℕ)) (packet : List ℕ)
-            → Collects self.old.all.items config older → place < length config.requesters
+            → Collects self.old config older → place < length config.requesters
             → answered (way_in config (parsed packet)) ≡ Some place
             → seen_as shown inner.now ≡ record_in config older packet
-            → Collects self.new.all.items config (packet ∷ older) }
+            → Collects self.new config (packet ∷ older) }
     {
         match shown {
             RecordShown::Open { .. } => self.collect_at(place, inner, whole),
@@ -120,13 +111,13 @@ impl Inside {
         whole: &mut Frame,
     ) -> LargePart
         ensures large { (config : ScriptConfig) (older : List (List ℕ)) (packet : List ℕ)
-            → Collects self.old.all.items config older → way ≡ way_in config (parsed packet)
+            → Collects self.old config older → way ≡ way_in config (parsed packet)
             → seen_as shown inner.now ≡ record_in config older packet
             → part_as result whole.new ≡ inside_in config older packet }
         ensures collects { (config : ScriptConfig) (older : List (List ℕ)) (packet : List ℕ)
-            → Collects self.old.all.items config older → way ≡ way_in config (parsed packet)
+            → Collects self.old config older → way ≡ way_in config (parsed packet)
             → seen_as shown inner.now ≡ record_in config older packet
-            → Collects self.new.all.items config (packet ∷ older) }
+            → Collects self.new config (packet ∷ older) }
     {
         match answered(way) {
             Some(place) => self.take_answer(place, shown, inner, whole),

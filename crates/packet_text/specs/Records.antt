@@ -18,7 +18,7 @@ use Rattle.spdm_grammar.specs.declared.names.message_type.TheConstants.{SPDM}
 
 -- ---- The inner message: an SPDM message, application data, or bytes of another type.
 
-abbrev pub with_data : List ℕ → (bytes : List ℕ) → List ℕ
+unfoldable pub with_data : List ℕ → (bytes : List ℕ) → List ℕ
 with_data text bytes = with_line text (codes "  data" ∷ decimal (length bytes) ∷ codes "bytes" ∷ []) ++ fields_text [] bytes
 
 abbrev pub with_inner : List ℕ → (owner : Bool) → (inner : List ℕ) → List ℕ

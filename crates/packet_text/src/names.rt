@@ -1,6 +1,7 @@
 ghost use Rattle.std.specs.Prelude.{◌≡◌};
 ghost use Rattle.spdm_grammar.specs.Message.{request_message, response_message};
-ghost use Rattle.packet_text.specs.Blocks.{cause_word, chunk_fault_word};
+ghost use Rattle.packet_text.specs.Blocks.{cause_word};
+ghost use Rattle.packet_text.specs.Chunks.{chunk_fault_word};
 ghost use Rattle.trace_text.specs.OtherLines.{part_word, request_name, response_name};
 
 use spdm_basis::DropCause;

@@ -14,6 +14,7 @@ use spdm_grammar::names::message_type::SPDM;
 use trace_text::{add_number, add_word, end_text_line};
 
 // Appends application data: how many bytes they are, and the bytes.
+#[tactic(auto, unfolding(crate::specs::Records::with_data))]
 fn add_data(data: &[u8], text: &mut Bytes) -> Result<(), OutOfMemory>
     ensures { OnOk result (text.new ≡ with_data text.old data.now) }
 {
