@@ -3,8 +3,8 @@ use Rattle.std.proofs.Common.{◌≡◌, ◌∙◌, ◌+◌, ◌-◌, ℕ, List,
 use Rattle.std.specs.Prelude.{Option, Some, None}
 use Rattle.capture_records.specs.Heard.{Heard, IsTold, IsToldBy, after_told}
 use Rattle.capture_records.specs.Keyed.{Keyed}
-use Rattle.capture_records.specs.Opening.{IsInner, after_opening, opening_of}
-use Rattle.capture_records.specs.Showing.{after_at, inner_told, no_session, seen_as, seen_at, seen_in, seen_told, session_after, session_at, shown_told}
+use Rattle.capture_records.specs.Opening.{IsInner, after_opening}
+use Rattle.capture_records.specs.Showing.{after_at, inner_told, no_session, seen_as, seen_at, seen_in, seen_told, session_after, shown_told}
 use Rattle.capture_records.specs.Showing.Seen.{Open}
 use Rattle.capture_records.specs.declared.dialogue.RecordTold.{RecordTold}
 use Rattle.capture_records.specs.declared.dialogue.RecordTold.TheVariants.{InSession, NoSession}

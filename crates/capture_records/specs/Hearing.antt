@@ -1,6 +1,6 @@
 -- What the packets of a capture show of the sessions of each requester, and of the records that they complete. Packets are
 -- bytes, the newest first. This project's own.
-use Rattle.std.specs.Prelude.{ℕ, List, [], ◌∷◌, map, ◌==◌, if◌then◌else◌, slice_index_or, slice_set, false, Option, Some, None, Result, Ok, Err}
+use Rattle.std.specs.Prelude.{ℕ, List, [], ◌∷◌, map, ◌==◌, if◌then◌else◌, slice_index_or, slice_set, false, Option, Some, None, Result, Ok}
 use Rattle.capture_bodies.specs.Collecting.{Large, large_in}
 use Rattle.capture_bodies.specs.Collecting.Large.{Whole}
 use Rattle.capture_bodies.specs.Completing.{Completed, completed_in}

@@ -1,7 +1,7 @@
 -- Large messages that come in records: the chunks of a requester's answers, of all its sessions, and what each leads to
 -- (DSP0274, "CHUNK_RESPONSE"). CHUNK_SEND goes in no record. Packets and chunks stand with the newest first. This project's
 -- own.
-use Rattle.std.specs.Prelude.{◌≡◌, ◌<◌, ℕ, List, [], ◌∷◌, length, ◌==◌, if◌then◌else◌, slice_index_or, Bool, true, false, Option, Some, None, Result, Ok, Err}
+use Rattle.std.specs.Prelude.{◌≡◌, ◌<◌, ℕ, List, [], ◌∷◌, length, ◌==◌, if◌then◌else◌, slice_index_or, false, Option, Some, None}
 use Rattle.capture_bodies.specs.Collecting.{Large, chunk_of, large_by, with_chunk}
 use Rattle.capture_bodies.specs.Collecting.Large.{NoChunk}
 use Rattle.capture_bodies.specs.Completing.Completed.{Body}

@@ -1,5 +1,5 @@
 -- What is shown of a record, and what messages show of the sessions after it. This project's own.
-use Rattle.std.specs.Prelude.{ℕ, List, [], ◌∷◌, length, ◌+◌, ◌-◌, slice_index_or, slice_set, false, Option, Some, None}
+use Rattle.std.specs.Prelude.{ℕ, List, [], length, ◌+◌, ◌-◌, slice_index_or, slice_set, false, Option, Some, None}
 use Rattle.capture_records.specs.Heard.{Heard, place_in}
 use Rattle.capture_records.specs.Keyed.{Keyed}
 use Rattle.capture_records.specs.Opening.{after_opening, inner_by, opening_of}

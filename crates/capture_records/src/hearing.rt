@@ -175,7 +175,14 @@ fn hear_packet(
     ensures after { OnOk result (dialogue.new ≡ after_packet dialogue.old direction
         (came_as gathered.now.came gathered.now.body.now) (part_as gathered.now.part gathered.now.whole.now)) }
 {
-    let shown = hear_body(alloc, dialogue, direction, gathered.came, gathered.body, inner)?;
+    let shown = hear_body(
+        alloc,
+        dialogue,
+        direction,
+        gathered.came,
+        gathered.body,
+        inner,
+    )?;
     hear_large(alloc, dialogue, direction, gathered.part, gathered.whole)?;
     Ok(shown)
 }

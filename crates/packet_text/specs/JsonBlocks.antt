@@ -1,6 +1,6 @@
 -- Packets as JSON: an object on a line of its own for each, with what the block of the packet has. A text is given, and
 -- what is written of a packet stands behind it. This project's own.
-use Rattle.std.specs.Prelude.{ℕ, List, [], ◌∷◌, ◌++◌, ◌+◌, ◌==◌, nat_lt, codes, length, take, if◌then◌else◌, Bool, true, false, Option, Some, None, Result, Ok, Err}
+use Rattle.std.specs.Prelude.{ℕ, List, [], ◌∷◌, ◌++◌, ◌+◌, ◌==◌, nat_lt, codes, length, take, if◌then◌else◌, Option, Some, None, Result, Ok, Err}
 use Rattle.std.specs.Fmt.{decimal}
 use Rattle.mctp_framing.specs.Packet.{PacketFields, bit, parsed}
 use Rattle.message_fields.specs.Json.{with_bytes_member, with_name, with_next_name, with_number_member, with_string, with_string_member}

@@ -115,9 +115,7 @@ impl Following {
             whole: self.whole.as_slice(),
         };
         let way = way_of(config, packet);
-        let sealed = self
-            .hearing
-            .follow(alloc, way, &gathered, &mut self.inner)?;
+        let sealed = self.hearing.follow(alloc, way, &gathered, &mut self.inner)?;
         let inner = self.inner.as_slice();
         let inner_part = self
             .inside

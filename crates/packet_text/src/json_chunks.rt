@@ -11,7 +11,12 @@ use spdm_basis::{Bytes, OutOfMemory};
 use trace_text::add_number;
 
 /// Appends the begin of an object with a number as its first member.
-pub(crate) fn add_counted(name: &[u8], first: &[u8], number: u64, text: &mut Bytes) -> Result<(), OutOfMemory>
+pub(crate) fn add_counted(
+    name: &[u8],
+    first: &[u8],
+    number: u64,
+    text: &mut Bytes,
+) -> Result<(), OutOfMemory>
     ensures { OnOk result (text.new ≡ with_counted text.old name.now first.now number) }
 {
     add_next_name(name, text)?;

@@ -7,9 +7,7 @@ use crate::json_bodies::{add_fields_member, add_json_clear};
 use crate::json_chunks::{add_counted, add_json_large};
 use crate::records::record_fault_word;
 use capture_records::{RecordKeys, RecordShown};
-use message_fields::{
-    add_name, add_next_name, add_number_member, add_string, add_string_member,
-};
+use message_fields::{add_name, add_next_name, add_number_member, add_string, add_string_member};
 use session_keys::APP_DATA;
 use spdm_basis::{Bytes, OutOfMemory};
 use spdm_grammar::names::message_type::SPDM;
@@ -23,11 +21,11 @@ fn add_inner_type(inner_type: u8, word: &[u8], text: &mut Bytes) -> Result<(), O
 }
 
 // Appends application data, with its length.
-fn add_data(data: &[u8], text: &mut Bytes) -> Result<(), OutOfMemory>
-    ensures { OnOk result (text.new ≡ with_json_data text.old data.now) }
+fn add_data(bytes: &[u8], text: &mut Bytes) -> Result<(), OutOfMemory>
+    ensures { OnOk result (text.new ≡ with_json_data text.old bytes.now) }
 {
-    add_number_member(b"length", data.len() as u64, text)?;
-    add_fields_member(&[], data, text)
+    add_number_member(b"length", bytes.len() as u64, text)?;
+    add_fields_member(&[], bytes, text)
 }
 
 // Appends the members of an inner message with a type.

@@ -15,14 +15,14 @@ use trace_text::{add_number, add_word, end_text_line};
 
 // Appends application data: how many bytes they are, and the bytes.
 #[tactic(auto, unfolding(crate::specs::Records::with_data))]
-fn add_data(data: &[u8], text: &mut Bytes) -> Result<(), OutOfMemory>
-    ensures { OnOk result (text.new ≡ with_data text.old data.now) }
+fn add_data(bytes: &[u8], text: &mut Bytes) -> Result<(), OutOfMemory>
+    ensures { OnOk result (text.new ≡ with_data text.old bytes.now) }
 {
     text.extend(b"  data")?;
-    add_number(data.len() as u64, text)?;
+    add_number(bytes.len() as u64, text)?;
     add_word(b"bytes", text)?;
     end_text_line(text)?;
-    add_fields(&[], data, text)
+    add_fields(&[], bytes, text)
 }
 
 // Appends an inner message with a type.
@@ -114,11 +114,7 @@ fn add_padding(padding: usize, text: &mut Bytes) -> Result<(), OutOfMemory>
 }
 
 /// Appends what is shown of a record that a packet completes.
-pub(crate) fn add_seen(
-    owner: bool,
-    shown: &Shown<'_>,
-    text: &mut Bytes,
-) -> Result<(), OutOfMemory>
+pub(crate) fn add_seen(owner: bool, shown: &Shown<'_>, text: &mut Bytes) -> Result<(), OutOfMemory>
     ensures { OnOk result (text.new ≡ with_seen text.old owner (contents_in shown.now).inside
         (contents_in shown.now).seen) }
 {

@@ -1,4 +1,4 @@
-use Rattle.std.proofs.Common.{◌≡◌, ◌≤◌, ◌∙◌, Option, arith, ap, sym, length}
+use Rattle.std.proofs.Common.{◌≤◌, ◌∙◌, Option, arith, ap, sym, length}
 use Rattle.std.proofs.lemmas.List.{get_or_past}
 use Rattle.capture_bodies.specs.Answers.{came_as}
 use Rattle.capture_records.proofs.Nobody.{seen_by_nobody}
