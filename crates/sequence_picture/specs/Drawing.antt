@@ -21,7 +21,7 @@ y_of row = 72 + 26 * row
 
 -- The size of a picture of so many requesters and the responder, with so many rows.
 abbrev pub width_of : (requesters : ℕ) → ℕ
-width_of requesters = x_of requesters + 200
+width_of requesters = x_of requesters + 290
 
 abbrev pub height_of : (rows : ℕ) → ℕ
 height_of rows = y_of rows + 10

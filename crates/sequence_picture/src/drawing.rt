@@ -26,7 +26,7 @@ fn y_of(row: usize) -> u64
 fn width_of(requesters: u8) -> u64
     ensures { result ≡ width_of requesters }
 {
-    x_of(requesters) + 200
+    x_of(requesters) + 290
 }
 
 fn height_of(rows: usize) -> u64
