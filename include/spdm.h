@@ -28,7 +28,7 @@
  * memory back. Copies on the stack are not overwritten.
  *
  * MEMORY. Only open takes memory and only open and close give it back, by three functions that the caller links; see
- * the end of this file.
+ * the end of this file. This is read of the code and measured in tests, and no proof says it.
  *
  * ANSWERS. Every call but close answers one number of enum spdm_answer. An answer other than SPDM_OK has changed
  * nothing, neither the end nor what the caller's pointers point to, with three exceptions: a command that is refused

@@ -70,7 +70,7 @@ fn first_missing(rules: &[Rule], seen: &Seen) -> Option<u8>
 }
 
 /// What a record of measurements comes to under a policy: `Appraisal` lists the answers in the order in which they are
-/// decided. Takes no memory.
+/// decided. Takes no memory (read, not proved).
 pub fn appraise(policy: &Policy, blocks: &[u8]) -> Appraisal
     ensures holds { IsAppraisal policy.now blocks.now result }
     ensures only { (answer : Appraisal) → IsAppraisal policy.now blocks.now answer → answer ≡ result }

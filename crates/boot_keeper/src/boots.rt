@@ -36,7 +36,7 @@ fn renew<P: Keeper>(keeper: &mut P, slot: Slot, number: u64) -> Result<(), Faile
 
 /// The next boot number of a keeper: one more than the greatest valid number that it held. It writes
 /// that into the other slot before it answers, so that no number comes twice, whatever fails and
-/// whenever a crash comes. Never allocates.
+/// whenever a crash comes. Never allocates (read, not proved).
 ///
 /// `KeeperFault` comes only by the count of the keeper, and `Spent` exactly where the greatest valid
 /// number is at least 2^24 - 2.

@@ -1,2 +1,1 @@
 pub mod Arrows
-pub mod Told

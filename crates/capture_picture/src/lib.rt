@@ -1,6 +1,6 @@
-//! Pictures of packets: an arrow for each, between the ends that it names; and of captures.
+//! Pictures of packets: an arrow for each, between the ends that it names.
 //!
-//! Read first: `arrow_of` in `specs/Arrows.antt`, the arrow of a packet. The call is `draw_capture`.
+//! Read first: `arrow_of` in `specs/Arrows.antt`, the arrow of a packet. The call is `draw_packets`.
 #![tactic(auto)]
 
 mod arrows;
@@ -8,9 +8,7 @@ mod contents;
 mod drawing;
 mod ends;
 mod rows;
-mod writing;
 
 pub use arrows::arrow_of;
 pub use drawing::draw_packets;
 pub use ends::{end_of, requesters_of};
-pub use writing::{DrawFault, draw_capture};

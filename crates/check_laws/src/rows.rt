@@ -92,7 +92,7 @@ impl SessionTable {
 
     /// A request came, a copy or one by which a round began, of the requester whose places these are: a record of the
     /// session with this ReqSessionID, or none. Its entry has one more in requests, and the places stay. Never
-    /// allocates. The counts are exact below 2^64 - 1 packets.
+    /// allocates (read, not proved). The counts are exact below 2^64 - 1 packets.
     pub fn ask(&mut self, places: &Places, sent: Option<u16>)
         ensures table { (w : Configuration) (packets : ℕ) (before after : Dialogue) (rows : List Row)
             → IsRequestStep sent before after → packets < 2 ^ 64 - 1

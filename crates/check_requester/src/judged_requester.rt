@@ -23,7 +23,7 @@ pub struct JudgedRequester {
 }
 
 impl JudgedRequester {
-    ghost use Rattle.std.specs.Prelude.{◌≡◌, ◌≤◌, ◌<◌, ◌-◌, ◌^◌, ℕ, List, None, IfOk, is_some, length};
+    ghost use Rattle.std.specs.Prelude.{◌≡◌, ◌≤◌, ◌<◌, ◌-◌, ◌^◌, ℕ, List, None, IfOk, length};
     ghost use Rattle.requester_core.specs.Setup.{IsSetUp};
     ghost use Rattle.requester_machine.specs.History.{outstanding};
     ghost use Rattle.requester_machine.specs.May as may;
@@ -50,13 +50,6 @@ impl JudgedRequester {
             own: RecordFrame::new(),
             pair: InnerPair::new(),
         })
-    }
-
-    /// Whether a message is owed, which the requester sends by itself.
-    pub fn owes(&self) -> bool
-        ensures { (q : ReqSetup) (k : Kept) → IsAsker self.now q k → result ≡ is_some k.owed }
-    {
-        self.owes
     }
 
     /// Takes a body of at most 4,161 bytes as the message that is owed: whether it is that, with some padding where it

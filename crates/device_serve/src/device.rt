@@ -74,7 +74,7 @@ impl Device {
     ghost use Rattle.spdm_basis.specs.Stream.{HasFault, Takes, TakesPrefix};
 
     // The device of a configuration with this seed, in the life of this boot number, and its stream, of which some bytes
-    // were read already. Allocates all its memory here.
+    // were read already. Allocates all its memory here (read, not proved).
     pub(crate) fn new(
         alloc: Global,
         config: &ScriptConfig,

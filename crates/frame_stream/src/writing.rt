@@ -24,7 +24,7 @@ fn write_counted<K: Sink>(sink: &mut K, kind: u8, bytes: &[u8]) -> Result<(), Ou
 }
 
 /// Writes a packet of at most 65,535 bytes as a frame: kind 1, its length in two bytes, little-endian, and its bytes.
-/// After `WriteFault` (only if the sink's `faults` count rose) a prefix of the frame was written. Never allocates.
+/// After `WriteFault` (only if the sink's `faults` count rose) a prefix of the frame was written. Never allocates (read, not proved).
 pub fn write_packet_frame<K: Sink>(sink: &mut K, packet: &[u8]) -> Result<(), OutFault>
     requires { length packet.now < 2 ^ 16 }
     ensures whole { OnOk result (Takes (K.contents sink.old) (1 ∷ counted packet.now)

@@ -183,15 +183,6 @@ impl World {
         &self.link.sent
     }
 
-    /// The number of the packet that `pump 1` would deliver, if one waits. Nothing happens.
-    pub fn next_waiting(&mut self) -> Option<u32>
-        ensures next { (w : machine.World) → StandsFor self.old w
-            → result ≡ machine.first_waiting w.sent }
-        ensures stands { (w : machine.World) → StandsFor self.old w → StandsFor self.new w }
-    {
-        self.link.sent.first_waiting()
-    }
-
     /// The counters of the world. Never allocates (read, not proved).
     pub fn totals(&self) -> Totals
         ensures packets { (w : machine.World) → StandsFor self.now w

@@ -56,7 +56,8 @@ pub(crate) enum Step {
 }
 
 impl Assembler {
-    /// An assembler in its initial state. Allocates a buffer for a body of `limit` bytes here, and nothing later.
+    /// An assembler in its initial state. Allocates a buffer for a body of `limit` bytes here, and nothing later (the
+    /// last is read, not proved).
     pub fn new(alloc: Global, own: Eid, peer: Eid, limit: usize) -> Result<Assembler, OutOfMemory>
         ensures receiver { IfOk result
             (λ a. a.receiver ≡ record { own = own.number; peer = peer.number; limit = limit }) }

@@ -17,5 +17,5 @@ mod wiping;
 pub use config::ReqConfig;
 pub use fault::ReqConfigFault;
 pub use requester_core::{Command, SessionTold};
-pub use spdm_grammar::{CommandFault, Event, Finished, ReqIgnored, Stop};
+pub use spdm_grammar::{CommandFault, Event, Finished, FlagSet, ReqIgnored, Stop};
 pub use whole::Requester;

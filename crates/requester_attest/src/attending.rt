@@ -61,7 +61,7 @@ impl Attending {
     ghost use Rattle.spdm_basis.specs.Stream.{HasFault, TakesPrefix};
 
     // An attestor over the first requester of a configuration with this seed, in the life of this boot number, and its
-    // stream, of which some bytes were read already. Allocates all its memory here.
+    // stream, of which some bytes were read already. Allocates all its memory here (read, not proved).
     pub(crate) fn new(
         alloc: Global,
         config: &ScriptConfig,

@@ -33,4 +33,4 @@ pub use resetting::ResetFault;
 pub use responder_core::Silence;
 pub use room::responder_blocks;
 pub use serving::Responder;
-pub use spdm_grammar::{Heard, Phase, ReplyFault, RspIgnored};
+pub use spdm_grammar::{FlagSet, Heard, Phase, ReplyFault, RspIgnored};

@@ -23,7 +23,6 @@ pub mod Draws
 pub mod Listed
 pub mod AnswerKeys
 pub mod PutAnswers
-pub mod Unseen
 pub mod UnseenRequests
 pub mod LateFetch
 mod PutBack

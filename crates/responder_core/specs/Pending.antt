@@ -1,13 +1,13 @@
 -- A connection in which the pending answer of a session gets other bytes, or was never seen, for the checker answers
 -- whose bytes come chunk by chunk. This project's own.
-use Rattle.std.specs.Prelude.{◌==◌, ◌≡◌, ◌≢◌, ◌&&◌, ◌||◌, not, if◌then◌else◌, ℕ, List, [], ◌∷◌, Bool, true, is_some}
+use Rattle.std.specs.Prelude.{◌==◌, ◌≡◌, ◌≢◌, ◌&&◌, ◌||◌, not, if◌then◌else◌, ℕ, List, [], ◌∷◌, Bool}
 use Rattle.responder_rules.specs.LargeAnswer.{turn_unseen, turn_with}
 use Rattle.responder_machine.specs.History.{History, clear_turns, ended_of, kept_of, queue_of}
 use Rattle.responder_machine.specs.History.Entry.{Sealed}
 use Rattle.responder_machine.specs.Session.{id_in_record, session_of}
-use Rattle.responder_machine.specs.Turn.{Turn, handle_in, is_taken, takes}
+use Rattle.responder_machine.specs.Turn.{Turn, is_taken, takes}
 use Rattle.responder_session.specs.Pending as sessions
-use Rattle.spdm_grammar.specs.declared.names.request_code.TheConstants.{CHUNK_GET, GET_MEASUREMENTS}
+use Rattle.spdm_grammar.specs.declared.names.request_code.TheConstants.{CHUNK_GET}
 
 -- A message that was not taken, or CHUNK_GET: after it a large response is as pending as before.
 abbrev pub passes : Turn → Bool
@@ -29,12 +29,6 @@ history_with id answer = history_changed (turn_with answer) id
 -- Its answer was never seen.
 abbrev pub history_unseen : (id : ℕ) → History → History
 history_unseen id = history_changed turn_unseen id
-
--- MEASUREMENTS go by LargeResponse in a turn.
-pub record GoesLarge (t : Turn) : Type 0 where
-  pub taken : is_taken t ≡ true
-  pub measures : takes GET_MEASUREMENTS t ≡ true
-  pub large : is_some (handle_in t.effect) ≡ true
 
 -- One answer less went by LargeResponse in the session of this id in the other history; all else that is kept is the same.
 pub record IsUncounted (id : ℕ) (h k : History) : Type 0 where

@@ -47,7 +47,7 @@ impl Server {
     ghost use Rattle.spdm_basis.specs.Stream.{HasFault};
 
     // The responder of a configuration with this seed, in the life of this boot number, and its stream, of which some
-    // bytes were read already. Allocates all its memory here.
+    // bytes were read already. Allocates all its memory here (read, not proved).
     pub(crate) fn new(
         alloc: Global,
         config: &ScriptConfig,

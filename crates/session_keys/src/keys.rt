@@ -4,11 +4,10 @@ ghost use Rattle.spdm_basis.specs.SessionIdBytes.{session_id_bytes};
 ghost use Rattle.spdm_grammar.specs.declared.messages.choice.Choice.{Choice};
 ghost use Rattle.spdm_machine.specs.Keys.{sealed_of, record_fault, inner_message};
 ghost use Rattle.session_keys.specs.Keys.{IsKeyOf};
-ghost use Rattle.spdm_grammar.specs.declared.names.TheConstants.{MAX_PADDING};
 ghost use Rattle.secured_record.specs.declared.TheConstants.{MAX_RECORD_SIZE, MIN_RECORD_SIZE};
 
 use secured_record::{RecordFault, RecordKey};
-use spdm_basis::{Buffer, RecordFrame, SessionId};
+use spdm_basis::{RecordFrame, SessionId};
 
 /// Overwrites `out` with the record of an inner message and padding under the key of a purpose. Together they have at
 /// most 4,134 bytes.
@@ -45,24 +44,4 @@ pub fn open_record(
     ensures unchanged { OnErr result (out.new ≡ out.old) }
 {
     key.open(id, number, sealed, out)
-}
-
-/// The record of an inner message of at most 1,025 bytes, with at most 16 bytes of padding, under the key of a purpose.
-pub fn seal_inner(
-    key: &RecordKey,
-    id: SessionId,
-    number: u16,
-    inner: &[u8],
-    pad: &[u8],
-) -> Buffer<1088>
-    requires inner { length inner.now ≤ 1025 }
-    requires pad { length pad.now ≤ MAX_PADDING }
-    ensures { (choice : Choice) (p : Purpose) → IsKeyOf key.now choice p
-        → result ≡ sealed_of choice p number (session_id_bytes id.req id.rsp) inner.now pad.now }
-{
-    let mut record = RecordFrame::new();
-    seal_record(key, id, number, inner, pad, &mut record);
-    let mut sent = Buffer::<1088>::new();
-    let _ = sent.extend(record.as_slice());
-    sent
 }

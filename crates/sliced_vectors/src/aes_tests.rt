@@ -33,3 +33,18 @@ fn slices_do_as_the_tables(rt: HostRuntime) {
         assert_eq!(rt; four[n], table.encrypt_number(blocks[n]));
     }
 }
+
+// A block begun without its last byte, here 0xff.
+#[test]
+fn begun_block_of_fips_197(rt: HostRuntime) {
+    let small = Aes::new(&KEY[..16]);
+    assert_eq!(rt;
+        small.encrypt_begun(&small.begin(BLOCK - 0xff), 0xff),
+        UNDER_SMALL_KEY
+    );
+    let large = Aes::new(&KEY);
+    assert_eq!(rt;
+        large.encrypt_begun(&large.begin(BLOCK), 0xff),
+        UNDER_LARGE_KEY
+    );
+}

@@ -27,7 +27,7 @@ pub enum FeedFault {
     Bad(Malformed),
 }
 
-/// A message that arrives in pieces. Its bytes are stored inline, and parsed again with each piece. Never allocates.
+/// A message that arrives in pieces. Its bytes are stored inline, and parsed again with each piece. Never allocates (read, not proved).
 #[derive(Drop)]
 pub struct Feed {
     expect: Expect,

@@ -20,7 +20,7 @@ use spdm_grammar::{ChunkView, Response};
 /// A large response that is fetched in the clear: its request, with its tag, and the LargeResponse that it got; the
 /// lengths that are sent in chunks, and the requester's transfer size; what came of it; the newest request in the
 /// clear, with its reply; and, where the fetch began late, by a repeat of the request, the marks of the sessions that
-/// were touched between the two: then the tag is another than that of the request. Never allocates.
+/// were touched between the two: then the tag is another than that of the request. Never allocates (read, not proved).
 #[derive(Drop)]
 pub struct Held {
     pub(crate) tag: u8,

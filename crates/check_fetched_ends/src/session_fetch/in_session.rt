@@ -16,7 +16,7 @@ pub(crate) const MOST_BYTES: usize = MAX_MESSAGE_SIZE as usize;
 const ZEROS: [u8; MOST_BYTES] = [0; MOST_BYTES];
 
 /// A large response that is fetched in the session of a RspSessionID: what came of it, which lengths it may have, the
-/// operation that its request asks for, and whether a chunk of it is left to be given. Never allocates.
+/// operation that its request asks for, and whether a chunk of it is left to be given. Never allocates (read, not proved).
 #[derive(Drop)]
 pub struct InSession {
     pub(crate) answer: LargeAnswer,

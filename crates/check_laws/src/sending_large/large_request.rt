@@ -2,7 +2,7 @@ use crate::Piece;
 use crate::sending_large::pieces::Pieces;
 
 /// A large request that is sent in chunks, from its first chunk to its last one: its chunks so far, and whether the
-/// next one is owed. Never allocates.
+/// next one is owed. Never allocates (read, not proved).
 #[derive(Drop)]
 pub struct LargeRequest {
     pub(crate) pieces: Pieces,

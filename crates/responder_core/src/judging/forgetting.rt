@@ -1,80 +1,5 @@
-use crate::{
-    ClearPart, ClearPlace, ClearState, Connection, LiveSession, Requests, SessionSlot, Sessions,
-};
+use crate::{Connection, LiveSession, SessionSlot, Sessions};
 use spdm_grammar::names::MAX_SESSIONS;
-
-// The clear part without the MEASUREMENTS that were to go by LargeResponse in answer to what was taken last: they were
-// never seen.
-impl ClearState {
-    ghost use Rattle.std.specs.Prelude.{◌∷◌, List};
-    ghost use Rattle.responder_rules.specs.LargeAnswer.{turn_unseen};
-    ghost use Rattle.responder_machine.specs.Turn.{Turn};
-    ghost use Rattle.responder_core.specs.Pending.{GoesLarge};
-    ghost use Rattle.responder_core.specs.ClearState.{StandsFor};
-
-    fn forget(&mut self)
-        ensures { (t : Turn) (older : List Turn) → GoesLarge t → StandsFor self.old (t ∷ older)
-            → StandsFor self.new (turn_unseen t ∷ older) }
-    {
-        self.large.forget();
-    }
-}
-
-impl Requests {
-    ghost use Rattle.std.specs.Prelude.{◌∷◌, List};
-    ghost use Rattle.responder_rules.specs.LargeAnswer.{turn_unseen};
-    ghost use Rattle.responder_machine.specs.Setup.{RspSetup};
-    ghost use Rattle.responder_machine.specs.Turn.{Turn};
-    ghost use Rattle.responder_core.specs.Coming.{StandsFor};
-    ghost use Rattle.responder_core.specs.Pending.{GoesLarge};
-
-    fn forget(&mut self)
-        ensures { (r : RspSetup) (t : Turn) (older : List Turn) → GoesLarge t
-            → StandsFor self.old r (t ∷ older) → StandsFor self.new r (turn_unseen t ∷ older) }
-    {
-        self.standing.forget();
-    }
-}
-
-impl ClearPart {
-    ghost use Rattle.std.specs.Prelude.{◌∷◌, ℕ};
-    ghost use Rattle.responder_rules.specs.LargeAnswer.{turn_unseen};
-    ghost use Rattle.responder_machine.specs.History.{History};
-    ghost use Rattle.responder_machine.specs.History.Entry.{Clear};
-    ghost use Rattle.responder_machine.specs.Setup.{RspSetup};
-    ghost use Rattle.responder_machine.specs.Turn.{Turn};
-    ghost use Rattle.spdm_machine.specs.Keys.{Draw};
-    ghost use Rattle.responder_core.specs.ClearPart.{StandsFor};
-    ghost use Rattle.responder_core.specs.Pending.{GoesLarge};
-
-    fn forget(&mut self)
-        ensures { (r : RspSetup) (h : History) (tag : ℕ) (t : Turn) (d : Draw) → GoesLarge t
-            → StandsFor self.old r (Clear tag t d ∷ h)
-            → StandsFor self.new r (Clear tag (turn_unseen t) d ∷ h) }
-    {
-        self.requests.forget();
-    }
-}
-
-impl ClearPlace {
-    ghost use Rattle.std.specs.Prelude.{◌∷◌, ℕ};
-    ghost use Rattle.responder_rules.specs.LargeAnswer.{turn_unseen};
-    ghost use Rattle.responder_machine.specs.History.{History};
-    ghost use Rattle.responder_machine.specs.History.Entry.{Clear};
-    ghost use Rattle.responder_machine.specs.Setup.{RspSetup};
-    ghost use Rattle.responder_machine.specs.Turn.{Turn};
-    ghost use Rattle.spdm_machine.specs.Keys.{Draw};
-    ghost use Rattle.responder_core.specs.ClearPart.{StandsFor};
-    ghost use Rattle.responder_core.specs.Pending.{GoesLarge};
-
-    fn forget(&mut self)
-        ensures { (r : RspSetup) (h : History) (tag : ℕ) (t : Turn) (d : Draw) → GoesLarge t
-            → StandsFor self.old r (Clear tag t d ∷ h)
-            → StandsFor self.new r (Clear tag (turn_unseen t) d ∷ h) }
-    {
-        self.inner.forget();
-    }
-}
 
 // A session without the MEASUREMENTS that went by LargeResponse last, though chunks of them may have been given.
 impl LiveSession {
@@ -188,28 +113,15 @@ impl Sessions {
 
 // A request whose large response was never seen; used only by the checker.
 impl Connection {
-    ghost use Rattle.std.specs.Prelude.{◌≡◌, ◌∷◌, ℕ, is_some, true};
-    ghost use Rattle.responder_rules.specs.LargeAnswer.{last_takes, turn_unseen};
+    ghost use Rattle.std.specs.Prelude.{◌≡◌, is_some, true};
+    ghost use Rattle.responder_rules.specs.LargeAnswer.{last_takes};
     ghost use Rattle.responder_machine.specs.History.{History};
-    ghost use Rattle.responder_machine.specs.History.Entry.{Clear};
     ghost use Rattle.responder_machine.specs.LargeMessages.{large_of};
     ghost use Rattle.responder_machine.specs.Session.{session_of, turns_of};
     ghost use Rattle.responder_machine.specs.Setup.{RspSetup};
-    ghost use Rattle.responder_machine.specs.Turn.{Turn};
-    ghost use Rattle.spdm_machine.specs.Keys.{Draw};
     ghost use Rattle.responder_core.specs.Connected.{StandsFor};
-    ghost use Rattle.responder_core.specs.Pending.{GoesLarge, IsUncounted, history_unseen};
+    ghost use Rattle.responder_core.specs.Pending.{IsUncounted, history_unseen};
     ghost use Rattle.spdm_grammar.specs.declared.names.request_code.TheConstants.{GET_MEASUREMENTS};
-
-    /// The chunked MEASUREMENTS in response to the last clear message were never seen: they are stored as empty, are
-    /// not pending, and used no handle.
-    pub fn forget_clear(&mut self)
-        ensures { (r : RspSetup) (h : History) (tag : ℕ) (t : Turn) (d : Draw) → GoesLarge t
-            → StandsFor self.old r (Clear tag t d ∷ h)
-            → StandsFor self.new r (Clear tag (turn_unseen t) d ∷ h) }
-    {
-        self.clear.forget();
-    }
 
     /// The last chunked MEASUREMENTS in the session with this RspSessionID were never seen, though chunks of them may
     /// have been sent: they are stored as empty, are not pending, and used no handle.

@@ -60,7 +60,7 @@ pub fn read_all<S: Source>(alloc: Global, source: &mut S, limit: usize) -> Resul
 }
 
 /// Writes all of `text`. After `WriteFault` (only if the sink's `faults` count rose) a prefix of the text was written.
-/// Never allocates.
+/// Never allocates (read, not proved).
 pub fn write_all<K: Sink>(sink: &mut K, text: &[u8]) -> Result<(), OutFault>
     ensures whole { OnOk result (Takes (K.contents sink.old) text.now (K.contents sink.new)) }
     ensures prefix { OnErr result (TakesPrefix (K.contents sink.old) text.now
